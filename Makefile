@@ -1,0 +1,32 @@
+# make            builds the proved program to ./a2shop
+# make demo       builds it and runs its main job on a sample image
+# make test       runs the gate (every proof from nothing, the must-fail edits, all tests) and the end-to-end tests
+# make install    copies the program to $(PREFIX)/bin
+# make bench      measures the program beside plain programs of the same work; no part of the tests
+
+PREFIX ?= /usr/local
+CRATE = crates/a2_shop
+
+.PHONY: all demo test install bench clean FORCE
+
+all: a2shop
+
+# Proves what has changed, compiles, and runs the program once on a sample.
+a2shop: FORCE
+	cd $(CRATE) && rt run < ../../samples/hello.dsk > /dev/null
+	cp $(CRATE)/out/a2_shop $@
+
+demo: a2shop
+	./a2shop catalog samples/hello.dsk --fs dos --order dos
+
+test:
+	bash tests/run
+
+install: a2shop
+	install -D -m 755 a2shop $(DESTDIR)$(PREFIX)/bin/a2shop
+
+bench: a2shop
+	bash bench/run
+
+clean:
+	rm -rf a2shop crates/*/out bench/out

@@ -1,0 +1,128 @@
+// A device whose next read or write fails to order.
+ghost use Rattle.std.specs.Prelude.{◌≡◌, ◌+◌, min, Some, [], ◌∷◌, IsTrue};
+ghost use Rattle.a2_device.specs.Device.{last_count, counted};
+ghost use Rattle.a2_device.specs.Orders.{with_orders};
+
+use crate::{Device, DeviceError};
+
+/// Passes calls on, but for the next read and the next write where they were ordered to fail.
+#[derive(Drop)]
+pub struct FaultDevice<D: Device> {
+    device: D,
+    read_order: bool,
+    write_order: Option<bool>,
+    // What it refused without asking the device.
+    writes: u64,
+    faults: u64,
+}
+
+impl<D: Device> FaultDevice<D> {
+    /// The device with no failure ordered.
+    pub fn new(device: D) -> Self
+        ensures { ⟦<FaultDevice<D> as Device>⟧.state result ≡ D.state device }
+    {
+        // The counts of a device fit their type.
+        let _writes = device.writes();
+        let _faults = device.faults();
+        FaultDevice {
+            device,
+            read_order: false,
+            write_order: None,
+            writes: 0,
+            faults: 0,
+        }
+    }
+
+    /// The next read is a fault.
+    pub fn fail_read(&mut self)
+        ensures ordered { let state = ⟦<FaultDevice<D> as Device>⟧.state in
+            (state self.old).read_failures ≡ Some 0 → (state self.new).read_failures ≡ Some 1 }
+        ensures rest { let state = ⟦<FaultDevice<D> as Device>⟧.state in
+            state self.new ≡ record (state self.old) { read_failures = (state self.new).read_failures } }
+    {
+        self.read_order = true;
+    }
+
+    /// The next write is a fault; `took` says whether the new unit stands.
+    pub fn fail_write(&mut self, took: bool)
+        ensures ordered { let state = ⟦<FaultDevice<D> as Device>⟧.state in
+            (state self.old).write_failures ≡ Some [] → (state self.new).write_failures ≡ Some (took ∷ []) }
+        ensures rest { let state = ⟦<FaultDevice<D> as Device>⟧.state in
+            state self.new ≡ record (state self.old) { write_failures = (state self.new).write_failures } }
+    {
+        self.write_order = Some(took);
+    }
+
+    /// The device that calls were passed on to.
+    pub fn into_inner(self) -> D
+        ensures store { (D.state result).store ≡ (⟦<FaultDevice<D> as Device>⟧.state self).store }
+        ensures honest { (D.state result).honest ≡ (⟦<FaultDevice<D> as Device>⟧.state self).honest }
+        ensures places { (D.state result).places ≡ (⟦<FaultDevice<D> as Device>⟧.state self).places }
+        ensures unit { (D.state result).unit_size ≡ (⟦<FaultDevice<D> as Device>⟧.state self).unit_size }
+    {
+        let FaultDevice { device, .. } = self;
+        device
+    }
+}
+
+// What a wrapper counts itself, after one refusal of its own.
+fn with_refusal(inner: u64, own: u64) -> u64
+    ensures { min (inner + result) last_count ≡ counted (min (inner + own) last_count) }
+{
+    if inner.saturating_add(own) == u64::MAX {
+        own
+    } else {
+        own + 1
+    }
+}
+
+impl<D: Device> Device for FaultDevice<D> {
+    ghost state = { λ s. with_orders s.read_order s.write_order s.writes s.faults (D.state s.device) };
+
+    ghost whole = { λ s h. record { all = (D.whole s.device h).all; units = (D.whole s.device h).units } };
+
+    fn places(&self) -> u32 {
+        self.device.places()
+    }
+
+    fn unit(&self) -> usize {
+        self.device.unit()
+    }
+
+    fn writes(&self) -> u64 {
+        self.device.writes().saturating_add(self.writes)
+    }
+
+    fn faults(&self) -> u64 {
+        self.device.faults().saturating_add(self.faults)
+    }
+
+    fn read(&mut self, place: u32, unit: &mut [u8]) -> Result<(), DeviceError> {
+        if self.read_order {
+            self.read_order = false;
+            self.faults = with_refusal(self.device.faults(), self.faults);
+            return Err(DeviceError::Fault);
+        }
+        self.device.read(place, unit)
+    }
+
+    fn write(&mut self, place: u32, unit: &[u8]) -> Result<(), DeviceError> {
+        if self.writes() == u64::MAX {
+            self.faults = with_refusal(self.device.faults(), self.faults);
+            return Err(DeviceError::Spent);
+        }
+        match self.write_order {
+            None => self.device.write(place, unit),
+            Some(took) => {
+                self.write_order = None;
+                if took {
+                    self.device.write(place, unit)?;
+                } else {
+                    self.writes += 1;
+                }
+                self.faults = with_refusal(self.device.faults(), self.faults);
+                Err(DeviceError::Fault)
+            }
+        }
+    }
+}

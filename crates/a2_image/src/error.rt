@@ -1,0 +1,15 @@
+// Why an image is not taken, or a sector not read or written.
+use thiserror::Error;
+
+/// Why an image is refused, or a sector of it.
+#[derive(Clone, Copy, Debug, PartialEq, Eq, Error)]
+pub enum ImageError {
+    #[error("the image has the wrong length for its order")]
+    Length,
+    #[error("memory ran out")]
+    Memory,
+    #[error("the disk has no such track or sector")]
+    Number,
+    #[error("the track has no such sector")]
+    NoSector,
+}

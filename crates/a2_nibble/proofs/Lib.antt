@@ -1,0 +1,11 @@
+pub mod TableLemmas
+pub mod FieldLemmas
+pub mod RingLemmas
+pub mod CopyLemmas
+pub mod AddressLemmas
+pub mod SearchLemmas
+pub mod WriteLemmas
+pub mod MakeLemmas
+pub mod OneLemmas
+pub mod AnswerLemmas
+pub mod LaneLemmas

@@ -1,0 +1,9 @@
+pub mod Copy
+pub mod DiskBytes
+pub mod Field
+pub mod Written
+pub mod Address
+pub mod Track
+pub mod Sector
+pub mod Search
+pub mod MadeTrack

@@ -1,0 +1,12 @@
+use Rattle.std.proofs.Common.{map, string_bytes}
+use Rattle.a2_shop.proofs.Answered.{command_refused, memory_told}
+use Rattle.a2_shop.proofs.command.run_command.Goals as goal
+
+pub returns-in-Err-clause-plain : goal.returns-in-Err-clause-plain
+returns-in-Err-clause-plain g c = λ plain.
+    memory_told c.in-Err.fault c.tell_words_fault.result _ _ (c.in-Err.ensures.plain plain) c.tell_words_fault.ensures
+
+pub returns-in-Err-clause-answer : goal.returns-in-Err-clause-answer
+returns-in-Err-clause-answer g c =
+    command_refused (map string_bytes c.args.words.now) c.in-Err.fault (g.I.Read.remaining c.args.image.now) c.tell_words_fault.result
+    (g.T.Write.contents c.args.text.now) (g.T.Write.contents c.tell_words_fault.new.text) c.tell_words_fault.ensures

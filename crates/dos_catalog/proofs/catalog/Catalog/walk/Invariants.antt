@@ -1,0 +1,19 @@
+use Rattle.std.proofs.Common.{◌≡◌, false, length, count_by}
+use Rattle.std.specs.Prelude.{IsTrue, not}
+use Rattle.a2_device.specs.Device.{OnlyReads, unit_at}
+use Rattle.dos_catalog.specs.Walk.{IsTable, IsWalking}
+use Rattle.dos_catalog.proofs.catalog.Catalog.walk.Given as goal
+
+abbrev pub invariant-loop-unit : goal.invariant-loop-unit
+invariant-loop-unit g l =
+    let start = g.D.Device.state l.fn.device in
+    record {
+      device : OnlyReads false start (g.D.Device.state l.device);
+      size : length l.met ≡ 16;
+      table : IsTable l.met l.catalog.sectors.items;
+      walking : IsTrue start.honest → l.fn.vtoc ≡ unit_at start.store 272
+          → IsWalking start.store l.catalog.sectors.items l.catalog.entries.items l.holder l.unit;
+    }
+
+abbrev pub decreases-loop-unit : goal.decreases-loop-unit
+decreases-loop-unit g l = count_by not l.met

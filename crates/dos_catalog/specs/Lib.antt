@@ -1,0 +1,5 @@
+pub mod Entry
+pub mod Catalog
+pub mod Listed
+pub mod Chain
+pub mod Walk

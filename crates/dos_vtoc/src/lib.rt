@@ -1,0 +1,10 @@
+//! The volume table of contents (VTOC) of a DOS 3.3 volume: sector 0 of track 17.
+//!
+//! It has the geometry of the volume, the first catalog sector and a bit for each sector that says whether it is free.
+//! The model of a `Vtoc` is the 256 bytes of its sector (`specs/Vtoc.antt`). Invariant: they have the geometry of
+//! 35 tracks of 16 sectors of 256 bytes.
+#![tactic(auto)]
+
+mod vtoc;
+
+pub use vtoc::{VTOC_PLACE, Vtoc};

@@ -1,0 +1,4 @@
+pub mod Walked
+pub mod Names
+pub mod Lines
+pub mod Shown

@@ -1,0 +1,25 @@
+// What a catalog shows of a volume.
+use crate::StoredName;
+use std::alloc::{Allocator, Global};
+
+/// A file of a listing.
+#[derive(Debug, Drop)]
+pub struct ListEntry<A: Allocator = Global> {
+    pub locked: bool,
+    /// The kind of the file; for DOS without the bit that locks it.
+    pub kind: u8,
+    /// The length in units, as it is stored.
+    pub size: u16,
+    /// For DOS the 30 bytes of the name, as they are stored.
+    pub path: StoredName<A>,
+}
+
+/// What a catalog shows.
+#[derive(Debug, Drop)]
+pub struct Listing<A: Allocator = Global> {
+    /// For DOS the one byte of the volume number.
+    pub volume: StoredName<A>,
+    pub entries: Vec<ListEntry<A>, A>,
+    /// How many units are marked free.
+    pub free: u32,
+}

@@ -1,0 +1,165 @@
+ghost use Rattle.std.specs.Prelude.{◌≡◌, vec_len};
+
+use super::*;
+use a2_device::{Device, FaultDevice, ImageDevice};
+use a2_image::{Image, Order};
+use refusing::Refusing;
+use std::alloc::{Allocator, Global};
+use std::test::Fail;
+use test_volumes::{FIRST_CATALOG, VTOC, dos_volume, hello, put, put_entry};
+
+// The device over an image in DOS order.
+fn device_over(image: Vec<u8>) -> ImageDevice
+    requires { vec_len image ≡ 143360 }
+    ensures unit { (⟦<ImageDevice<Global> as Device>⟧.state result).unit_size ≡ 256 }
+    ensures places { (⟦<ImageDevice<Global> as Device>⟧.state result).places ≡ 560 }
+{
+    match Image::open(image, Order::Dos) {
+        Ok(image) => ImageDevice::dos(image),
+        Err(_) => unreachable!(),
+    }
+}
+
+// The text of the listing of a volume.
+fn listing_of(alloc: Global, image: Vec<u8>) -> Result<String, CmdError>
+    requires { vec_len image ≡ 143360 }
+{
+    let listing = catalog(alloc, &mut device_over(image))?;
+    let text = dos_listing_text(alloc, &listing)?;
+    Ok(text)
+}
+
+#[test]
+fn lists_one_file(rt: HostRuntime) -> Result<(), Fail> {
+    let text = listing_of(rt.alloc(), hello(rt.alloc())?)?;
+    assert_eq!(rt; text.as_str(), "DISK VOLUME 254\n*B 002 HELLO\nFREE 494\n");
+    Ok(())
+}
+
+#[test]
+fn lists_each_kind_and_passes_over_free_entries(rt: HostRuntime) -> Result<(), Fail> {
+    let mut image = dos_volume(rt.alloc(), [0xff, 0xff])?;
+    put_entry(&mut image, FIRST_CATALOG, 0, [3, 15], 0x00, b"TEXT", 1);
+    put_entry(&mut image, FIRST_CATALOG, 1, [3, 15], 0x81, b"INTEGER", 2);
+    put_entry(
+        &mut image,
+        FIRST_CATALOG,
+        2,
+        [0xff, 15],
+        0x00,
+        b"DELETED",
+        3,
+    );
+    put_entry(
+        &mut image,
+        FIRST_CATALOG,
+        3,
+        [0, 15],
+        0x00,
+        b"NEVER USED",
+        3,
+    );
+    put_entry(
+        &mut image,
+        FIRST_CATALOG,
+        4,
+        [3, 15],
+        0x02,
+        b"APPLESOFT",
+        99,
+    );
+    put_entry(&mut image, FIRST_CATALOG, 5, [3, 15], 0x04, b"BINARY", 100);
+    put_entry(&mut image, FIRST_CATALOG, 6, [3, 15], 0x08, b"S", 0);
+    put_entry(&mut image, 286, 0, [3, 15], 0x10, b"RELOCATABLE", 7);
+    put_entry(&mut image, 286, 1, [3, 15], 0x20, b"SECOND A", 7);
+    put_entry(&mut image, 286, 2, [3, 15], 0x40, b"SECOND B", 7);
+    put_entry(&mut image, 286, 3, [3, 15], 0x84, b" LED BY A SPACE", 7);
+    put_entry(
+        &mut image,
+        286,
+        5,
+        [3, 15],
+        0xc0,
+        b"BELL\x07 AND DELETE\x7f",
+        7,
+    );
+    put_entry(&mut image, 286, 6, [3, 15], 0x03, b"", 7);
+    let text = listing_of(rt.alloc(), image)?;
+    let lines =
+        "DISK VOLUME 254\n T 001 TEXT\n*I 002 INTEGER\n A 099 APPLESOFT\n B 100 BINARY\n S 000 S\n R 007 RELOCATABLE\n a 007 SECOND A\n b 007 SECOND B\n*B 007  LED BY A SPACE\n*b 007 BELL? AND DELETE?\n ? 007 \nFREE 496\n";
+    assert_eq!(rt; text.as_str(), lines);
+    Ok(())
+}
+
+#[test]
+fn a_long_file_and_an_empty_catalog(rt: HostRuntime) -> Result<(), Fail> {
+    let mut image = hello(rt.alloc())?;
+    put(&mut image, FIRST_CATALOG, 0x2c, &[0xd2, 0x04]);
+    put(&mut image, VTOC, 0x06, &[1]);
+    let text = listing_of(rt.alloc(), image)?;
+    assert_eq!(rt; text.as_str(), "DISK VOLUME 1\n*B 1234 HELLO\nFREE 494\n");
+    let mut image = hello(rt.alloc())?;
+    put(&mut image, VTOC, 0x01, &[0]);
+    let text = listing_of(rt.alloc(), image)?;
+    assert_eq!(rt; text.as_str(), "DISK VOLUME 254\nFREE 494\n");
+    Ok(())
+}
+
+#[test]
+fn a_broken_header_or_chain_is_refused(rt: HostRuntime) -> Result<(), Fail> {
+    // Another number of tracks, a catalog on another track, and a sector that links to itself.
+    for (place, offset, byte) in [(272, 0x34, 0x28), (272, 0x01, 0x12), (287, 0x02, 0x0f)] {
+        let mut image = hello(rt.alloc())?;
+        put(&mut image, place, offset, &[byte]);
+        assert_eq!(rt; listing_of(rt.alloc(), image).err(), Some(CmdError::Check));
+    }
+    Ok(())
+}
+
+// What a catalog answers where the read after so many others fails.
+fn with_failing_read(alloc: Global, image: Vec<u8>, reads: u32) -> Result<bool, Fail>
+    requires { vec_len image ≡ 143360 }
+{
+    let mut device = FaultDevice::new(device_over(image));
+    let mut unit = [0; 256];
+    for _ in 0..reads {
+        device.read(272, &mut unit)?;
+    }
+    device.fail_read();
+    let failed = matches!(catalog(alloc, &mut device), Err(CmdError::Device));
+    Ok(failed && device.faults() == 1)
+}
+
+#[test]
+fn a_failing_read_is_told(rt: HostRuntime) -> Result<(), Fail> {
+    let alloc = rt.alloc();
+    assert!(rt; with_failing_read(alloc, hello(alloc)?, 0)?);
+    assert!(rt; with_failing_read(alloc, hello(alloc)?, 3)?);
+    Ok(())
+}
+
+// Whether a catalog and its text are had of this allocator; else the refusal.
+fn text_of_hello<A: Allocator + Copy>(alloc: A, image: Vec<u8>) -> Result<usize, CmdError>
+    requires { vec_len image ≡ 143360 }
+{
+    let listing = catalog(alloc, &mut device_over(image))?;
+    let text = dos_listing_text(alloc, &listing)?;
+    Ok(text.len())
+}
+
+#[test]
+fn each_refused_block_is_memory(rt: HostRuntime) -> Result<(), Fail> {
+    let whole = Refusing::none(rt.alloc());
+    assert_eq!(rt; text_of_hello(&whole, hello(rt.alloc())?)?, 38);
+    let blocks = whole.asked();
+    assert!(rt; blocks > 4);
+    for before in 0..blocks {
+        let heap = Refusing::one(rt.alloc(), before);
+        assert_eq!(rt;
+            text_of_hello(&heap, hello(rt.alloc())?).err(),
+            Some(CmdError::Memory)
+        );
+        assert_eq!(rt; heap.asked(), before + 1);
+    }
+    Ok(())
+}

@@ -1,0 +1,6 @@
+mod Counts
+mod Steps
+mod Runs
+mod Holes
+mod Turns
+mod Done

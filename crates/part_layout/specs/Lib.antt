@@ -1,0 +1,5 @@
+pub mod Layouts
+pub mod Plans
+pub mod Rings
+pub mod Table
+pub mod Inside

@@ -1,0 +1,98 @@
+use super::*;
+use refusing::Refusing;
+use std::test::Fail;
+
+/// The layout of these places, all of its blocks from one allocator.
+fn layout_in<A: Allocator + Copy>(
+    alloc: A,
+    at: &[u32],
+    places: u32,
+) -> Result<Layout<A>, LayoutError> {
+    Layout::new(alloc, Vec::from_slice(alloc, at)?, places)
+}
+
+#[test]
+fn lists_that_are_no_layout(rt: HostRuntime) -> Result<(), Fail> {
+    let repeat = [
+        ([1, 1].as_slice(), 3),
+        (&[7, 5, 7], 3),
+        (&[0, 0], 1_000_001),
+    ];
+    for (at, places) in repeat {
+        assert_eq!(rt;
+            layout_in(rt.alloc(), at, places).err(),
+            Some(LayoutError::Repeat)
+        );
+    }
+    let range = [
+        ([3].as_slice(), 3),
+        (&[], 1_000_001),
+        (&[4_294_967_295, 0], 2),
+    ];
+    for (at, places) in range {
+        assert_eq!(rt;
+            layout_in(rt.alloc(), at, places).err(),
+            Some(LayoutError::Range)
+        );
+    }
+    assert!(rt; layout_in(rt.alloc(), &[999_999], 1_000_000).is_ok());
+    Ok(())
+}
+
+#[test]
+fn moves(rt: HostRuntime) -> Result<(), Fail> {
+    let mut layout = layout_in(rt.alloc(), &[1, 0], 3)?;
+    assert_eq!(rt;
+        layout.apply(Move { part: 0, to: 1 }),
+        Err(MoveError::Taken)
+    );
+    assert_eq!(rt;
+        layout.apply(Move { part: 2, to: 2 }),
+        Err(MoveError::NoPart)
+    );
+    assert_eq!(rt;
+        layout.apply(Move { part: 0, to: 3 }),
+        Err(MoveError::Range)
+    );
+    let before = layout.copy(rt.alloc())?;
+    assert_eq!(rt; layout.apply(Move { part: 0, to: 2 }), Ok(()));
+    assert_eq!(rt; layout.at(), [2, 0].as_slice());
+    assert_eq!(rt; before.at(), [1, 0].as_slice());
+    assert_eq!(rt; layout.places(), 3);
+    assert_eq!(rt; layout.part_at(2), Some(0));
+    assert_eq!(rt; layout.part_at(1), None);
+    assert!(rt; layout.is_taken(0));
+    Ok(())
+}
+
+/// Where a block is refused, the answer is want of memory, and no block is asked after it.
+#[test]
+fn each_block_refused(rt: HostRuntime) -> Result<(), Fail> {
+    let cases = [([1, 0, 4].as_slice(), 5), (&[1, 9, 1], 5), (&[9, 1], 5)];
+    for (at, places) in cases {
+        let whole = Refusing::none(rt.alloc());
+        let answer = layout_in(&whole, at, places).err();
+        assert!(rt; answer != Some(LayoutError::Memory));
+        assert!(rt; whole.asked() > 1);
+        for before in 0..whole.asked() {
+            let heap = Refusing::one(rt.alloc(), before);
+            assert_eq!(rt;
+                layout_in(&heap, at, places).err(),
+                Some(LayoutError::Memory)
+            );
+            assert_eq!(rt; heap.asked(), before + 1);
+        }
+    }
+    Ok(())
+}
+
+#[test]
+fn each_block_of_a_copy_refused(rt: HostRuntime) -> Result<(), Fail> {
+    let layout = layout_in(rt.alloc(), &[1, 0, 4], 5)?;
+    for before in 0..2 {
+        let heap = Refusing::one(rt.alloc(), before);
+        assert!(rt; layout.copy(&heap).is_err());
+        assert_eq!(rt; heap.asked(), before + 1);
+    }
+    Ok(())
+}

@@ -1,0 +1,14 @@
+pub mod TableLemmas
+pub mod PlainWalk
+pub mod PlainUses
+pub mod PlainLine
+pub mod PlainGiven
+pub mod PlainNames
+pub mod PlainForms
+pub mod PlainTaken
+pub mod PlainValues
+pub mod PlainUsed
+pub mod PlainJobs
+pub mod CatalogLine
+pub mod PlainTable
+pub mod AskedLemmas

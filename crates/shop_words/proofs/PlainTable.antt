@@ -1,0 +1,46 @@
+-- Each plain list of each form of the table is taken, and has the job that its form says.
+use Rattle.std.proofs.Common.{◌≡◌, ◌∙◌, ap, true, List, [], is_some, All, Contains, arith}
+use Rattle.std.proofs.lemmas.List.Elements.{All-contains, All-cons}
+use Rattle.clap.specs.Simple.{is_simple, subcommand_of}
+use Rattle.clap.specs.Takes.{takes}
+use Rattle.shop_words.specs.Table.{Text, FormView, catalog_form, forms}
+use Rattle.shop_words.specs.Grammar.{shop}
+use Rattle.shop_words.specs.Plain.{Use, IsPlainLine, line_words}
+use Rattle.shop_words.specs.Job.{found_job, line_job}
+use Rattle.shop_words.proofs.PlainForms.{IsKnown, shape_named}
+use Rattle.shop_words.proofs.PlainTaken.{is_simple-whole, subcommand_of-line, takes-line}
+use Rattle.shop_words.proofs.PlainJobs.{HasPlainDefaults, job_by-rows}
+use Rattle.shop_words.proofs.CatalogLine.{catalog_defaults, catalog_known, is_some-line_job-catalog}
+
+record IsServed (f : FormView) : Type 0 where
+  known : IsKnown f (shape_named f.name)
+  defaults : HasPlainDefaults f
+  job : (positionals : List Text) (uses : List Use) → IsPlainLine f positionals uses → is_some (line_job f positionals uses) ≡ true
+
+serves_catalog : IsServed catalog_form
+serves_catalog = record { known = catalog_known; defaults = catalog_defaults; job = is_some-line_job-catalog }
+
+all_served : All IsServed forms
+all_served = All-cons IsServed catalog_form [] serves_catalog (λ k d lt. absurd (omega arith))
+
+served : (f : FormView) → Contains forms f → IsServed f
+served f at = All-contains IsServed forms f all_served at
+
+pub takes-plain : (f : FormView) (positionals : List Text) (uses : List Use) → Contains forms f → IsPlainLine f positionals uses
+    → takes shop (line_words f positionals uses) ≡ true
+unfolding shop
+takes-plain f positionals uses at plain = takes-line f (shape_named f.name) positionals uses (served f at).known plain
+
+pub found_job-plain : (f : FormView) (positionals : List Text) (uses : List Use) → Contains forms f → IsPlainLine f positionals uses
+    → found_job (subcommand_of shop (line_words f positionals uses)) ≡ line_job f positionals uses
+unfolding shop
+found_job-plain f positionals uses at plain =
+    ap found_job (subcommand_of-line f positionals uses (served f at).known plain) ∙ job_by-rows f positionals uses (served f at).defaults
+
+pub is_some-line_job : (f : FormView) (positionals : List Text) (uses : List Use) → Contains forms f → IsPlainLine f positionals uses
+    → is_some (line_job f positionals uses) ≡ true
+is_some-line_job f positionals uses at plain = (served f at).job positionals uses plain
+
+pub is_simple-shop : is_simple shop ≡ true
+unfolding shop
+is_simple-shop = is_simple-whole

@@ -1,0 +1,19 @@
+use Rattle.std.proofs.Common.{◌∙◌, sym, ap, map, option_map, string_bytes}
+use Rattle.clap.specs.Simple.{App, is_simple, subcommand_of}
+use Rattle.shop_words.specs.Job.{found_job, job_view}
+use Rattle.shop_words.proofs.AskedLemmas.{none_is_not_some}
+use Rattle.shop_words.proofs.PlainTable.{is_simple-shop}
+use Rattle.shop_words.proofs.words.job_of.Goals as goal
+
+pub returns-in-Some-clause-job : goal.returns-in-Some-clause-job
+returns-in-Some-clause-job c =
+    let shop_is = c.in_ok-program.ensures in
+    let found = (c.in-Ok.ensures.matches (ap is_simple shop_is ∙ is_simple-shop)).1 ∙ ap (λ (a : App). subcommand_of a (map string_bytes c.args.words.now)) shop_is in
+    ap found_job (sym found) ∙ sym c.in_ok-job.ensures ∙ ap (option_map job_view) c.in-Some.is
+
+pub returns-clause-taken : goal.returns-clause-taken
+returns-clause-taken c taken has =
+    let shop_is = c.in_ok-program.ensures in
+    let found = (c.in-Ok.ensures.matches (ap is_simple shop_is ∙ is_simple-shop)).1 ∙ ap (λ (a : App). subcommand_of a (map string_bytes c.args.words.now)) shop_is in
+    let none = ap found_job (sym found) ∙ sym c.in_ok-job.ensures ∙ ap (option_map job_view) c.in-None.is in
+    absurd (none_is_not_some _ none has)

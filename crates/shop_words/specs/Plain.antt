@@ -1,0 +1,84 @@
+-- The plain lists of words: no word at all, or printed from a command's form, its positional words
+-- and its uses of flags and options.
+use Rattle.std.specs.Prelude.{◌≡◌, ◌⊎◌, ◌==◌, All, Any, Contains, ℕ, Bool, true, false, not, List, [], ◌∷◌, ◌++◌, length, filter, map}
+use Rattle.std.specs.List.{AllPass, IsDistinct}
+use Rattle.std.specs.Str.{bytes_eq}
+use Rattle.shop_words.specs.Table.{Text, ValuesView, any, one_of, KindView, positional, needed, optional, flag, ParameterView, FormView, forms, parameter}
+
+-- `-`
+abbrev pub hyphen : ℕ
+hyphen = 45
+
+-- the word is not empty and does not begin with a hyphen
+abbrev pub is_plain_word : Text → Bool
+is_plain_word [] = false
+is_plain_word (x ∷ xs) = not (x == hyphen)
+
+abbrev pub is_positional : KindView → Bool
+is_positional positional = true
+is_positional _ = false
+
+abbrev pub is_needed : KindView → Bool
+is_needed (needed values) = true
+is_needed _ = false
+
+abbrev pub positional_names : FormView → List Text
+positional_names f = map (λ p. p.name) (filter (λ p. is_positional p.kind) f.parameters)
+
+-- a flag `--name`, or an option `--name VALUE`
+pub data Use : Type 0 where
+  alone : Text → Use
+  valued : Text → Text → Use
+
+abbrev pub use_name : Use → Text
+use_name (alone name) = name
+use_name (valued name value) = name
+
+abbrev pub dashed : Text → Text
+dashed name = hyphen ∷ hyphen ∷ name
+
+abbrev pub use_words : Use → List Text
+use_words (alone name) = dashed name ∷ []
+use_words (valued name value) = dashed name ∷ value ∷ []
+
+abbrev pub all_use_words : List Use → List Text
+all_use_words [] = []
+all_use_words (u ∷ us) = use_words u ++ all_use_words us
+
+abbrev pub IsOfValues : ValuesView → Text → Type 0
+IsOfValues any value = Unit {0}
+IsOfValues (one_of words) value = Contains words value
+
+-- it is an option, which takes the value
+abbrev pub TakesValue : KindView → Text → Type 0
+TakesValue positional value = ⊥
+TakesValue (needed values) value = IsOfValues values value
+TakesValue (optional values) value = IsOfValues values value
+TakesValue flag value = ⊥
+
+-- the use is of one of the parameters
+abbrev pub IsUseOf : List ParameterView → Use → Type 0
+IsUseOf parameters (alone name) = Contains parameters (parameter name flag)
+IsUseOf parameters (valued name value) =
+    Any (λ p. (p.name ≡ name) × TakesValue p.kind value) parameters × (is_plain_word value ≡ true)
+
+-- the positional words and uses are those of a plain list of the form
+pub record IsPlainLine (f : FormView) (positionals : List Text) (uses : List Use) : Type 0 where
+  pub as_many : length positionals ≡ length (positional_names f)
+  pub plain : AllPass is_plain_word positionals
+  pub known : All (IsUseOf f.parameters) uses
+  pub once : IsDistinct bytes_eq (map use_name uses)
+  pub complete : All (λ p. is_needed p.kind ≡ true → Contains (map use_name uses) p.name) f.parameters
+
+-- the list that is printed from them
+abbrev pub line_words : FormView → List Text → List Use → List Text
+line_words f positionals uses = f.name ∷ (positionals ++ all_use_words uses)
+
+-- the list is a plain one, of a form in the table
+pub record IsLine (list : List Text) (f : FormView) (positionals : List Text) (uses : List Use) : Type 0 where
+  pub form : Contains forms f
+  pub plain : IsPlainLine f positionals uses
+  pub printed : list ≡ line_words f positionals uses
+
+abbrev pub IsPlain : List Text → Type 0
+IsPlain list = (list ≡ []) ⊎ ((f : FormView) × (positionals : List Text) × (uses : List Use) × IsLine list f positionals uses)

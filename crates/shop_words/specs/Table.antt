@@ -1,0 +1,73 @@
+-- The table of the commands as contracts see it: the form of each command, with texts for its words.
+use Rattle.std.specs.Prelude.{ℕ, List, [], ◌∷◌, map, codes}
+use Rattle.shop_words.specs.declared.table.Values.{Values}
+use Rattle.shop_words.specs.declared.table.Values.TheVariants as values
+use Rattle.shop_words.specs.declared.table.Kind.{Kind}
+use Rattle.shop_words.specs.declared.table.Kind.TheVariants as kinds
+use Rattle.shop_words.specs.declared.table.Parameter.{Parameter}
+use Rattle.shop_words.specs.declared.table.Form.{Form}
+
+-- the bytes of a word
+abbrev pub Text : Type 0
+Text = List ℕ
+
+-- what words an option takes
+pub data ValuesView : Type 0 where
+  any : ValuesView
+  one_of : List Text → ValuesView
+
+pub data KindView : Type 0 where
+  positional : KindView
+  needed : ValuesView → KindView
+  optional : ValuesView → KindView
+  flag : KindView
+
+pub record ParameterView : Type 0 where
+  pub name : Text
+  pub kind : KindView
+
+pub record FormView : Type 0 where
+  pub name : Text
+  pub parameters : List ParameterView
+
+abbrev pub values_view : Values → ValuesView
+values_view values.Any = any
+values_view (values.OneOf words) = one_of (map (λ w. w.now) words.now)
+
+abbrev pub kind_view : Kind → KindView
+kind_view kinds.Positional = positional
+kind_view (kinds.Needed vs) = needed (values_view vs)
+kind_view (kinds.Optional vs) = optional (values_view vs)
+kind_view kinds.Flag = flag
+
+abbrev pub parameter_view : Parameter → ParameterView
+parameter_view p = record { name = p.name.now; kind = kind_view p.kind }
+
+abbrev pub form_view : Form → FormView
+form_view f = record { name = f.name.now; parameters = map parameter_view f.parameters.now }
+
+abbrev pub parameter : Text → KindView → ParameterView
+parameter name kind = record { name = name; kind = kind }
+
+-- `image`, `--fs dos`, `--order dos` and `--data-disk`
+abbrev pub image : ParameterView
+image = parameter (codes "image") positional
+
+abbrev pub file_system : ParameterView
+file_system = parameter (codes "fs") (needed (one_of (codes "dos" ∷ [])))
+
+abbrev pub order : ParameterView
+order = parameter (codes "order") (needed (one_of (codes "dos" ∷ [])))
+
+abbrev pub data_disk : ParameterView
+data_disk = parameter (codes "data-disk") flag
+
+abbrev pub catalog_form : FormView
+catalog_form = record {
+  name = codes "catalog";
+  parameters = image ∷ file_system ∷ order ∷ data_disk ∷ [];
+}
+
+-- the forms of all commands
+abbrev pub forms : List FormView
+forms = catalog_form ∷ []

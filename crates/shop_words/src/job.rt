@@ -1,0 +1,35 @@
+//! What the words ask for.
+
+/// The file system of a volume, `--fs`.
+#[derive(Clone, Copy, Debug, PartialEq, Eq)]
+pub enum FileSystem {
+    /// DOS 3.3.
+    Dos,
+}
+
+/// The order in which an image has its sectors, `--order`.
+#[derive(Clone, Copy, Debug, PartialEq, Eq)]
+pub enum ImageOrder {
+    /// Track by track, and in a track by logical sector.
+    Dos,
+}
+
+/// What an image is read as.
+#[derive(Clone, Copy, Debug, PartialEq, Eq)]
+pub struct VolumeOptions {
+    pub file_system: FileSystem,
+    pub order: ImageOrder,
+    /// Whether files may stand on tracks 1 and 2, where other disks have DOS.
+    pub data_disk: bool,
+}
+
+/// A command with its words.
+#[derive(Debug, PartialEq, Eq, Drop)]
+pub enum Job {
+    /// Lists the files of a volume.
+    Catalog {
+        /// The path of the image's file; `-` is standard input.
+        image: String,
+        volume: VolumeOptions,
+    },
+}

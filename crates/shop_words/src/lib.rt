@@ -1,0 +1,27 @@
+//! The words of the command line: `parse_words` reads them by `clap` and answers the job that they
+//! ask for.
+//!
+//! The model. A command has a *form*: its name, and its parameters in order (`Form`). The forms
+//! stand in one table, from which `clap`'s commands are built, so a new command is a new row, a new
+//! variant of `Job` and its arm in `job_in`. A *plain list* is no word at all, or printed from a
+//! form: the command's name, its positional words, then its flags and options in any order, each
+//! option as `--name` and its value apart. With no word the job is that of
+//! `catalog --fs dos --order dos -`.
+//!
+//! What always holds: a job that is answered is the function `asked_job` of the words, whatever
+//! they are, and a plain list is never refused.
+#![tactic(auto)]
+
+mod fault;
+mod grammar;
+mod job;
+mod reading;
+mod refusal;
+mod table;
+#[cfg(test)]
+mod tests;
+mod words;
+
+pub use fault::WordsFault;
+pub use job::{FileSystem, ImageOrder, Job, VolumeOptions};
+pub use words::parse_words;

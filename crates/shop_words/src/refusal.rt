@@ -1,0 +1,110 @@
+//! The texts of refused words.
+ghost use Rattle.std.specs.Prelude.{◌≡◌};
+ghost use Rattle.clap.specs.Values.{kind_of};
+
+use crate::fault::WordsFault;
+use crate::grammar::{full_command, program};
+use crate::reading::said;
+use crate::table::{Form, Kind, Parameter, Values, table};
+use clap::error::ErrorKind;
+use clap::{ArgMatches, Error};
+use std::alloc::{AllocError, Global};
+
+/// The form of the command with this name.
+fn form_named(name: &str) -> Option<&'static Form> {
+    table().iter().find(|form| form.name == name)
+}
+
+/// The usage of the command that the words name, or of the program.
+fn usage_of(alloc: Global, words: &[String]) -> Result<String, AllocError> {
+    match words.first().and_then(|word| form_named(word.as_str())) {
+        Some(form) => full_command(alloc, form)?.render_usage(),
+        None => program(alloc)?.render_usage(),
+    }
+}
+
+/// What clap says of the words, with a usage where it shows none.
+fn clap_text(alloc: Global, words: &[String], error: &Error) -> Result<String, AllocError> {
+    let text = error.to_string(alloc)?;
+    if text.as_str().contains("Usage:") {
+        return Ok(text);
+    }
+    let usage = usage_of(alloc, words)?;
+    format!(in alloc; "{text}\n{usage}\n")
+}
+
+/// The refusal of words that clap refuses.
+pub fn refusal(alloc: Global, words: &[String], error: &Error) -> WordsFault
+    ensures { kind_of error.now ≡ ErrorKind.OutOfMemory → result ≡ WordsFault.Memory }
+{
+    if error.kind() == ErrorKind::OutOfMemory {
+        return WordsFault::Memory;
+    }
+    match clap_text(alloc, words, error) {
+        Ok(text) => WordsFault::Refused(text),
+        Err(AllocError) => WordsFault::Memory,
+    }
+}
+
+/// An option whose value is none of its words.
+#[derive(Clone, Copy)]
+struct Misfit<'a> {
+    form: &'static Form,
+    name: &'static str,
+    words: &'static [&'static str],
+    value: &'a str,
+}
+
+/// The parameter, where its value is none of its words.
+fn misfit_of<'a>(
+    form: &'static Form,
+    parameter: &Parameter,
+    matches: &ArgMatches<'a>,
+) -> Option<Misfit<'a>> {
+    let (Kind::Needed(Values::OneOf(words)) | Kind::Optional(Values::OneOf(words))) = parameter.kind
+    else {
+        return None;
+    };
+    let value = said(matches, parameter.name)?;
+    if words.iter().any(|word| *word == value) {
+        return None;
+    }
+    Some(Misfit {
+        form,
+        name: parameter.name,
+        words,
+        value,
+    })
+}
+
+/// The first option of the command whose value is none of its words.
+fn misfit_in<'a>(matches: &ArgMatches<'a>) -> Option<Misfit<'a>> {
+    let (command, inner) = matches.subcommand()?;
+    let form = form_named(command)?;
+    form.parameters
+        .iter()
+        .find_map(|parameter| misfit_of(form, parameter, inner))
+}
+
+impl Misfit<'_> {
+    /// What clap says of such a value, with the command's usage.
+    fn text(&self, alloc: Global) -> Result<String, AllocError> {
+        let name = self.name;
+        let value = self.value;
+        let words = self.words.join(alloc, ", ")?;
+        let message = format!(in alloc;
+            "invalid value '{value}' for '--{name} <{name}>'\n  [possible values: {words}]"
+        )?;
+        full_command(alloc, self.form)?
+            .error(ErrorKind::InvalidValue, message.as_str())?
+            .to_string(alloc)
+    }
+}
+
+/// What is wrong with words that clap takes, but of which an option does not take its value.
+pub fn misfit_text(alloc: Global, matches: &ArgMatches<'_>) -> Result<String, AllocError> {
+    match misfit_in(matches) {
+        Some(misfit) => misfit.text(alloc),
+        None => "error: the words are those of no command\n".to_string(alloc),
+    }
+}

@@ -1,0 +1,78 @@
+//! The table of the commands: the form of each is a row.
+ghost use Rattle.std.specs.Prelude.{◌≡◌, map};
+ghost use Rattle.shop_words.specs.Table.{form_view, forms};
+
+/// What words an option takes.
+#[derive(Clone, Copy)]
+pub enum Values {
+    /// Any word.
+    Any,
+    /// One of these words.
+    OneOf(&'static [&'static str]),
+}
+
+/// How a parameter stands among the words of a command.
+#[derive(Clone, Copy)]
+pub enum Kind {
+    /// A word that must be there, known by its place.
+    Positional,
+    /// `--name VALUE`, which must be there.
+    Needed(Values),
+    /// `--name VALUE`, which may be left out.
+    Optional(Values),
+    /// `--name`, which may be left out.
+    Flag,
+}
+
+/// A parameter of a command.
+#[derive(Clone, Copy)]
+pub struct Parameter {
+    pub name: &'static str,
+    pub kind: Kind,
+    pub help: &'static str,
+}
+
+/// A command's name and its parameters; the positional ones are in the order of their words.
+#[derive(Clone, Copy)]
+pub struct Form {
+    pub name: &'static str,
+    pub parameters: &'static [Parameter],
+    pub help: &'static str,
+}
+
+const IMAGE: Parameter = Parameter {
+    name: "image",
+    kind: Kind::Positional,
+    help: "File of the disk image; '-' is standard input",
+};
+
+const FILE_SYSTEM: Parameter = Parameter {
+    name: "fs",
+    kind: Kind::Needed(Values::OneOf(&["dos"])),
+    help: "File system of the volume: dos",
+};
+
+const ORDER: Parameter = Parameter {
+    name: "order",
+    kind: Kind::Needed(Values::OneOf(&["dos"])),
+    help: "Order of the sectors in the image: dos",
+};
+
+const DATA_DISK: Parameter = Parameter {
+    name: "data-disk",
+    kind: Kind::Flag,
+    help: "Tracks 1 and 2 hold files, as on a disk without DOS",
+};
+
+const FORMS: &[Form] = &[Form {
+    name: "catalog",
+    parameters: &[IMAGE, FILE_SYSTEM, ORDER, DATA_DISK],
+    help: "List the files of a volume",
+}];
+
+/// The forms of all commands.
+pub fn table() -> &'static [Form]
+    ensures { map form_view result.now ≡ forms }
+{
+    FORMS
+}

@@ -1,0 +1,74 @@
+//! What the words of a command line ask for.
+ghost use Rattle.std.specs.Prelude.{◌≡◌, [], IfErr, IfOk, IsSome, List, map, Some, string_bytes, true};
+ghost use Rattle.clap.specs.Simple.{subcommand_of};
+ghost use Rattle.clap.specs.Takes.{takes};
+ghost use Rattle.shop_words.specs.Table.{FormView, Text};
+ghost use Rattle.shop_words.specs.Grammar.{shop};
+ghost use Rattle.shop_words.specs.Job.{asked_job, found_job, IsTaken, job_view, line_job};
+ghost use Rattle.shop_words.specs.Plain.{IsLine, IsPlain, Use};
+
+use crate::fault::WordsFault;
+use crate::grammar::program;
+use crate::job::{FileSystem, ImageOrder, Job, VolumeOptions};
+use crate::reading::job_in;
+use crate::refusal::{misfit_text, refusal};
+use std::alloc::{AllocError, Global};
+
+/// The job of `catalog --fs dos --order dos -`.
+fn standard_job(alloc: Global) -> Result<Job, AllocError>
+    ensures { IfOk result (λ job. asked_job [] ≡ Some (job_view job)) }
+{
+    Ok(Job::Catalog {
+        image: "-".to_string(alloc)?,
+        volume: VolumeOptions {
+            file_system: FileSystem::Dos,
+            order: ImageOrder::Dos,
+            data_disk: false,
+        },
+    })
+}
+
+/// The job of words that are there.
+fn job_of(alloc: Global, words: &[String]) -> Result<Job, WordsFault>
+    ensures job { IfOk result (λ job.
+        found_job (subcommand_of shop (map string_bytes words.now)) ≡ Some (job_view job)) }
+    ensures taken { takes shop (map string_bytes words.now) ≡ true
+        → IsSome (found_job (subcommand_of shop (map string_bytes words.now)))
+        → IfErr result (λ e. e ≡ WordsFault.Memory) }
+{
+    let matches = match program(alloc)?.try_get_matches_from(words) {
+        Ok(matches) => matches,
+        Err(error) => return Err(refusal(alloc, words, &error)),
+    };
+    match job_in(alloc, &matches)? {
+        Some(job) => Ok(job),
+        None => Err(WordsFault::Refused(misfit_text(alloc, &matches)?)),
+    }
+}
+
+/// The job that the words after the program's name ask for; with no word it is that of
+/// `catalog --fs dos --order dos -`.
+///
+/// `Refused` has the text for the user: what is wrong and the usage, or the help that was asked
+/// for. A plain list is never refused. Beyond the plain lists, words are taken as `clap` takes
+/// them: `--name=value`, and options before positional words.
+pub fn parse_words(alloc: Global, words: &[String]) -> Result<Job, WordsFault>
+    ensures job { IfOk result (λ job. asked_job (map string_bytes words.now) ≡ Some (job_view job)) }
+
+    // words that clap takes and that have a job are refused for want of memory alone
+    ensures taken { IsTaken (map string_bytes words.now) → IfErr result (λ e. e ≡ WordsFault.Memory) }
+
+    // so is a plain list
+    ensures plain { IsPlain (map string_bytes words.now) → IfErr result (λ e. e ≡ WordsFault.Memory) }
+
+    // and its job is what its form says of its words
+    ensures line { (f : FormView) → (positionals : List Text) → (uses : List Use)
+        → IsLine (map string_bytes words.now) f positionals uses
+        → IfOk result (λ job. line_job f positionals uses ≡ Some (job_view job)) }
+{
+    if words.is_empty() {
+        Ok(standard_job(alloc)?)
+    } else {
+        job_of(alloc, words)
+    }
+}
