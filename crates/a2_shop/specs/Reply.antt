@@ -19,6 +19,10 @@ use Rattle.a2_shop.specs.declared.reply.Failure.TheVariants as failures
 use Rattle.a2_shop.specs.declared.reply.Reply.{Reply}
 use Rattle.a2_shop.specs.declared.reply.Reply.TheVariants.{Done, Refused, Failed}
 
+-- the path of the image that a job names
+abbrev pub image_of : JobView → Text
+image_of (catalog path volume) = path
+
 abbrev pub refusal_line : Refusal → Text
 refusal_line refusals.Length = codes "REFUSED Length\n"
 refusal_line refusals.Check = codes "REFUSED Check\n"

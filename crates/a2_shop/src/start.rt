@@ -1,4 +1,8 @@
 // The program's files and streams.
+ghost use Rattle.std.specs.Prelude.{◌≡◌};
+ghost use Rattle.shop_words.specs.Job.{job_view};
+ghost use Rattle.a2_shop.specs.Reply.{image_of};
+
 use crate::command::tell_words_fault;
 use crate::job::run_job;
 use crate::reply::{Failure, Reply, tell_text};
@@ -16,7 +20,9 @@ fn words_of(rt: &HostRuntime, alloc: Global) -> io::Result<Vec<String>> {
 }
 
 // The path of the image that a job names.
-fn image_path(job: &Job) -> &str {
+fn image_path(job: &Job) -> &str
+    ensures { result.now ≡ image_of (job_view job.now) }
+{
     match job {
         Job::Catalog { image, .. } => image.as_str(),
     }
