@@ -1,14 +1,16 @@
 -- A sector of an image that is written over, by place.
-use Rattle.std.proofs.Common.{◌≡◌, ◌≢◌, ℕ, ◌+◌, ◌*◌, ◌/◌, ◌%◌, ◌<◌, Bool, true, false, List, [], length, map, set, get_or, Some, None, refl, sym, ◌∙◌, ap, subst, arith, length-set}
-use Rattle.std.specs.Prelude.{Option, unwrap_or, ◌==◌}
+use Rattle.std.proofs.Common.{◌≡◌, ◌≢◌, ℕ, zero, suc, ◌&&◌, ◌∷◌, ◌+◌, ◌*◌, ◌/◌, ◌%◌, ◌<◌, Bool, true, false, List, [], length, map, set, get_or, Some, None, refl, sym, ◌∙◌, ap, subst, arith, length-set}
+use Rattle.std.specs.Prelude.{Option, is_some, unwrap_or, ◌==◌, if◌then◌else◌}
 use Rattle.std.specs.List.{range_with_len}
 use Rattle.std.proofs.lemmas.Bool.Decides.{nat_tests}
 use Rattle.std.proofs.lemmas.List.{get_or-set_same, get_or-set_other}
 use Rattle.std.proofs.lemmas.List.FromFn.{length-map-range_with_len, get_or-map-range_with_len, fill_by_all}
-use Rattle.a2_image.specs.Image.{zeros}
+use Rattle.a2_image.specs.Image.{DiskImage, zeros}
 use Rattle.a2_image.specs.Skew.{physical_of_dos, dos_of_physical}
-use Rattle.a2_image.proofs.Sectors.{physical_of_dos_fits, dos_of_physical-physical_of_dos}
+use Rattle.a2_image.proofs.Skews.{physical_of_dos_fits, dos_of_physical-physical_of_dos}
 use Rattle.a2_device.specs.DosPlaces.{dos_units, sector_at}
+use Rattle.a2_device.specs.Device.{DeviceState, written}
+use Rattle.a2_device.specs.ImageDevice.{are_all_there, image_state}
 
 -- the number of the sector at a place
 abbrev pub number_at : ℕ → ℕ
@@ -48,3 +50,40 @@ dos_units-set all place unit whole within =
         get_or-set_other (map (sector_at all) (range_with_len 0 560)) place k unit [] differ
         ∙ get_or-map-range_with_len (sector_at all) 0 560 k k [] h (omega arith)
         ∙ sym (ap (λ o. unwrap_or o zeros) (get_or-set_other all (number_at place) (number_at k) (Some unit) None (λ same. differ (place_once k place same))))
+
+-- one sector that was there is written over
+pub are_all_there-set : (all : List (Option (List ℕ))) (n : ℕ) (content : List ℕ) → get_or all n None ≢ None
+    → are_all_there (set all n (Some content)) ≡ are_all_there all
+are_all_there-set [] n content has = absurd (has refl)
+are_all_there-set (None ∷ all) zero content has = absurd (has refl)
+are_all_there-set (Some old ∷ all) zero content has = refl
+are_all_there-set (sector ∷ all) (suc n) content has = ap (λ rest. is_some sector && rest) (are_all_there-set all n content has)
+
+-- a sector that is not there
+pub are_all_there-lacks : (all : List (Option (List ℕ))) (n : ℕ) → n < length all → get_or all n None ≡ None → are_all_there all ≡ false
+are_all_there-lacks [] n h lacks = absurd (omega arith)
+are_all_there-lacks (None ∷ all) n h lacks = refl
+are_all_there-lacks (Some content ∷ all) zero h lacks = absurd (cc)
+are_all_there-lacks (Some content ∷ all) (suc n) h lacks = are_all_there-lacks all n (omega arith) lacks
+
+-- an image by place, by its units and by whether each can be read
+abbrev pub state_by : ℕ → ℕ → ℕ → List (List ℕ) → Bool → DeviceState
+state_by writes standing faults store all_there = record {
+  places = 560;
+  unit_size = 256;
+  writes = writes;
+  faults = faults;
+  honest = true;
+  store = store;
+  read_failures = if all_there then Some 0 else None;
+  write_failures = if all_there then Some [] else None;
+  standing = standing;
+}
+
+-- a sector that was there is written over
+pub state_written : (old new : DiskImage) (writes standing faults place : ℕ) (unit : List ℕ) → place < 560 → length old.sectors ≡ 560
+    → get_or old.sectors (number_at place) None ≢ None → new.sectors ≡ set old.sectors (number_at place) (Some unit)
+    → image_state new (writes + 1) (standing + 1) faults ≡ written place unit (image_state old writes standing faults)
+state_written old new writes standing faults place unit within whole has is =
+    ap (λ store. state_by (writes + 1) (standing + 1) faults store (are_all_there new.sectors)) (ap dos_units is ∙ dos_units-set old.sectors place unit whole within)
+    ∙ ap (state_by (writes + 1) (standing + 1) faults (set (dos_units old.sectors) place unit)) (ap are_all_there is ∙ are_all_there-set old.sectors (number_at place) unit has)

@@ -1,6 +1,6 @@
 // The sectors of an image as a device.
-ghost use Rattle.std.specs.Prelude.{◌≡◌, ◌<◌, ◌+◌, ◌*◌, ◌/◌, ◌%◌, length};
-ghost use Rattle.a2_image.specs.Image.{IsDisk, sectors};
+ghost use Rattle.std.specs.Prelude.{◌≡◌, ◌<◌, ◌≤◌, ◌+◌, ◌*◌, ◌/◌, ◌%◌, length};
+ghost use Rattle.a2_image.specs.Image.{IsDisk, IsOfDisk};
 ghost use Rattle.a2_image.specs.Skew.{physical_of_dos};
 ghost use Rattle.a2_device.specs.DosPlaces.{dos_units, sector_at};
 ghost use Rattle.a2_device.specs.ImageDevice.{image_state, whole_image};
@@ -17,8 +17,11 @@ const DOS_PLACES: u32 = 560;
 pub struct ImageDevice<A: Allocator = Global> {
     image: Image<A>,
     writes: u64,
+    standing: u64,
     faults: u64,
-    ghost disk: { IsDisk (sectors image) },
+    ghost of_disk: { IsOfDisk image },
+    ghost disk: { IsDisk image.sectors },
+    ghost counted: { standing ≤ writes },
 }
 
 // The track and the physical sector at a DOS place.
@@ -32,22 +35,25 @@ fn dos_sector(place: u32) -> (u8, u8)
 }
 
 impl<A: Allocator> ImageDevice<A> {
-    /// The device of an image's 560 sectors by DOS place, with no write and no fault so far.
+    /// The device of an image's 560 sectors by DOS place, with no write and no fault so far. The image is one of a
+    /// disk, with 280 blocks.
     pub fn dos(image: Image<A>) -> Self
-        ensures { ⟦<ImageDevice<A> as Device>⟧.state result ≡ image_state image 0 0 }
+        requires { IsOfDisk image }
+        ensures { ⟦<ImageDevice<A> as Device>⟧.state result ≡ image_state image 0 0 0 }
     {
-        // The sectors of an image are those of a disk.
-        let _order = image.order();
+        // The sectors of such an image are those of a disk.
+        let _blocks = image.blocks();
         ImageDevice {
             image,
             writes: 0,
+            standing: 0,
             faults: 0,
         }
     }
 
     /// The image as it is now.
     pub fn into_image(self) -> Image<A>
-        ensures { dos_units (sectors result) ≡ (⟦<ImageDevice<A> as Device>⟧.state self).store }
+        ensures { dos_units result.sectors ≡ (⟦<ImageDevice<A> as Device>⟧.state self).store }
     {
         let ImageDevice { image, .. } = self;
         image
@@ -55,9 +61,9 @@ impl<A: Allocator> ImageDevice<A> {
 }
 
 impl<A: Allocator> Device for ImageDevice<A> {
-    ghost state = { λ d. image_state d.image d.writes d.faults };
+    ghost state = { λ d. image_state d.image d.writes d.standing d.faults };
 
-    ghost whole = { λ d _. whole_image d.image d.writes d.faults d.disk };
+    ghost whole = { λ d _. whole_image d.image d.writes d.standing d.faults d.disk };
 
     fn places(&self) -> u32 {
         DOS_PLACES
@@ -99,6 +105,7 @@ impl<A: Allocator> Device for ImageDevice<A> {
             self.faults = self.faults.saturating_add(1);
             return Err(DeviceError::Fault);
         }
+        self.standing += 1;
         Ok(())
     }
 }

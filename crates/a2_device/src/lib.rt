@@ -11,8 +11,10 @@ mod device;
 mod failing;
 mod fault;
 mod image;
+mod part;
 
 pub use device::{Device, DeviceError};
 pub use failing::FaultDevice;
 pub use fault::{Fault, WalkError};
 pub use image::ImageDevice;
+pub use part::{Part, PartKind};

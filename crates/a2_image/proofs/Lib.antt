@@ -1,1 +1,10 @@
+pub mod PartLemmas
+pub mod Skews
 pub mod Sectors
+pub mod BlockLemmas
+pub mod TrackLemmas
+pub mod KeptLemmas
+pub mod ImageLemmas
+pub mod ConvertLemmas
+pub mod LawLemmas
+pub mod Opened

@@ -1,4 +1,8 @@
 // Why an image is not taken, or a sector not read or written.
+ghost use Rattle.std.specs.Prelude.{◌≡◌};
+ghost use Rattle.a2_image.specs.declared.error.ImageError.TheVariants.{Memory};
+
+use std::alloc::AllocError;
 use thiserror::Error;
 
 /// Why an image is refused, or a sector of it.
@@ -12,4 +16,12 @@ pub enum ImageError {
     Number,
     #[error("the track has no such sector")]
     NoSector,
+}
+
+impl From<AllocError> for ImageError {
+    ghost from_gives = { λ _ e. e ≡ Memory };
+
+    fn from(_: AllocError) -> ImageError {
+        ImageError::Memory
+    }
 }

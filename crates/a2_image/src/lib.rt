@@ -1,14 +1,29 @@
 //! Images of 5.25-inch disks: 35 tracks of 16 sectors of 256 bytes, in memory.
 //!
-//! The model of an image is its order and its bytes (`specs/Image.antt`). What it holds is the list `sectors`, one for
+//! The model of an image is its order, its bytes and its sectors (`specs/Image.antt`). The sectors are a list, one for
 //! each track and physical sector, whatever the order: nothing above this crate needs to know how an image is laid out.
-//! Invariant: an image has exactly the bytes of one disk.
+//! Invariant: an image has a length of its order, and its sectors are those that its bytes hold. An image in nibble order
+//! keeps the field of each sector from its opening on, so no later call searches a track; a write leaves every field
+//! where it was.
 #![tactic(auto)]
 
+mod blocks;
+mod convert;
 mod error;
 mod image;
+mod laws;
+mod lend;
+mod nibble;
 mod order;
+mod part;
+mod plain;
+#[cfg(test)]
+mod tests;
 
 pub use error::ImageError;
-pub use image::{IMAGE_BYTES, Image, SECTOR_BYTES};
-pub use order::{Order, SECTORS, TRACKS, dos_to_phys};
+pub use image::{Image, SECTOR_BYTES};
+pub use laws::{prodos_blocks_lie_in_order, sectors_are_one};
+pub use order::{
+    BLOCK_BYTES, DISK_BLOCKS, IMAGE_BYTES, NIBBLE_BYTES, Order, SECTORS, TRACKS, block_to_phys,
+    dos_to_phys,
+};

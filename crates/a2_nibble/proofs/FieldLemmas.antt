@@ -6,12 +6,11 @@ use Rattle.std.specs.Int.{bit_at}
 use Rattle.std.proofs.lemmas.List.{get_or-map, get_or_default, get_or_past}
 use Rattle.std.proofs.lemmas.Bool.{cond_both, cond-true, cond-false, lt-ltb, le-ltb, cases_lt}
 use Rattle.std.proofs.Math.ListN.{length-map}
-use Rattle.std.specs.List.{range_with_len}
 use Rattle.std.proofs.lemmas.List.Sums.{fold_more}
 use Rattle.std.proofs.lemmas.List.FromFn.{length-map-range_with_len, get_or-map-range_with_len}
 use Rattle.std.proofs.lemmas.Nat.{shr-shr}
 use Rattle.a2_nibble.specs.DiskBytes.{value_of}
-use Rattle.a2_nibble.specs.Field.{value_at, IsByte, IsDataField, Gives, IsEncoded}
+use Rattle.a2_nibble.specs.Field.{value_at, IsByte, IsDataField, Gives, IsEncoded, byte_of, content_of}
 use Rattle.a2_nibble.specs.Written.{swapped, low_pair, written_value}
 
 -- the exclusive or of the values of the first k disk bytes
@@ -98,27 +97,22 @@ before-small bytes each (suc k) l =
 pub value_at-small : (bytes : List ℕ) → All (λ byte. value_of byte < 64) bytes → (k : ℕ) → k < length bytes → value_at bytes k < 64
 value_at-small bytes each k l = omega (arith, before-more bytes k, before-small bytes each (k + 1) (omega arith))
 
--- byte i that disk bytes give, and all of them
-abbrev byte_of : List ℕ → ℕ → ℕ
-byte_of bytes i = value_at bytes (86 + i) * 4 + swapped (value_at bytes (i % 86) / 2 ^ (2 * (i / 86)) % 4)
-
-abbrev content_of : List ℕ → List ℕ
-content_of bytes = map (byte_of bytes) (range_with_len 0 256)
+-- disk bytes that count give the content that is computed from them
+pub Gives-content_of : (bytes : List ℕ) → length bytes ≡ 343 → IsDataField bytes → Gives bytes (content_of bytes)
+unfolding content_of
+Gives-content_of bytes long h = record {
+  long = length-map-range_with_len (byte_of bytes) 0 256;
+  byte_at = λ i l.
+      let at : get_or (content_of bytes) i 0 ≡ byte_of bytes i = get_or-map-range_with_len (byte_of bytes) 0 256 i i 0 l (omega arith) in
+      let high : value_at bytes (86 + i) < 64 = value_at-small bytes h.in_table (86 + i) (omega arith) in
+      subst (IsByte (value_at bytes) i) (sym at)
+      (IsByte-from (value_at bytes) i (byte_of bytes i) (value_at bytes (i % 86)) (value_at bytes (i % 86) / 2 ^ (2 * (i / 86)) % 4)
+      (omega arith) (omega arith) refl refl refl);
+}
 
 -- disk bytes that count give a content
 pub some_content : (bytes : List ℕ) → length bytes ≡ 343 → IsDataField bytes → (content : List ℕ) × Gives bytes content
-some_content bytes long h = (
-  content_of bytes,
-  record {
-    long = length-map-range_with_len (byte_of bytes) 0 256;
-    byte_at = λ i l.
-        let at : get_or (content_of bytes) i 0 ≡ byte_of bytes i = get_or-map-range_with_len (byte_of bytes) 0 256 i i 0 l (omega arith) in
-        let high : value_at bytes (86 + i) < 64 = value_at-small bytes h.in_table (86 + i) (omega arith) in
-        subst (IsByte (value_at bytes) i) (sym at)
-        (IsByte-from (value_at bytes) i (byte_of bytes i) (value_at bytes (i % 86)) (value_at bytes (i % 86) / 2 ^ (2 * (i / 86)) % 4)
-        (omega arith) (omega arith) refl refl refl);
-  },
-)
+some_content bytes long h = (content_of bytes, Gives-content_of bytes long h)
 
 -- one byte of the sector, by equal values
 pub IsByte-along : (f g : ℕ → ℕ) (i byte : ℕ) → i < 256 → ((k : ℕ) → k < 342 → f k ≡ g k) → IsByte f i byte → IsByte g i byte

@@ -1,7 +1,9 @@
 -- Data fields: the 343 disk bytes of a sector. (Beneath Apple DOS, chapter 3: the data field.)
-use Rattle.std.specs.Prelude.{◌≡◌, ℕ, ◌+◌, ◌*◌, ◌/◌, ◌%◌, ◌<◌, List, length, slice_index, fold, map, take, All, bit_xor}
+use Rattle.std.specs.Prelude.{◌≡◌, ℕ, ◌+◌, ◌*◌, ◌/◌, ◌%◌, ◌^◌, ◌<◌, List, length, slice_index, fold, map, take, All, bit_xor}
 use Rattle.std.specs.Int.{bit_at}
+use Rattle.std.specs.List.{range_with_len}
 use Rattle.a2_nibble.specs.DiskBytes.{value_of}
+use Rattle.a2_nibble.specs.Written.{swapped}
 
 -- the value at k: the exclusive or of the values of all disk bytes up to that one
 unfoldable pub value_at : List ℕ → ℕ → ℕ
@@ -24,6 +26,13 @@ pub record IsByte (value : ℕ → ℕ) (i byte : ℕ) : Type 0 where
 pub record Gives (bytes content : List ℕ) : Type 0 where
   pub long : length content ≡ 256
   pub byte_at : (i : ℕ) → i < 256 → IsByte (value_at bytes) i (slice_index content i)
+
+-- the same as a function: byte i that disk bytes give, and all of them
+abbrev pub byte_of : List ℕ → ℕ → ℕ
+byte_of bytes i = value_at bytes (86 + i) * 4 + swapped (value_at bytes (i % 86) / 2 ^ (2 * (i / 86)) % 4)
+
+unfoldable pub content_of : List ℕ → List ℕ
+content_of bytes = map (byte_of bytes) (range_with_len 0 256)
 
 -- the 343 disk bytes of the content: they count and give it, and the bits that no byte has are 0
 pub record IsEncoded (content bytes : List ℕ) : Type 0 where

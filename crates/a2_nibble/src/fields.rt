@@ -1,4 +1,4 @@
-ghost use Rattle.std.specs.Prelude.{◌≡◌, ℕ, ◌+◌, ◌<◌, Option, Some, slice_get};
+ghost use Rattle.std.specs.Prelude.{◌≡◌, ℕ, ◌+◌, ◌<◌, Option, Some, length, slice_get};
 ghost use Rattle.a2_nibble.specs.Search.{FindsSector, FindsBelow};
 
 use crate::address::number_at;
@@ -18,6 +18,7 @@ pub fn fields_of_track(nibbles: &[u8; TRACK_LEN], track: u8) -> [Option<Field>; 
     ensures only { (sector : ℕ) (answer other : Option Field)
         → slice_get result sector ≡ Some answer
         → FindsSector nibbles.now track sector other → other ≡ answer }
+    ensures long { length result ≡ 16 }
 {
     let mut fields = [None; SECTORS];
     if track >= TRACKS {

@@ -12,7 +12,7 @@ use Rattle.shop_words.specs.declared.fault.WordsFault.TheVariants as words
 use Rattle.a2_shop.specs.declared.reply.Refusal.TheVariants as refusals
 use Rattle.a2_shop.specs.declared.reply.Reply.{Reply}
 use Rattle.a2_shop.specs.declared.reply.Reply.TheVariants.{Done, Refused, Failed}
-use Rattle.a2_shop.specs.Reply.{IsCatalogReply, IsReplyTo, IsAnswer, IsCommandAnswer, IsWordsAnswer, dos_store, status_of, text_of}
+use Rattle.a2_shop.specs.Reply.{IsCatalogReply, IsReplyTo, IsAnswer, IsCommandAnswer, IsWordsAnswer, OfDosStore, status_of, text_of}
 
 -- one byte past a disk's number of them is enough to tell another length
 same_front : (image : List ℕ) → length (take 143361 image) ≡ 143360 → take 143361 image ≡ image
@@ -23,10 +23,10 @@ front_long image long = ap length (take_all 143361 image (omega (arith, long))) 
 
 whole_replied : (image : List ℕ) (reply : Reply) → IsCatalogReply (take 143361 image) reply → IsCatalogReply image reply
 whole_replied image (Done text) is =
-    subst (λ bytes. (length bytes ≡ 143360) × IsListingText (dos_store bytes) (string_bytes text)) (same_front image is.0) is
+    subst (λ bytes. (length bytes ≡ 143360) × OfDosStore bytes (λ store. IsListingText store (string_bytes text))) (same_front image is.0) is
 whole_replied image (Refused refusals.Length) is = λ long. is (front_long image long)
 whole_replied image (Refused refusals.Check) is =
-    subst (λ bytes. (length bytes ≡ 143360) × HasNoCatalog (dos_store bytes)) (same_front image is.0) is
+    subst (λ bytes. (length bytes ≡ 143360) × OfDosStore bytes HasNoCatalog) (same_front image is.0) is
 whole_replied image (Failed failure) is = is
 
 reply_to : (job : Job) (image : List ℕ) (reply : Reply) → IsCatalogReply image reply → IsReplyTo (job_view job) image reply

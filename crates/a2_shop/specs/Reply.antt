@@ -2,7 +2,9 @@
 use Rattle.std.specs.Prelude.{◌≡◌, ◌≢◌, ◌⊎◌, ℕ, List, length, Option, Some, codes, string_bytes}
 use Rattle.std.specs.Io.KnownBytes.{Appends}
 use Rattle.a2_image.specs.declared.order.Order.TheVariants as order
-use Rattle.a2_image.specs.Image.{sectors}
+use Rattle.a2_image.specs.declared.error.ImageError.{ImageError}
+use Rattle.a2_image.specs.declared.error.ImageError.TheVariants as images
+use Rattle.a2_image.specs.Image.{HoldsSectors}
 use Rattle.a2_device.specs.DosPlaces.{dos_units}
 use Rattle.file_cmds.specs.Catalog.{HasNoCatalog}
 use Rattle.file_cmds.specs.DosText.{Text, IsListingText, listing_text}
@@ -46,9 +48,9 @@ text_of (Failed failure) = failure_line failure
 abbrev pub IsStatus : ℕ → Type 0
 IsStatus status = (status ≡ 0) ⊎ (status ≡ 3) ⊎ (status ≡ 4)
 
--- the sectors by place of an image in DOS order
-abbrev pub dos_store : List ℕ → List (List ℕ)
-dos_store image = dos_units (sectors (record { order = order.Dos; bytes = image }))
+-- What is said of the sectors by place that an image in DOS order of these bytes holds.
+abbrev pub OfDosStore : List ℕ → (List (List ℕ) → Type 0) → Type 0
+OfDosStore image P = (sectors : List (Option (List ℕ))) × HoldsSectors order.Dos image sectors × P (dos_units sectors)
 
 -- the reply with a listing's text, or for want of memory
 abbrev pub IsListingReply : {A : Type 0} → Listing A → Reply → Type 0
@@ -62,12 +64,19 @@ reply_to_refusal commands.Check = Refused refusals.Check
 reply_to_refusal commands.Device = Failed failures.Device
 reply_to_refusal commands.Memory = Failed failures.Memory
 
+-- the reply to an image that is not taken
+abbrev pub reply_to_image : ImageError → Reply
+reply_to_image images.Memory = Failed failures.Memory
+reply_to_image images.Length = Refused refusals.Length
+reply_to_image images.Number = Refused refusals.Length
+reply_to_image images.NoSector = Refused refusals.Length
+
 -- The reply to `catalog` on these bytes: the listing of the volume; `Length` for other than a disk's number of bytes;
 -- `Check` for a VTOC of another geometry or a broken catalog chain; and want of memory.
 abbrev pub IsCatalogReply : List ℕ → Reply → Type 0
-IsCatalogReply image (Done text) = (length image ≡ 143360) × IsListingText (dos_store image) (string_bytes text)
+IsCatalogReply image (Done text) = (length image ≡ 143360) × OfDosStore image (λ store. IsListingText store (string_bytes text))
 IsCatalogReply image (Refused refusals.Length) = length image ≢ 143360
-IsCatalogReply image (Refused refusals.Check) = (length image ≡ 143360) × HasNoCatalog (dos_store image)
+IsCatalogReply image (Refused refusals.Check) = (length image ≡ 143360) × OfDosStore image HasNoCatalog
 IsCatalogReply image (Failed failure) = failure ≡ failures.Memory
 
 -- the reply to a job on these bytes

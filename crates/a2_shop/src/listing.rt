@@ -1,10 +1,10 @@
 // The job that lists the files of a volume.
 ghost use Rattle.std.specs.Prelude.{◌≡◌};
-ghost use Rattle.a2_shop.specs.Reply.{IsCatalogReply, IsListingReply, reply_to_refusal};
+ghost use Rattle.a2_shop.specs.Reply.{IsCatalogReply, IsListingReply, reply_to_image, reply_to_refusal};
 
 use crate::reply::{Failure, Refusal, Reply};
 use a2_device::ImageDevice;
-use a2_image::{Image, Order};
+use a2_image::{Image, ImageError, Order};
 use file_cmds::{CmdError, Listing, catalog, dos_listing_text};
 use std::alloc::Global;
 
@@ -16,6 +16,17 @@ impl From<CmdError> for Reply {
             CmdError::Check => Reply::Refused(Refusal::Check),
             CmdError::Device => Reply::Failed(Failure::Device),
             CmdError::Memory => Reply::Failed(Failure::Memory),
+        }
+    }
+}
+
+impl From<ImageError> for Reply {
+    ghost from_gives = { λ error reply. reply ≡ reply_to_image error };
+
+    fn from(error: ImageError) -> Reply {
+        match error {
+            ImageError::Memory => Reply::Failed(Failure::Memory),
+            _ => Reply::Refused(Refusal::Length),
         }
     }
 }
@@ -34,8 +45,9 @@ fn listing_reply(alloc: Global, listing: &Listing) -> Reply
 pub fn catalog_reply(alloc: Global, image: Vec<u8>) -> Reply
     ensures { IsCatalogReply image.items result }
 {
-    let Ok(image) = Image::open(image, Order::Dos) else {
-        return Reply::Refused(Refusal::Length);
+    let image = match Image::open(image, Order::Dos) {
+        Ok(image) => image,
+        Err((error, _)) => return Reply::from(error),
     };
     let mut device = ImageDevice::dos(image);
     match catalog(alloc, &mut device) {

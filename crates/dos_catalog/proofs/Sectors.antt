@@ -1,6 +1,7 @@
 -- One slot more, and one sector further.
-use Rattle.std.proofs.Common.{◌≡◌, ◌≢◌, ℕ, ◌+◌, ◌<◌, Bool, true, false, List, [], ◌∷◌, ◌++◌, length, get_or, set, refl, sym, ◌∙◌, ap, subst, arith, inl, inr, ⊎_elim, cond, append_assoc, append-nil, count_by}
-use Rattle.std.specs.Prelude.{◌==◌, ◌⊎◌, filter, map, not}
+use Rattle.std.proofs.Common.{◌≡◌, ◌≢◌, ℕ, suc, ◌+◌, ◌-◌, ◌<◌, Bool, true, false, List, [], ◌∷◌, ◌++◌, length, get_or, set, refl, sym, ◌∙◌, ap, subst, arith, inl, inr, ⊎_elim, cond, append_assoc, append-nil, count_by}
+use Rattle.std.specs.Prelude.{◌==◌, ◌⊎◌, Option, Some, None, ◌≤◌, option_map, find, filter, map, not, slice_get}
+use Rattle.std.specs.Option.{option_or}
 use Rattle.std.specs.List.{range_with_len, Contains}
 use Rattle.std.proofs.lemmas.List.FromFn.{filter_of_map_range_with_len_more}
 use Rattle.std.proofs.lemmas.List.Sums.{sum_by-set}
@@ -11,10 +12,10 @@ use Rattle.std.proofs.lemmas.Bool.Decides.{nat_tests}
 use Rattle.std.proofs.lemmas.Grind.{flat_map-append}
 use Rattle.a2_device.specs.Device.{unit_at}
 use Rattle.dos_catalog.specs.declared.entry.Entry.{Entry}
-use Rattle.dos_catalog.specs.Entry.{entries_of, entries_in}
+use Rattle.dos_catalog.specs.Entry.{entry_at, is_in_use, entries_of, entries_in, free_slots_of, free_slots_in}
 use Rattle.dos_catalog.specs.Catalog.{IsLink, HasNoLink, Leads, HasBadLink, linked}
 use Rattle.dos_catalog.specs.Chain.{leads_on}
-use Rattle.dos_catalog.specs.Walk.{IsTable, IsWalking, is_met}
+use Rattle.dos_catalog.specs.Walk.{IsTable, IsWalking, is_met, first_free_of}
 
 module _ (p : Entry → Bool) (f : ℕ → Entry) (old before : List Entry) (n : ℕ) (is : before ≡ old ++ filter p (map f (range_with_len 0 n))) where
   one_more : filter p (map f (range_with_len 0 (n + 1))) ≡ filter p (map f (range_with_len 0 n)) ++ cond (p (f n)) (f n ∷ []) []
@@ -110,3 +111,47 @@ bad_link store met sectors entries holder unit table walking on why = record {
   bad = subst (λ u. (¬ IsLink u) ⊎ (IsLink u × Contains sectors (linked u))) walking.here
       (⊎_elim inl (λ twice. inr (twice.0, subst (Contains sectors) (sym twice.2) (table.has twice.1 twice.3))) why);
 }
+
+first-append : {X : Type 0} (xs ys : List X) → slice_get (xs ++ ys) 0 ≡ option_or (slice_get xs 0) (slice_get ys 0)
+first-append [] ys = refl
+first-append (x ∷ xs) ys = refl
+
+first-filter : {X : Type 0} (f : ℕ → X) (p : ℕ → Bool) (xs : List ℕ) → option_map f (find p xs) ≡ slice_get (map f (filter p xs)) 0
+first-filter f p [] = refl
+first-filter f p (x ∷ xs) = by_test (p x) refl (first-filter f p xs)
+  where
+    by_test : (b : Bool) → p x ≡ b → option_map f (find p xs) ≡ slice_get (map f (filter p xs)) 0 → option_map f (find p (x ∷ xs)) ≡ slice_get (map f (filter p (x ∷ xs))) 0
+    by_test true is rest = rw is refl
+    by_test false is rest = rw is rest
+
+-- a search by number: it ends here, goes on, or is at its end
+module _ (p : ℕ → Bool) (k n : ℕ) (whole : Option ℕ) (is : whole ≡ find p (range_with_len k (n - k))) where
+  next : k < n → whole ≡ cond (p k) (Some k) (find p (range_with_len (k + 1) (n - (k + 1))))
+  next within = let more : n - k ≡ suc (n - (k + 1)) = omega (arith, within) in is ∙ ap (λ m. find p (range_with_len k m)) more
+
+  pub find_here : k < n → p k ≡ true → whole ≡ Some k
+  find_here within passes = next within ∙ ap (λ b. cond b (Some k) (find p (range_with_len (k + 1) (n - (k + 1))))) passes
+
+  pub find_on : k < n → p k ≡ false → whole ≡ find p (range_with_len (k + 1) (n - (k + 1)))
+  find_on within fails = next within ∙ ap (λ b. cond b (Some k) (find p (range_with_len (k + 1) (n - (k + 1))))) fails
+
+  pub find_end : n ≤ k → whole ≡ None
+  find_end end = let none : n - k ≡ 0 = omega (arith, end) in is ∙ ap (λ m. find p (range_with_len k m)) none
+
+first_free_is : (place : ℕ) (unit : List ℕ) → first_free_of place unit ≡ slice_get (free_slots_of place unit) 0
+unfolding first_free_of
+first_free_is place unit = first-filter (λ slot. (place, slot)) (λ slot. not (is_in_use (entry_at place unit slot))) (range_with_len 0 7)
+
+-- the first free slot, one sector further
+pub free_on : (store : List (List ℕ)) (sectors grown : List ℕ) (next : ℕ) (here : List ℕ) (free first : Option (ℕ × ℕ)) → free ≡ slice_get (free_slots_in store sectors) 0
+    → grown ≡ sectors ++ next ∷ [] → first ≡ option_or free (first_free_of next here) → here ≡ unit_at store next → first ≡ slice_get (free_slots_in store grown) 0
+free_on store sectors grown next here free first is more_is first_is here_is =
+    let slots : ℕ → List (ℕ × ℕ) = λ place. free_slots_of place (unit_at store place) in
+    first_is
+    ∙ ap (option_or free) (first_free_is next here)
+    ∙ ap (λ o. option_or o (slice_get (free_slots_of next here) 0)) is
+    ∙ ap (λ u. option_or (slice_get (free_slots_in store sectors) 0) (slice_get (free_slots_of next u) 0)) here_is
+    ∙ sym (first-append (free_slots_in store sectors) (slots next))
+    ∙ ap (λ s. slice_get (free_slots_in store sectors ++ s) 0) (sym (append-nil (slots next)))
+    ∙ ap (λ s. slice_get s 0) (sym (flat_map-append slots sectors (next ∷ [])))
+    ∙ ap (λ ps. slice_get (free_slots_in store ps) 0) (sym more_is)

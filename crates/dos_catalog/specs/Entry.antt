@@ -1,5 +1,5 @@
 -- The entries of a catalog sector (Beneath Apple DOS, chapter 4).
-use Rattle.std.specs.Prelude.{ℕ, ◌+◌, ◌*◌, ◌==◌, not, ◌&&◌, Bool, List, take, drop, map, filter, flat_map, slice_index}
+use Rattle.std.specs.Prelude.{ℕ, ◌+◌, ◌*◌, ◌==◌, not, ◌&&◌, Bool, List, Option, take, drop, map, filter, flat_map, slice_index, slice_get}
 use Rattle.std.specs.List.{range_with_len}
 use Rattle.a2_device.specs.Device.{unit_at}
 use Rattle.dos_catalog.specs.declared.entry.Entry.{Entry}
@@ -19,3 +19,11 @@ entries_of place unit = filter is_in_use (map (entry_at place unit) (range_with_
 -- the entries in use of some sectors, in order
 abbrev pub entries_in : List (List ℕ) → List ℕ → List Entry
 entries_in store sectors = flat_map (λ place. entries_of place (unit_at store place)) sectors
+
+-- the slots of one sector that have no entry in use: its place and their numbers
+abbrev pub free_slots_of : ℕ → List ℕ → List (ℕ × ℕ)
+free_slots_of place unit = map (λ slot. (place, slot)) (filter (λ slot. not (is_in_use (entry_at place unit slot))) (range_with_len 0 7))
+
+-- the slots without an entry in use of some sectors, in order
+abbrev pub free_slots_in : List (List ℕ) → List ℕ → List (ℕ × ℕ)
+free_slots_in store sectors = flat_map (λ place. free_slots_of place (unit_at store place)) sectors

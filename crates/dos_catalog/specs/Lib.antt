@@ -1,4 +1,5 @@
 pub mod Entry
+pub mod Writes
 pub mod Catalog
 pub mod Listed
 pub mod Chain

@@ -1,8 +1,9 @@
 -- What is known at each moment of a walk over the catalog.
-use Rattle.std.specs.Prelude.{◌≡◌, ◌≢◌, ℕ, ◌+◌, Bool, true, false, List, slice_index_or, AllPairs, Contains}
+use Rattle.std.specs.Prelude.{◌≡◌, ◌≢◌, ℕ, ◌+◌, Bool, true, false, not, List, Option, option_map, find, slice_index_or, AllPairs, Contains}
+use Rattle.std.specs.List.{range_with_len}
 use Rattle.a2_device.specs.Device.{unit_at}
 use Rattle.dos_catalog.specs.declared.entry.Entry.{Entry}
-use Rattle.dos_catalog.specs.Entry.{entries_in}
+use Rattle.dos_catalog.specs.Entry.{entry_at, is_in_use, entries_in}
 use Rattle.dos_catalog.specs.Catalog.{Leads}
 
 -- whether a sector was met
@@ -20,3 +21,7 @@ pub record IsWalking (store : List (List ℕ)) (sectors : List ℕ) (entries : L
   pub leads : Leads store 272 sectors holder
   pub here : unit ≡ unit_at store holder
   pub taken : entries ≡ entries_in store sectors
+
+-- the first slot of one sector that has no entry in use
+unfoldable pub first_free_of : ℕ → List ℕ → Option (ℕ × ℕ)
+first_free_of place unit = option_map (λ slot. (place, slot)) (find (λ slot. not (is_in_use (entry_at place unit slot))) (range_with_len 0 7))

@@ -7,19 +7,19 @@ use byteorder::{ByteOrder, LittleEndian};
 /// The entries of a catalog sector.
 pub(crate) const ENTRIES: u32 = 7;
 
-const FIRST: usize = 0x0b;
+pub(crate) const FIRST: usize = 0x0b;
 
-const ENTRY_BYTES: usize = 35;
+pub(crate) const ENTRY_BYTES: usize = 35;
 
-const DELETED: u8 = 0xff;
+pub(crate) const DELETED: u8 = 0xff;
 
-const KIND: usize = 0x02;
+pub(crate) const KIND: usize = 0x02;
 
 const LOCKED: u8 = 0x80;
 
-const NAME: usize = 0x03;
+pub(crate) const NAME: usize = 0x03;
 
-const SECTORS: usize = 0x21;
+pub(crate) const SECTORS: usize = 0x21;
 
 /// An entry of the catalog: the place of its sector, its number there from 0, and its 35 bytes
 /// (Beneath Apple DOS, chapter 4).

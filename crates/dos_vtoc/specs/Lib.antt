@@ -1,1 +1,2 @@
 pub mod Vtoc
+pub mod Count

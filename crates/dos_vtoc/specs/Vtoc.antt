@@ -1,5 +1,5 @@
 -- The volume table of contents (Beneath Apple DOS, chapter 4).
-use Rattle.std.specs.Prelude.{◌≡◌, ◌==◌, ℕ, ◌+◌, ◌-◌, ◌*◌, ◌/◌, ◌%◌, Bool, List, Option, Some, None, count_by, slice_index, if◌then◌else◌}
+use Rattle.std.specs.Prelude.{◌≡◌, ◌==◌, ◌<◌, ◌≤◌, ℕ, ◌+◌, ◌-◌, ◌*◌, ◌/◌, ◌%◌, ◌^◌, Bool, true, false, List, Option, Some, None, bit_and, bit_or, count_by, slice_index, slice_set, if◌then◌else◌}
 use Rattle.std.specs.Int.{bit_at}
 use Rattle.std.specs.List.{range_with_len}
 
@@ -30,3 +30,25 @@ is_free vtoc place = bit_at (slice_index vtoc (byte_of_place place)) (place % 8)
 -- how many of the 560 sectors are free
 unfoldable pub free_count_of : List ℕ → ℕ
 free_count_of vtoc = count_by (is_free vtoc) (range_with_len 0 560)
+
+-- the VTOC with one sector marked used, or free: one bit is written
+abbrev pub marked : List ℕ → ℕ → List ℕ
+marked vtoc place = slice_set vtoc (byte_of_place place) (bit_and (slice_index vtoc (byte_of_place place)) (255 - 2 ^ (place % 8)))
+
+abbrev pub released : List ℕ → ℕ → List ℕ
+released vtoc place = slice_set vtoc (byte_of_place place) (bit_or (slice_index vtoc (byte_of_place place)) (2 ^ (place % 8)))
+
+-- DOS takes sectors by rising track, and within a track from sector 15 down to 0: the number of a place in that order
+abbrev pub order_of : ℕ → ℕ
+order_of place = 16 * (place / 16) + 15 - place % 16
+
+-- a place is free, and not before another in that order
+pub record IsFreeFrom (vtoc : List ℕ) (from place : ℕ) : Type 0 where
+  pub within : place < 560
+  pub free : is_free vtoc place ≡ true
+  pub behind : order_of from ≤ order_of place
+
+-- the first of these
+pub record IsNextFree (vtoc : List ℕ) (from place : ℕ) : Type 0 where
+  pub found : IsFreeFrom vtoc from place
+  pub first : (other : ℕ) → IsFreeFrom vtoc from other → order_of place ≤ order_of other

@@ -5,6 +5,9 @@
 //! 35 tracks of 16 sectors of 256 bytes.
 #![tactic(auto)]
 
+mod count;
+#[cfg(test)]
+mod tests;
 mod vtoc;
 
 pub use vtoc::{VTOC_PLACE, Vtoc};

@@ -1,7 +1,8 @@
 // The sector that says what is free.
-ghost use Rattle.std.specs.Prelude.{◌≡◌, ◌<◌, ◌↔◌, IsOk, IfOk, IfErr, IsTrue};
-ghost use Rattle.dos_vtoc.specs.Vtoc.{HasGeometry, link_of, volume_number, is_free, free_count_of};
+ghost use Rattle.std.specs.Prelude.{◌≡◌, ◌≢◌, ◌<◌, ◌↔◌, ◌^◌, ◌%◌, ℕ, true, false, IsOk, IfOk, IfErr, IfSome, IfNone, IsTrue, slice_index};
+ghost use Rattle.dos_vtoc.specs.Vtoc.{HasGeometry, IsFreeFrom, IsNextFree, link_of, volume_number, byte_of_place, is_free, free_count_of, marked, released, order_of};
 
+use crate::count::free_in_map;
 use a2_device::Fault;
 use std::marker::Model;
 
@@ -14,7 +15,7 @@ const PLACES: u32 = 560;
 const VOLUME_NUMBER: usize = 0x06;
 
 /// Four bytes of free bits for each track.
-const FREE_BITS: usize = 0x38;
+pub(crate) const FREE_BITS: usize = 0x38;
 
 /// The volume table of contents of a volume of 35 tracks of 16 sectors (Beneath Apple DOS, chapter 4).
 #[derive(Debug, Drop)]
@@ -31,6 +32,26 @@ impl Model for Vtoc {
     ghost view = { λ v. v.bytes };
 
     ghost invariant = { λ v. HasGeometry v.bytes };
+}
+
+// The byte of the map that has the bit of a place, and that bit.
+fn bit_of(place: u32) -> (usize, u8)
+    requires { place < 560 }
+    ensures at { result.0 ≡ byte_of_place place }
+    ensures bit { result.1 ≡ 2 ^ (place % 8) }
+    ensures within { result.0 < 256 }
+{
+    let sector = place % 16;
+    let at = FREE_BITS + 4 * (place / 16) as usize + 1 - (sector / 8) as usize;
+    (at, 1 << (sector % 8))
+}
+
+// The place with a number in the order of rising tracks and falling sectors, and the number of that place.
+fn place_at(number: u32) -> u32
+    requires { number < 560 }
+    ensures { result ≡ order_of number }
+{
+    16 * (number / 16) + 15 - number % 16
 }
 
 // Whether a VTOC has 35 tracks of 16 sectors of 256 bytes, the low byte first.
@@ -67,12 +88,53 @@ impl Vtoc {
         (byte >> (sector % 8)) % 2 == 1
     }
 
+    /// Marks the sector at a place used.
+    pub fn mark(&mut self, place: u32)
+        requires { place < 560 }
+        ensures value { self.new ≡ marked self.old place }
+        ensures used { is_free self.new place ≡ false }
+        ensures others { (other : ℕ) → other < 560 → other ≢ place → is_free self.new other ≡ is_free self.old other }
+        ensures rest { (at : ℕ) → at ≢ byte_of_place place → slice_index self.new at ≡ slice_index self.old at }
+    {
+        let (at, bit) = bit_of(place);
+        self.bytes[at] &= !bit;
+    }
+
+    /// Marks the sector at a place free.
+    pub fn release(&mut self, place: u32)
+        requires { place < 560 }
+        ensures value { self.new ≡ released self.old place }
+        ensures free { is_free self.new place ≡ true }
+        ensures others { (other : ℕ) → other < 560 → other ≢ place → is_free self.new other ≡ is_free self.old other }
+        ensures rest { (at : ℕ) → at ≢ byte_of_place place → slice_index self.new at ≡ slice_index self.old at }
+    {
+        let (at, bit) = bit_of(place);
+        self.bytes[at] |= bit;
+    }
+
     /// How many sectors of the volume are free.
-    #[tactic(auto, unfolding(crate::specs::Vtoc::free_count_of))]
     pub fn free_count(&self) -> u32
         ensures { result ≡ free_count_of self.now }
     {
-        (0..PLACES).filter(|place| self.is_free(*place)).count() as u32
+        free_in_map(&self.bytes)
+    }
+
+    /// The first free place at or after `from` where tracks go upward and the sectors of a track from 15 down to 0.
+    /// No place is left out. `None` where there is none, or `from` is no place.
+    pub fn next_free(&self, from: u32) -> Option<u32>
+        ensures some { IfSome result (λ place. (from < 560) × IsNextFree self.now from place) }
+        ensures none { IfNone result (from < 560 → (place : ℕ) → IsFreeFrom self.now from place → ⊥) }
+    {
+        if from >= PLACES {
+            return None;
+        }
+        for number in place_at(from)..PLACES {
+            let place = place_at(number);
+            if self.is_free(place) {
+                return Some(place);
+            }
+        }
+        None
     }
 
     /// The track and sector of the first catalog sector, if there is one.

@@ -1,30 +1,19 @@
 ghost use Rattle.std.specs.Prelude.{◌≡◌, vec_len};
+ghost use Rattle.a2_image.specs.Image.{IsOfDisk};
 
 use super::*;
 use a2_device::{Device, FaultDevice, ImageDevice};
-use a2_image::{Image, Order};
+use a2_image::{Image, NIBBLE_BYTES, Order};
 use refusing::Refusing;
 use std::alloc::{Allocator, Global};
 use std::test::Fail;
-use test_volumes::{FIRST_CATALOG, VTOC, dos_volume, hello, put, put_entry};
-
-// The device over an image in DOS order.
-fn device_over(image: Vec<u8>) -> ImageDevice
-    requires { vec_len image ≡ 143360 }
-    ensures unit { (⟦<ImageDevice<Global> as Device>⟧.state result).unit_size ≡ 256 }
-    ensures places { (⟦<ImageDevice<Global> as Device>⟧.state result).places ≡ 560 }
-{
-    match Image::open(image, Order::Dos) {
-        Ok(image) => ImageDevice::dos(image),
-        Err(_) => unreachable!(),
-    }
-}
+use test_volumes::{FIRST_CATALOG, VTOC, dos_device, dos_volume, hello, put, put_entry};
 
 // The text of the listing of a volume.
 fn listing_of(alloc: Global, image: Vec<u8>) -> Result<String, CmdError>
     requires { vec_len image ≡ 143360 }
 {
-    let listing = catalog(alloc, &mut device_over(image))?;
+    let listing = catalog(alloc, &mut dos_device(image))?;
     let text = dos_listing_text(alloc, &listing)?;
     Ok(text)
 }
@@ -120,7 +109,7 @@ fn a_broken_header_or_chain_is_refused(rt: HostRuntime) -> Result<(), Fail> {
 fn with_failing_read(alloc: Global, image: Vec<u8>, reads: u32) -> Result<bool, Fail>
     requires { vec_len image ≡ 143360 }
 {
-    let mut device = FaultDevice::new(device_over(image));
+    let mut device = FaultDevice::new(dos_device(image));
     let mut unit = [0; 256];
     for _ in 0..reads {
         device.read(272, &mut unit)?;
@@ -142,7 +131,7 @@ fn a_failing_read_is_told(rt: HostRuntime) -> Result<(), Fail> {
 fn text_of_hello<A: Allocator + Copy>(alloc: A, image: Vec<u8>) -> Result<usize, CmdError>
     requires { vec_len image ≡ 143360 }
 {
-    let listing = catalog(alloc, &mut device_over(image))?;
+    let listing = catalog(alloc, &mut dos_device(image))?;
     let text = dos_listing_text(alloc, &listing)?;
     Ok(text.len())
 }
@@ -162,4 +151,38 @@ fn each_refused_block_is_memory(rt: HostRuntime) -> Result<(), Fail> {
         assert_eq!(rt; heap.asked(), before + 1);
     }
     Ok(())
+}
+
+// The text of the listing of an image.
+fn listing_in(alloc: Global, image: Image) -> Result<String, CmdError>
+    requires { IsOfDisk image }
+{
+    let mut device = ImageDevice::dos(image);
+    let listing = catalog(alloc, &mut device)?;
+    let text = dos_listing_text(alloc, &listing)?;
+    Ok(text)
+}
+
+#[test]
+fn lists_the_same_in_each_order(rt: HostRuntime) -> Result<(), Fail> {
+    for order in [Order::Dos, Order::Prodos, Order::Nibble] {
+        let plain = Image::open(hello(rt.alloc())?, Order::Dos)
+            .ok()
+            .ok_or("not taken")?;
+        let image = plain.convert(order, 254)?;
+        let text = listing_in(rt.alloc(), image)?;
+        assert_eq!(rt; text.as_str(), "DISK VOLUME 254\n*B 002 HELLO\nFREE 494\n");
+    }
+    Ok(())
+}
+
+#[test]
+fn an_unreadable_vtoc_is_a_failure_of_the_device(rt: HostRuntime) -> Result<(), Fail> {
+    let bytes = vec![in rt.alloc(); 0xff; NIBBLE_BYTES]?;
+    let image = Image::open(bytes, Order::Nibble).ok().ok_or("not taken")?;
+    if image.blocks() == 280 {
+        assert_eq!(rt; listing_in(rt.alloc(), image).err(), Some(CmdError::Device));
+        return Ok(());
+    }
+    Err("another number of blocks".into())
 }

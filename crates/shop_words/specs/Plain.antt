@@ -68,17 +68,20 @@ pub record IsPlainLine (f : FormView) (positionals : List Text) (uses : List Use
   pub plain : AllPass is_plain_word positionals
   pub known : All (IsUseOf f.parameters) uses
   pub once : IsDistinct bytes_eq (map use_name uses)
-  pub complete : All (λ p. is_needed p.kind ≡ true → Contains (map use_name uses) p.name) f.parameters
+  pub complete :
+      All (λ p. is_needed p.kind ≡ true → Contains (map use_name uses) p.name) f.parameters
 
 -- the list that is printed from them
 abbrev pub line_words : FormView → List Text → List Use → List Text
 line_words f positionals uses = f.name ∷ (positionals ++ all_use_words uses)
 
 -- the list is a plain one, of a form in the table
-pub record IsLine (list : List Text) (f : FormView) (positionals : List Text) (uses : List Use) : Type 0 where
+pub record IsLine (list : List Text) (f : FormView) (positionals : List Text) (uses : List Use)
+    : Type 0 where
   pub form : Contains forms f
   pub plain : IsPlainLine f positionals uses
   pub printed : list ≡ line_words f positionals uses
 
 abbrev pub IsPlain : List Text → Type 0
-IsPlain list = (list ≡ []) ⊎ ((f : FormView) × (positionals : List Text) × (uses : List Use) × IsLine list f positionals uses)
+IsPlain list = (list ≡ [])
+    ⊎ ((f : FormView) × (positionals : List Text) × (uses : List Use) × IsLine list f positionals uses)

@@ -3,7 +3,7 @@
 //!
 //! The model. A command has a *form*: its name, and its parameters in order (`Form`). The forms
 //! stand in one table, from which `clap`'s commands are built, so a new command is a new row, a new
-//! variant of `Job` and its arm in `job_in`. A *plain list* is no word at all, or printed from a
+//! variant of `Job` and its arm in `command_job`. A *plain list* is no word at all, or printed from a
 //! form: the command's name, its positional words, then its flags and options in any order, each
 //! option as `--name` and its value apart. With no word the job is that of
 //! `catalog --fs dos --order dos -`.

@@ -91,7 +91,8 @@ fn command_job(
 
 /// The job; `None` where the words are not those of their command.
 pub fn job_in(alloc: Global, matches: &ArgMatches<'_>) -> Result<Option<Job>, AllocError>
-    ensures { IfOk result (λ job. option_map job_view job ≡ found_job (subcommand_rows_of matches.now)) }
+    ensures { IfOk result (λ job. option_map job_view job
+        ≡ found_job (subcommand_rows_of matches.now)) }
 {
     match matches.subcommand() {
         Some((command, inner)) => command_job(alloc, command, inner),

@@ -1,5 +1,6 @@
 //! What the words of a command line ask for.
-ghost use Rattle.std.specs.Prelude.{◌≡◌, [], IfErr, IfOk, IsSome, List, map, Some, string_bytes, true};
+ghost use Rattle.std.specs.Prelude.{◌≡◌, [], IfErr, IfOk, IsSome, List, map, Some};
+ghost use Rattle.std.specs.Prelude.{string_bytes, true};
 ghost use Rattle.clap.specs.Simple.{subcommand_of};
 ghost use Rattle.clap.specs.Takes.{takes};
 ghost use Rattle.shop_words.specs.Table.{FormView, Text};
@@ -53,13 +54,16 @@ fn job_of(alloc: Global, words: &[String]) -> Result<Job, WordsFault>
 /// for. A plain list is never refused. Beyond the plain lists, words are taken as `clap` takes
 /// them: `--name=value`, and options before positional words.
 pub fn parse_words(alloc: Global, words: &[String]) -> Result<Job, WordsFault>
-    ensures job { IfOk result (λ job. asked_job (map string_bytes words.now) ≡ Some (job_view job)) }
+    ensures job { IfOk result (λ job.
+        asked_job (map string_bytes words.now) ≡ Some (job_view job)) }
 
     // words that clap takes and that have a job are refused for want of memory alone
-    ensures taken { IsTaken (map string_bytes words.now) → IfErr result (λ e. e ≡ WordsFault.Memory) }
+    ensures taken { IsTaken (map string_bytes words.now)
+        → IfErr result (λ e. e ≡ WordsFault.Memory) }
 
     // so is a plain list
-    ensures plain { IsPlain (map string_bytes words.now) → IfErr result (λ e. e ≡ WordsFault.Memory) }
+    ensures plain { IsPlain (map string_bytes words.now)
+        → IfErr result (λ e. e ≡ WordsFault.Memory) }
 
     // and its job is what its form says of its words
     ensures line { (f : FormView) → (positionals : List Text) → (uses : List Use)

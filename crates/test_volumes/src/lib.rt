@@ -3,9 +3,11 @@
 //! Each is the bytes of an image: in DOS order, 35 tracks of 16 sectors of 256 bytes. What is not named is 0.
 #![tactic(auto)]
 
-ghost use Rattle.std.specs.Prelude.{◌≡◌, ◌+◌, ◌*◌, ◌<◌, ◌≤◌, length, take, drop, slice_range, vec_len, IfOk};
+ghost use Rattle.std.specs.Prelude.{◌≡◌, ◌+◌, ◌*◌, ◌<◌, ◌≤◌, length, take, drop, slice_range, vec_len, IfOk, IsTrue};
 
-use std::alloc::{AllocError, Allocator};
+use a2_device::{Device, ImageDevice};
+use a2_image::{Image, Order};
+use std::alloc::{AllocError, Allocator, Global};
 
 /// The bytes of a disk's image.
 pub const IMAGE_BYTES: usize = 143_360;
@@ -115,4 +117,17 @@ pub fn hello<A: Allocator>(alloc: A) -> Result<Vec<u8, A>, AllocError>
         &[0x00, 0x03, 0x03, 0x00, 0xa9, 0x00, 0x60],
     );
     Ok(image)
+}
+
+/// The device over a volume in DOS order.
+pub fn dos_device(image: Vec<u8>) -> ImageDevice
+    requires { vec_len image ≡ 143360 }
+    ensures unit { (⟦<ImageDevice<Global> as Device>⟧.state result).unit_size ≡ 256 }
+    ensures places { (⟦<ImageDevice<Global> as Device>⟧.state result).places ≡ 560 }
+    ensures honest { IsTrue (⟦<ImageDevice<Global> as Device>⟧.state result).honest }
+{
+    match Image::open(image, Order::Dos) {
+        Ok(image) => ImageDevice::dos(image),
+        Err(_) => unreachable!(),
+    }
 }

@@ -15,4 +15,4 @@ pub returns-clause-listed : goal.returns-clause-listed
 returns-clause-listed g c = λ honest.
     catalog_shown (g.D.Device.state c.args.device.now) (g.D.Device.state c.read_vtoc.new.device) (c.in_ok-vtoc.ensures.device.kept honest refl) honest
     c.in_ok-vtoc.vtoc (c.in_ok-vtoc.ensures.value honest) (sectors_of_catalog c.in_ok-catalog.catalog) (entries_of_catalog c.in_ok-catalog.catalog)
-    c.in_ok-listing.listing c.in_ok-catalog.ensures.listed c.in_ok-listing.ensures
+    c.in_ok-listing.listing (λ still is. let found = c.in_ok-catalog.ensures.listed still is in (found.0, found.1)) c.in_ok-listing.ensures

@@ -1,12 +1,12 @@
 use Rattle.std.proofs.Common.{rules, ◌≡◌, ◌∙◌, ◌/◌, ap, sym, Some}
 use Rattle.std.specs.Prelude.{unwrap_or}
-use Rattle.a2_image.specs.Image.{sectors, sector_in, content_or_zeros, zeros}
+use Rattle.a2_image.specs.Image.{sector_in, content_or_zeros, zeros}
 use Rattle.a2_device.specs.ImageDevice.{unit_at-dos_units}
 use Rattle.a2_device.proofs.image.ImageDeviceDevice.read.Goals as goal
 
 pub returns-clause-read : goal.returns-clause-read
 returns-clause-read g c = λ _.
-    let all = sectors c.args.self.now.image in
+    let all = c.args.self.now.image.sectors in
     let at = c.dos_sector-track.result in
     let content : sector_in all at.0 at.1 ≡ Some c.sector.new.content = search rules in
     c.copy_from_slice.ensures.after

@@ -1,7 +1,5 @@
-use Rattle.std.proofs.Common.{◌∙◌, ap, sym, length}
-use Rattle.a2_image.specs.Image.{DiskImage}
-use Rattle.a2_image.proofs.Sectors.{IsDisk-sectors}
+use Rattle.a2_image.proofs.ImageLemmas.{image_holds}
 use Rattle.a2_image.proofs.image.Image.order.Goals as goal
 
-pub returns-clause-disk : goal.returns-clause-disk
-returns-clause-disk g c = IsDisk-sectors c.args.self.now (ap (λ (i : DiskImage). length i.bytes) (sym c.self.view_is) ∙ c.self.invariant)
+pub returns-clause-holds : goal.returns-clause-holds
+returns-clause-holds g c = image_holds c.args.self.now c.self.inside.order c.self.inside.bytes.items c.self.inside.fields.items c.self.view_is c.self.invariant

@@ -5,7 +5,7 @@ use Rattle.a2_device.specs.declared.fault.Fault.TheVariants.{CatalogLink}
 use Rattle.dos_catalog.specs.Catalog.{HasBadLink, IsCatalog, CatalogFaultAt}
 use Rattle.dos_catalog.specs.Chain.{no_catalog}
 use Rattle.dos_catalog.specs.Walk.{IsTable}
-use Rattle.dos_catalog.proofs.Sectors.{marked, tabled, walked_on, bad_link}
+use Rattle.dos_catalog.proofs.Sectors.{marked, tabled, walked_on, bad_link, free_on}
 use Rattle.a2_device.specs.Reading.{then_reads}
 use Rattle.dos_catalog.proofs.catalog.Catalog.walk.Goals as goal
 
@@ -42,4 +42,10 @@ loop-unit-preserved g c =
           let unit : c.read.new.unit ≡ unit_at start.store next = subst (λ (d : DeviceState). c.read.new.unit ≡ unit_at d.store next) same (c.in_ok-read.ensures.unit still) in
           walked_on start.store now.catalog.sectors.items c.read.new.self.sectors.items now.catalog.entries.items c.read.new.self.entries.items now.holder now.unit c.read.new.unit next
           (now.invariant.walking honest is) link.0 link.1 c.in_ok-read.ensures.sectors c.in_ok-read.ensures.entries unit;
+      free = λ honest is.
+          let still = subst IsTrue (sym now.invariant.device.same.honest) honest in
+          let same = now.invariant.device.kept honest refl in
+          let unit : c.read.new.unit ≡ unit_at start.store next = subst (λ (d : DeviceState). c.read.new.unit ≡ unit_at d.store next) same (c.in_ok-read.ensures.unit still) in
+          free_on start.store now.catalog.sectors.items c.read.new.self.sectors.items next c.read.new.unit now.catalog.free c.read.new.self.free
+          (now.invariant.free honest is) c.in_ok-read.ensures.sectors c.in_ok-read.ensures.free unit;
     }

@@ -1,6 +1,7 @@
 use Rattle.std.proofs.Common.{◌≡◌, false, length, count_by}
-use Rattle.std.specs.Prelude.{IsTrue, not}
+use Rattle.std.specs.Prelude.{IsTrue, not, slice_get}
 use Rattle.a2_device.specs.Device.{OnlyReads, unit_at}
+use Rattle.dos_catalog.specs.Entry.{free_slots_in}
 use Rattle.dos_catalog.specs.Walk.{IsTable, IsWalking}
 use Rattle.dos_catalog.proofs.catalog.Catalog.walk.Given as goal
 
@@ -13,6 +14,8 @@ invariant-loop-unit g l =
       table : IsTable l.met l.catalog.sectors.items;
       walking : IsTrue start.honest → l.fn.vtoc ≡ unit_at start.store 272
           → IsWalking start.store l.catalog.sectors.items l.catalog.entries.items l.holder l.unit;
+      free : IsTrue start.honest → l.fn.vtoc ≡ unit_at start.store 272
+          → l.catalog.free ≡ slice_get (free_slots_in start.store l.catalog.sectors.items) 0;
     }
 
 abbrev pub decreases-loop-unit : goal.decreases-loop-unit

@@ -1,0 +1,21 @@
+// Laws of images.
+ghost use Rattle.std.specs.Prelude.{◌≡◌, ◌<◌, ℕ, List, Option, Some, length};
+ghost use Rattle.a2_image.specs.Image.{DiskImage, HoldsSectors, IsImageLength, block_count};
+ghost use Rattle.a2_image.specs.Blocks.{block_in, bytes_of_block};
+
+use crate::Order;
+
+/// A law: the bytes of an image hold one list of sectors at most.
+pub fn sectors_are_one()
+    ensures { (order : Order) (bytes : List ℕ) (a b : List (Option (List ℕ)))
+        → HoldsSectors order bytes a → HoldsSectors order bytes b → a ≡ b }
+{}
+
+/// A law: block b of an image in ProDOS order is at byte 512 b, also where it is two sectors of a disk.
+pub fn prodos_blocks_lie_in_order()
+    ensures { (image : DiskImage) (block : ℕ) → image.order ≡ Order.Prodos
+        → IsImageLength image.order (length image.bytes)
+        → HoldsSectors image.order image.bytes image.sectors
+        → block < block_count image
+        → block_in image block ≡ Some (bytes_of_block image.bytes block) }
+{}

@@ -1,0 +1,33 @@
+// Sectors that are lent.
+ghost use Rattle.std.specs.Prelude.{◌≡◌, ◌↔◌, Some, IsTrue, IsSome, IfSome, length};
+ghost use Rattle.a2_image.specs.Image.{sector_in, CanLend};
+
+use crate::Image;
+use crate::order::{DISK_BLOCKS, SECTORS, TRACKS};
+use crate::plain::lent_plain;
+use std::alloc::Allocator;
+
+impl<A: Allocator> Image<A> {
+    /// The 256 bytes of a physical sector of a track, as they lie in the image. `None` in nibble order, for a track past
+    /// 34 or a sector past 15, and where the image has not 280 blocks.
+    pub fn sector_ref(&self, track: u8, sector: u8) -> Option<&[u8]>
+        ensures value { IfSome result (λ content. sector_in self.now.sectors track sector ≡ Some content.now) }
+        ensures long { IfSome result (λ content. length content.now ≡ 256) }
+        ensures some { IsSome result ↔ CanLend self.now track sector }
+    {
+        if !self.can_lend(track, sector) {
+            return None;
+        }
+        Some(lent_plain(self.stored(), self.order(), track, sector))
+    }
+
+    // Whether a sector lies in the image as it is.
+    fn can_lend(&self, track: u8, sector: u8) -> bool
+        ensures { IsTrue result ↔ CanLend self.now track sector }
+    {
+        !self.order().is_nibble()
+            && track < TRACKS
+            && sector < SECTORS
+            && self.blocks() == DISK_BLOCKS
+    }
+}

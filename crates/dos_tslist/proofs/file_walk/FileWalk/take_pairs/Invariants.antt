@@ -1,0 +1,9 @@
+use Rattle.std.proofs.Common.{◌≡◌}
+use Rattle.dos_tslist.specs.Walk.{IsPairing}
+use Rattle.dos_tslist.proofs.file_walk.FileWalk.take_pairs.Given as goal
+
+abbrev pub invariant-loop-index : goal.invariant-loop-index
+invariant-loop-index g l = record {
+  file : l.self.file ≡ l.fn.self.file;
+  pairing : IsPairing l.fn.self.file l.number l.holder l.unit l.fn.self.met l.self.met l.fn.self.parts.items l.self.parts.items l.index;
+}

@@ -1,0 +1,4 @@
+mod Bits
+mod Next
+mod Tracks
+mod Lanes

@@ -1,0 +1,12 @@
+pub mod Distinct
+pub mod Faults
+pub mod LineForms
+pub mod Repeats
+pub mod Runs
+pub mod SameSections
+pub mod Spelling
+pub mod Stops
+pub mod TextLaws
+pub mod Texts
+pub mod Walks
+pub mod Written

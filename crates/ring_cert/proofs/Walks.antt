@@ -1,0 +1,61 @@
+-- Walks along a ring, and along the moves of a plan.
+use Rattle.std.proofs.Common.{◌≡◌, ℕ, ◌+◌, ◌<◌, ◌≤◌, ◌↔◌, List, length, get_or, map, take, true, false, Result, Ok, Err, OnOk, IsOk, is_err, arith, refl, sym, ap, ◌∙◌, subst, zero-add}
+use Rattle.std.specs.List.{range_with_len}
+use Rattle.std.proofs.lemmas.List.{get_or_default, get_or-map, length-map, same_lists, take_more}
+use Rattle.std.proofs.lemmas.List.FromFn.{length-range_with_len, get_or-range_with_len}
+use Rattle.std.proofs.lemmas.Bool.{both_ways}
+use Rattle.part_layout.specs.declared.moves.Move.{Move}
+use Rattle.part_layout.specs.declared.moves.MoveError.{MoveError}
+use Rattle.part_layout.specs.Layouts.{Placement, AreDistinct, IsTarget}
+use Rattle.part_layout.specs.Plans.{IsLegal, IsPlan, after, moved}
+use Rattle.part_layout.specs.Rings.{IsRing, turned}
+use Rattle.part_layout.proofs.RingLemmas.{length_turned}
+use Rattle.part_layout.proofs.PlanLemmas.{IsPlan-push, after-push}
+
+-- the first i parts of a ring stand at the places of those that follow them
+pub record FollowsTo (at ring : List ℕ) (i : ℕ) : Type 0 where
+  pub parts : (j : ℕ) → j < i → get_or ring j 0 < length at
+  pub turns : (j : ℕ) → j < i → get_or at (get_or ring j 0) 0 ≡ get_or (turned ring) j 0
+
+pub IsRing-from : (at ring : List ℕ) → 2 ≤ length ring → AreDistinct ring → FollowsTo at ring (length ring) → IsRing at ring
+IsRing-from at ring long distinct follows =
+    record {
+      long = long;
+      distinct = distinct;
+      parts = λ i d h. subst (λ k. k < length at) (get_or_default ring i 0 d h) (follows.parts i h);
+      turns = same_lists (map (λ k. get_or at k 0) ring) (turned ring) (length-map ring (λ k. get_or at k 0) ∙ sym (length_turned ring))
+          (λ i d h.
+          let lt : i < length ring = rw length-map at h in
+          let in_turned : i < length (turned ring) = omega (arith, length_turned ring) in
+          get_or-map (λ k. get_or at k 0) ring i 0 d lt ∙ (follows.turns i lt ∙ get_or_default (turned ring) i 0 d in_turned));
+    }
+
+-- a layout in which each part is at home is the target
+pub IsTarget-from : (at : List ℕ) → ((k : ℕ) → k < length at → get_or at k 0 ≡ k) → IsTarget at
+IsTarget-from at home =
+    same_lists at (range_with_len 0 (length at)) (sym (length-range_with_len 0 (length at)))
+    (λ k d h. get_or_default at k d 0 h ∙ (home k h ∙ sym (get_or-range_with_len 0 (length at) k d h ∙ zero-add k)))
+
+-- the layout after the first i moves
+pub record ReachesTo (start now : Placement) (moves : List Move) (i : ℕ) : Type 0 where
+  pub legal : IsPlan start.at start.places (take i moves)
+  pub reached : now.at ≡ after start.at (take i moves)
+  pub places : now.places ≡ start.places
+
+-- one more move, where it could be made
+pub ReachesTo-more :
+    (start now new : Placement) (moves : List Move) (i : ℕ) (d : Move) (made : Result (Unit {0}) MoveError)
+    → i < length moves → ReachesTo start now moves i → is_err made ≡ false
+    → OnOk made (new ≡ record { at = moved now.at (get_or moves i d); places = now.places })
+    → IsOk made ↔ IsLegal now.at now.places (get_or moves i d)
+    → ReachesTo start new moves (i + 1)
+ReachesTo-more start now new moves i d (Ok x) within before fine is legal =
+    let m = get_or moves i d in
+    let more = take_more moves i d within in
+    let can : IsLegal (after start.at (take i moves)) start.places m = subst (λ p. IsLegal (after start.at (take i moves)) p m) before.places (subst (λ at. IsLegal at now.places m) before.reached (legal.0 refl)) in
+    record {
+      legal = subst (IsPlan start.at start.places) (sym more) (IsPlan-push start.at start.places (take i moves) m before.legal can);
+      reached = ap (λ p. p.at) is ∙ (ap (λ at. moved at m) before.reached ∙ (sym (after-push start.at (take i moves) m) ∙ ap (after start.at) (sym more)));
+      places = ap (λ p. p.places) is ∙ before.places;
+    }
+ReachesTo-more start now new moves i d (Err e) within before fine is legal = absurd (both_ways true fine refl)
