@@ -89,4 +89,6 @@ fn misplaced_parts<A: Allocator>(alloc: A, at: &[u32]) -> Result<Vec<u32, A>, Al
 }
 
 #[cfg(test)]
+mod search;
+#[cfg(test)]
 mod tests;
