@@ -3,7 +3,7 @@
 use std::fmt::Write;
 use std::time::{Duration, Instant};
 
-const SIZES: [u32; 2] = [65_000, 650_000];
+const SIZES: [u32; 3] = [6_500, 65_000, 650_000];
 const RUNS: u32 = 10;
 
 #[derive(Clone, Copy)]
