@@ -1,4 +1,4 @@
-ghost use Rattle.std.specs.Prelude.{◌≡◌, vec_len};
+ghost use Rattle.std.specs.Prelude.{◌≡◌, length, vec_len};
 ghost use Rattle.a2_image.specs.Image.{IsOfDisk};
 
 use super::*;
@@ -25,54 +25,38 @@ fn lists_one_file(rt: HostRuntime) -> Result<(), Fail> {
     Ok(())
 }
 
+// Entries in the first sector of the catalog, two of them free.
+fn fill_first_sector(image: &mut [u8])
+    requires { length image.old ≡ 143360 }
+    ensures { length image.new ≡ 143360 }
+{
+    put_entry(image, FIRST_CATALOG, 0, [3, 15], 0x00, b"TEXT", 1);
+    put_entry(image, FIRST_CATALOG, 1, [3, 15], 0x81, b"INTEGER", 2);
+    put_entry(image, FIRST_CATALOG, 2, [0xff, 15], 0x00, b"DELETED", 3);
+    put_entry(image, FIRST_CATALOG, 3, [0, 15], 0x00, b"NEVER USED", 3);
+    put_entry(image, FIRST_CATALOG, 4, [3, 15], 0x02, b"APPLESOFT", 99);
+    put_entry(image, FIRST_CATALOG, 5, [3, 15], 0x04, b"BINARY", 100);
+    put_entry(image, FIRST_CATALOG, 6, [3, 15], 0x08, b"S", 0);
+}
+
+// Entries in the second sector of the catalog, one slot of it free.
+fn fill_second_sector(image: &mut [u8])
+    requires { length image.old ≡ 143360 }
+    ensures { length image.new ≡ 143360 }
+{
+    put_entry(image, 286, 0, [3, 15], 0x10, b"RELOCATABLE", 7);
+    put_entry(image, 286, 1, [3, 15], 0x20, b"SECOND A", 7);
+    put_entry(image, 286, 2, [3, 15], 0x40, b"SECOND B", 7);
+    put_entry(image, 286, 3, [3, 15], 0x84, b" LED BY A SPACE", 7);
+    put_entry(image, 286, 5, [3, 15], 0xc0, b"BELL\x07 AND DELETE\x7f", 7);
+    put_entry(image, 286, 6, [3, 15], 0x03, b"", 7);
+}
+
 #[test]
 fn lists_each_kind_and_passes_over_free_entries(rt: HostRuntime) -> Result<(), Fail> {
     let mut image = dos_volume(rt.alloc(), [0xff, 0xff])?;
-    put_entry(&mut image, FIRST_CATALOG, 0, [3, 15], 0x00, b"TEXT", 1);
-    put_entry(&mut image, FIRST_CATALOG, 1, [3, 15], 0x81, b"INTEGER", 2);
-    put_entry(
-        &mut image,
-        FIRST_CATALOG,
-        2,
-        [0xff, 15],
-        0x00,
-        b"DELETED",
-        3,
-    );
-    put_entry(
-        &mut image,
-        FIRST_CATALOG,
-        3,
-        [0, 15],
-        0x00,
-        b"NEVER USED",
-        3,
-    );
-    put_entry(
-        &mut image,
-        FIRST_CATALOG,
-        4,
-        [3, 15],
-        0x02,
-        b"APPLESOFT",
-        99,
-    );
-    put_entry(&mut image, FIRST_CATALOG, 5, [3, 15], 0x04, b"BINARY", 100);
-    put_entry(&mut image, FIRST_CATALOG, 6, [3, 15], 0x08, b"S", 0);
-    put_entry(&mut image, 286, 0, [3, 15], 0x10, b"RELOCATABLE", 7);
-    put_entry(&mut image, 286, 1, [3, 15], 0x20, b"SECOND A", 7);
-    put_entry(&mut image, 286, 2, [3, 15], 0x40, b"SECOND B", 7);
-    put_entry(&mut image, 286, 3, [3, 15], 0x84, b" LED BY A SPACE", 7);
-    put_entry(
-        &mut image,
-        286,
-        5,
-        [3, 15],
-        0xc0,
-        b"BELL\x07 AND DELETE\x7f",
-        7,
-    );
-    put_entry(&mut image, 286, 6, [3, 15], 0x03, b"", 7);
+    fill_first_sector(&mut image);
+    fill_second_sector(&mut image);
     let text = listing_of(rt.alloc(), image)?;
     let lines =
         "DISK VOLUME 254\n T 001 TEXT\n*I 002 INTEGER\n A 099 APPLESOFT\n B 100 BINARY\n S 000 S\n R 007 RELOCATABLE\n a 007 SECOND A\n b 007 SECOND B\n*B 007  LED BY A SPACE\n*b 007 BELL? AND DELETE?\n ? 007 \nFREE 496\n";

@@ -116,7 +116,7 @@ fn options_stand_in_any_order(rt: HostRuntime) -> Result<(), Fail> {
 }
 
 #[test]
-fn other_words_are_refused(rt: HostRuntime) {
+fn unknown_and_missing_words_are_refused(rt: HostRuntime) {
     let alloc = rt.alloc();
     refuses(
         &rt,
@@ -147,6 +147,11 @@ fn other_words_are_refused(rt: HostRuntime) {
         "<image>",
         CATALOG_USAGE,
     );
+}
+
+#[test]
+fn words_that_are_too_many_are_refused(rt: HostRuntime) {
+    let alloc = rt.alloc();
     refuses(
         &rt,
         alloc,
