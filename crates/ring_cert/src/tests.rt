@@ -122,6 +122,11 @@ fn lines_that_cannot_stand(rt: HostRuntime) -> Result<(), Fail> {
             "{line:?} as line {number}"
         );
     }
+    Ok(())
+}
+
+#[test]
+fn texts_that_end_too_soon_or_go_on(rt: HostRuntime) {
     let short = [
         (b"".as_slice(), 1),
         (b"A2CERT 1", 1),
@@ -135,7 +140,6 @@ fn lines_that_cannot_stand(rt: HostRuntime) -> Result<(), Fail> {
             Some(CertError::Syntax(fault))
         );
     }
-    Ok(())
 }
 
 #[test]
@@ -162,6 +166,11 @@ fn good_and_refused(rt: HostRuntime) -> Result<(), Fail> {
             "{line:?} as line {number}"
         );
     }
+    Ok(())
+}
+
+#[test]
+fn plans_that_end_elsewhere_and_bounds_that_do_not_add_up(rt: HostRuntime) -> Result<(), Fail> {
     let elsewhere = text_of(
         &rt,
         &[
