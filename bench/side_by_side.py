@@ -13,7 +13,7 @@ if __name__ == "__main__":
     proved, plain = times(sys.argv[1]), times(sys.argv[2])
     for (work, size), time in proved.items():
         beside = plain[work, size]
-        print(f"{work} of {size} parts: {time / 1e6:.2f} ms, plain Rust {beside / 1e6:.2f} ms, ratio {time / beside:.2f}")
+        print(f"{work} of {size}: {time / 1e6:.2f} ms, plain Rust {beside / 1e6:.2f} ms, ratio {time / beside:.2f}")
         tenth = proved.get((work, size // 10))
         if tenth:
-            print(f"  ten times the parts: {time / tenth:.1f} times the time")
+            print(f"  ten times as many: {time / tenth:.1f} times the time")

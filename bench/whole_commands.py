@@ -4,11 +4,13 @@
 import os
 import statistics
 import subprocess
+import tempfile
 import time
 
 RUNS = 400
 PROGRAM = "../a2shop"
 IMAGE = "../samples/hello.dsk"
+TRACKS = "../samples/hello.nib"
 
 
 def run(words):
@@ -42,3 +44,8 @@ def side_by_side(name, words, plain):
 
 if __name__ == "__main__":
     side_by_side("catalog", [PROGRAM, "catalog", IMAGE, "--fs", "dos", "--order", "dos"], ["cat", IMAGE])
+    with tempfile.TemporaryDirectory() as folder:
+        for order, image in [("nibble", IMAGE), ("dos", TRACKS)]:
+            given = "dos" if order == "nibble" else "nibble"
+            words = ["convert", image, "--order", given, "--to", order, "--out", f"{folder}/converted"]
+            side_by_side(f"convert to {order} order", [PROGRAM, *words], ["cp", image, f"{folder}/copied"])

@@ -1,1 +1,5 @@
-pub mod Written
+pub mod Results
+pub mod Stored
+pub mod Images
+pub mod Ordered
+pub mod Failed

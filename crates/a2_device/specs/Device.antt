@@ -1,20 +1,32 @@
 -- What the calls of a device do, as contracts see it.
-use Rattle.std.specs.Prelude.{◌≡◌, ◌==◌, ◌<◌, ℕ, ◌+◌, Bool, if◌then◌else◌, List, [], ◌∷◌, length, slice_index_or, slice_set, Option, Some, None, Result, Err, is_err, IsTrue, IsFalse}
+use Rattle.std.specs.Prelude.{◌≡◌, ◌==◌, ◌<◌, ◌⊎◌, ℕ, ◌+◌, ◌-◌, Bool, if◌then◌else◌, List, [], ◌∷◌, Contains, length, slice_index_or, slice_set, Option, Some, None, Result, Err, is_err, IsTrue, IsFalse}
+use Rattle.a2_image.specs.declared.order.Order.{Order}
 use Rattle.a2_device.specs.declared.device.DeviceError.{DeviceError}
 use Rattle.a2_device.specs.declared.device.DeviceError.TheVariants.{Spent}
 
--- A device: how many places it has, the size of a unit, the two counts that it tells, whether it is honest; and
--- the units that it would answer now, the failures that may still come (`None` is no bound; for a write, whether
--- the new unit stands), and how many writes stand. What a call does to the last four is known of an honest device alone.
+-- the image that the units of a device lie in: the order of its sectors, and how many bytes it has
+pub record ImageForm : Type 0 where
+  pub order : Order
+  pub bytes : ℕ
+
+-- A device: how many places it has, the size of a unit, the image that its units lie in, if any, the two counts
+-- that it tells, whether it is honest; and the units that it would answer now, the places that can't be read, the
+-- failures that may still come (`None` is no bound; for a write, whether the new unit stands), how many writes it will
+-- still pass on (`None` is no limit; each is passed on or refused, and a refused one leaves the old unit), and how many
+-- writes stand. What a call does to the last six is known of an honest device alone, but that none changes the places
+-- that can't be read.
 pub record DeviceState : Type 0 where
   pub places : ℕ
   pub unit_size : ℕ
+  pub image : Option ImageForm
   pub writes : ℕ
   pub faults : ℕ
   pub honest : Bool
   pub store : List (List ℕ)
+  pub unreadable : List ℕ
   pub read_failures : Option ℕ
   pub write_failures : Option (List Bool)
+  pub passes : Option ℕ
   pub standing : ℕ
 
 -- the unit at a place
@@ -47,7 +59,9 @@ writes_after result writes = writes + 1
 pub record IsSameDevice (old new : DeviceState) : Type 0 where
   pub places : new.places ≡ old.places
   pub unit_size : new.unit_size ≡ old.unit_size
+  pub image : new.image ≡ old.image
   pub honest : new.honest ≡ old.honest
+  pub unreadable : new.unreadable ≡ old.unreadable
 
 -- a failure to come is used, where there is a bound; else nothing is said
 abbrev pub UsesRead : Option ℕ → Option ℕ → Type 0
@@ -58,32 +72,67 @@ abbrev pub UsesWrite : Option (List Bool) → Bool → Option (List Bool) → Ty
 UsesWrite None took new = Unit {0}
 UsesWrite (Some orders) took new = (rest : List Bool) × (orders ≡ took ∷ rest) × (new ≡ Some rest)
 
--- a read that failed
-abbrev pub FailsRead : DeviceState → DeviceState → Type 0
-FailsRead old new =
+-- a read that met a failure to come
+abbrev pub MeetsReadFailure : DeviceState → DeviceState → Type 0
+MeetsReadFailure old new =
     UsesRead old.read_failures new.read_failures
     × (new ≡ record old { faults = counted old.faults; read_failures = new.read_failures })
 
--- Calls that read alone: one that told no failure of the device changes nothing, and one that did has met one.
+-- a read that failed: a failure to come was met, or the place is one that can't be read
+abbrev pub FailsRead : ℕ → DeviceState → DeviceState → Type 0
+FailsRead place old new =
+    MeetsReadFailure old new
+    ⊎ (Contains old.unreadable place × (new ≡ record old { faults = counted old.faults }))
+
+-- Calls that read alone: one that told no failure of the device changes nothing, and one that did has met one, at some
+-- place.
 pub record OnlyReads (failed : Bool) (old new : DeviceState) : Type 0 where
   pub same : IsSameDevice old new
   pub faults : new.faults ≡ (if failed then counted old.faults else old.faults)
   pub kept : IsTrue old.honest → IsFalse failed → new ≡ old
-  pub met : IsTrue old.honest → IsTrue failed → FailsRead old new
+  pub met : IsTrue old.honest → IsTrue failed → (place : ℕ) × FailsRead place old new
+
+-- the writes that will still be passed on, after one that was
+abbrev pub one_fewer : Option ℕ → Option ℕ
+one_fewer None = None
+one_fewer (Some n) = Some (n - 1)
 
 -- a write that stands
 abbrev pub written : ℕ → List ℕ → DeviceState → DeviceState
 written place unit device = record device {
   writes = device.writes + 1;
   store = slice_set device.store place unit;
+  passes = one_fewer device.passes;
   standing = device.standing + 1;
 }
 
--- a write that failed, and left the old unit or the new one
-abbrev pub FailsWrite : ℕ → List ℕ → DeviceState → DeviceState → Type 0
-FailsWrite place unit old new =
+-- a write that met a failure to come, and left the old unit or the new one; with the old one it was passed on or not
+abbrev pub MeetsWriteFailure : ℕ → List ℕ → DeviceState → DeviceState → Type 0
+MeetsWriteFailure place unit old new =
     (took : Bool) × UsesWrite old.write_failures took new.write_failures
-    × (new ≡ record (if took then written place unit old else (record old { writes = old.writes + 1 })) {
+    × ((new.passes ≡ old.passes) ⊎ (new.passes ≡ one_fewer old.passes))
+    × (new ≡ record (if took then written place unit old else (record old { writes = old.writes + 1; passes = new.passes })) {
       faults = counted old.faults;
       write_failures = new.write_failures;
     })
+
+-- No write to a place can stand: the place is one that can't be read, or no more writes are passed on.
+abbrev pub IsClosed : ℕ → DeviceState → Type 0
+IsClosed place device = Contains device.unreadable place ⊎ (device.passes ≡ Some 0)
+
+-- a write that was refused: the counts alone change
+abbrev pub refused : DeviceState → DeviceState
+refused device = record device {
+  writes = device.writes + 1;
+  faults = counted device.faults;
+  passes = one_fewer device.passes;
+}
+
+-- a write that failed: a failure to come was met, or no write to the place can stand
+abbrev pub FailsWrite : ℕ → List ℕ → DeviceState → DeviceState → Type 0
+FailsWrite place unit old new = MeetsWriteFailure place unit old new ⊎ (IsClosed place old × (new ≡ refused old))
+
+-- the units are as they were
+pub record KeepsUnits (old new : DeviceState) : Type 0 where
+  pub store : new.store ≡ old.store
+  pub standing : new.standing ≡ old.standing

@@ -1,4 +1,5 @@
 pub mod Device
+pub mod Units
 pub mod DosPlaces
 pub mod ImageDevice
 pub mod Reading

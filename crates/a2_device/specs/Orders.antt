@@ -1,6 +1,6 @@
--- A device over which failures were ordered.
+-- Devices over another one: with failures that were ordered, and with a stop.
 use Rattle.std.specs.Prelude.{ℕ, min, ◌+◌, Bool, true, false, List, [], ◌∷◌, Option, Some, None}
-use Rattle.a2_device.specs.Device.{DeviceState, last_count}
+use Rattle.a2_device.specs.Device.{DeviceState, IsSameDevice, KeepsUnits, last_count}
 
 -- one read more to fail
 abbrev pub with_read_order : Bool → Option ℕ → Option ℕ
@@ -27,3 +27,17 @@ with_orders read_order write_order writes faults device = record (counting write
   read_failures = with_read_order read_order device.read_failures;
   write_failures = with_write_order write_order device.write_failures;
 }
+
+-- the writes that a device passes on that itself passes so many on to another one
+abbrev pub at_most : ℕ → Option ℕ → Option ℕ
+at_most passes None = Some passes
+at_most passes (Some n) = Some (min passes n)
+
+-- a device that passes so many writes on to another one
+abbrev pub stopped : ℕ → ℕ → ℕ → DeviceState → DeviceState
+stopped passes writes faults device = record (counting writes faults device) { passes = at_most passes device.passes }
+
+-- two devices of the same units
+pub record HasSameUnits (outer inner : DeviceState) : Type 0 where
+  pub same : IsSameDevice outer inner
+  pub units : KeepsUnits outer inner

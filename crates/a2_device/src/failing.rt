@@ -1,11 +1,12 @@
 // A device whose next read or write fails to order.
-ghost use Rattle.std.specs.Prelude.{◌≡◌, ◌+◌, min, Some, [], ◌∷◌, IsTrue};
-ghost use Rattle.a2_device.specs.Device.{last_count, counted};
-ghost use Rattle.a2_device.specs.Orders.{with_orders};
+ghost use Rattle.std.specs.Prelude.{◌≡◌, Some, [], ◌∷◌};
+ghost use Rattle.a2_device.specs.Orders.{with_orders, HasSameUnits};
 
+use crate::counts::with_refusal;
 use crate::{Device, DeviceError};
 
-/// Passes calls on, but for the next read and the next write where they were ordered to fail.
+/// Passes calls on, but for the next read and the next write where they were ordered to fail. An order to fail a write
+/// whose new unit stands is met by the first write that the device takes.
 #[derive(Drop)]
 pub struct FaultDevice<D: Device> {
     device: D,
@@ -55,24 +56,10 @@ impl<D: Device> FaultDevice<D> {
 
     /// The device that calls were passed on to.
     pub fn into_inner(self) -> D
-        ensures store { (D.state result).store ≡ (⟦<FaultDevice<D> as Device>⟧.state self).store }
-        ensures honest { (D.state result).honest ≡ (⟦<FaultDevice<D> as Device>⟧.state self).honest }
-        ensures places { (D.state result).places ≡ (⟦<FaultDevice<D> as Device>⟧.state self).places }
-        ensures unit { (D.state result).unit_size ≡ (⟦<FaultDevice<D> as Device>⟧.state self).unit_size }
+        ensures { HasSameUnits (⟦<FaultDevice<D> as Device>⟧.state self) (D.state result) }
     {
         let FaultDevice { device, .. } = self;
         device
-    }
-}
-
-// What a wrapper counts itself, after one refusal of its own.
-fn with_refusal(inner: u64, own: u64) -> u64
-    ensures { min (inner + result) last_count ≡ counted (min (inner + own) last_count) }
-{
-    if inner.saturating_add(own) == u64::MAX {
-        own
-    } else {
-        own + 1
     }
 }
 
@@ -114,12 +101,12 @@ impl<D: Device> Device for FaultDevice<D> {
         match self.write_order {
             None => self.device.write(place, unit),
             Some(took) => {
-                self.write_order = None;
                 if took {
                     self.device.write(place, unit)?;
                 } else {
                     self.writes += 1;
                 }
+                self.write_order = None;
                 self.faults = with_refusal(self.device.faults(), self.faults);
                 Err(DeviceError::Fault)
             }

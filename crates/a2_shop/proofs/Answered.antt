@@ -1,46 +1,79 @@
 -- What was read of an image answers for the whole image, and words for their job.
-use Rattle.std.proofs.Common.{◌≡◌, ◌≢◌, ℕ, List, length, take, refl, sym, ◌∙◌, subst, ap, arith, inl, inr, ⊎_elim, length-take, take_all}
-use Rattle.std.specs.Prelude.{◌⊎◌, Option, Some, None, IfSome, string_bytes}
-use Rattle.std.specs.Io.KnownBytes.{Appends}
-use Rattle.file_cmds.specs.Catalog.{HasNoCatalog}
-use Rattle.file_cmds.specs.DosText.{IsListingText}
-use Rattle.shop_words.specs.Job.{job_view}
-use Rattle.shop_words.specs.declared.job.Job.{Job}
-use Rattle.shop_words.specs.declared.job.Job.TheVariants as jobs
+use Rattle.std.proofs.Common.{◌≡◌, ◌≢◌, ℕ, ◌+◌, List, take, subst, arith, inl, inr, ⊎_elim}
+use Rattle.std.specs.Prelude.{◌⊎◌, Option, Some, None, IfSome}
+use Rattle.a2_image.specs.declared.order.Order.{Order}
+use Rattle.shop_words.specs.Job.{JobView, catalog, convert, asked_job}
 use Rattle.shop_words.specs.declared.fault.WordsFault.{WordsFault}
 use Rattle.shop_words.specs.declared.fault.WordsFault.TheVariants as words
 use Rattle.a2_shop.specs.declared.reply.Refusal.TheVariants as refusals
+use Rattle.a2_shop.specs.declared.reply.Failure.TheVariants as failures
 use Rattle.a2_shop.specs.declared.reply.Reply.{Reply}
-use Rattle.a2_shop.specs.declared.reply.Reply.TheVariants.{Done, Refused, Failed}
-use Rattle.a2_shop.specs.Reply.{IsCatalogReply, IsReplyTo, IsAnswer, IsCommandAnswer, IsWordsAnswer, OfDosStore, status_of, text_of}
+use Rattle.a2_shop.specs.declared.reply.Reply.TheVariants.{Done, Made, Refused, Failed}
+use Rattle.a2_shop.specs.Answer.{IsReplyTo, IsAnswer, IsCommandAnswer, IsWordsAnswer, MakesImage, image_order_of}
+use Rattle.a2_shop.specs.CatalogReply.{IsCatalogReply}
+use Rattle.a2_shop.specs.ConvertReply.{IsConvertReply}
+use Rattle.a2_shop.specs.Disk.{most_bytes, order_of}
+use Rattle.a2_shop.specs.Reply.{HandsOut, Held, IsDelivered, IsMade}
+use Rattle.a2_shop.proofs.Disks.{IsDiskImage-take, OfDisk-whole}
 
--- one byte past a disk's number of them is enough to tell another length
-same_front : (image : List ℕ) → length (take 143361 image) ≡ 143360 → take 143361 image ≡ image
-same_front image long = take_all 143361 image (omega (arith, long, length-take 143361 image))
+catalog-whole : (order : Order) (image : List ℕ) (reply : Reply) → IsCatalogReply order (take (most_bytes order + 1) image) reply
+    → IsCatalogReply order image reply
+catalog-whole order image (Done text) is = OfDisk-whole order image _ is
+catalog-whole order image (Made made) is = is
+catalog-whole order image (Refused refusals.Length) is = λ long. is (IsDiskImage-take order image long)
+catalog-whole order image (Refused refusals.Check) is = OfDisk-whole order image _ is
+catalog-whole order image (Refused refusals.NoSector) is = is
+catalog-whole order image (Failed failures.Input) is = is
+catalog-whole order image (Failed failures.Device) is = OfDisk-whole order image _ is
+catalog-whole order image (Failed failures.Memory) is = is
 
-front_long : (image : List ℕ) → length image ≡ 143360 → length (take 143361 image) ≡ 143360
-front_long image long = ap length (take_all 143361 image (omega (arith, long))) ∙ long
+convert-whole : (order to : Order) (volume : ℕ) (image : List ℕ) (reply : Reply) → IsConvertReply order to volume (take (most_bytes order + 1) image) reply
+    → IsConvertReply order to volume image reply
+convert-whole order to volume image (Done text) is = is
+convert-whole order to volume image (Made made) is = OfDisk-whole order image _ is
+convert-whole order to volume image (Refused refusals.Length) is = λ long. is (IsDiskImage-take order image long)
+convert-whole order to volume image (Refused refusals.Check) is = is
+convert-whole order to volume image (Refused refusals.NoSector) is = OfDisk-whole order image _ is
+convert-whole order to volume image (Failed failures.Input) is = is
+convert-whole order to volume image (Failed failures.Device) is = is
+convert-whole order to volume image (Failed failures.Memory) is = is
 
-whole_replied : (image : List ℕ) (reply : Reply) → IsCatalogReply (take 143361 image) reply → IsCatalogReply image reply
-whole_replied image (Done text) is =
-    subst (λ bytes. (length bytes ≡ 143360) × OfDosStore bytes (λ store. IsListingText store (string_bytes text))) (same_front image is.0) is
-whole_replied image (Refused refusals.Length) is = λ long. is (front_long image long)
-whole_replied image (Refused refusals.Check) is =
-    subst (λ bytes. (length bytes ≡ 143360) × OfDosStore bytes HasNoCatalog) (same_front image is.0) is
-whole_replied image (Failed failure) is = is
+-- the bytes that are read of an image
+abbrev pub front_for : JobView → List ℕ → List ℕ
+front_for job image = take (most_bytes (image_order_of job) + 1) image
 
-reply_to : (job : Job) (image : List ℕ) (reply : Reply) → IsCatalogReply image reply → IsReplyTo (job_view job) image reply
-reply_to (jobs.Catalog path volume) image reply is = is
+reply-whole : (job : JobView) (image : List ℕ) (reply : Reply) → IsReplyTo job (front_for job image) reply → IsReplyTo job image reply
+reply-whole (catalog path volume) image reply is = catalog-whole (order_of volume.order) image reply is
+reply-whole (convert words) image reply is = convert-whole (order_of words.order) (order_of words.to) words.volume image reply is
 
-pub job_answered : (job : Job) (known : Option (List ℕ)) (read : List ℕ) (reply : Reply) (status : ℕ) (old new : Option (List ℕ))
-    → IfSome known (λ image. read ≡ take 143361 image) → IsCatalogReply read reply
-    → (status ≡ 4) ⊎ ((status ≡ status_of reply) × Appends old new (text_of reply))
-    → IfSome known (λ image. IsAnswer (job_view job) image status old new)
-job_answered job None read reply status old new front is told = tt
-job_answered job (Some image) read reply status old new front is told = ⊎_elim
-    (λ failed. inl failed)
-    (λ answer. inr (reply, reply_to job image reply (whole_replied image reply (subst (λ bytes. IsCatalogReply bytes reply) front is)), answer.0, answer.1))
-    told
+pub job_answered : (job : JobView) (known : Option (List ℕ)) (order : Order) (read : List ℕ) (reply : Reply) (status : ℕ) (old new : Held)
+    → order ≡ image_order_of job → IfSome known (λ image. read ≡ take (most_bytes order + 1) image) → IsReplyTo job read reply
+    → IsDelivered reply status old new → IfSome known (λ image. IsAnswer job image status old new)
+job_answered job None order read reply status old new same front is told = tt
+job_answered job (Some image) order read reply status old new same front is told =
+    let whole : read ≡ front_for job image = subst (λ o. read ≡ take (most_bytes o + 1) image) same front in
+    inr (reply, reply-whole job image reply (subst (λ bytes. IsReplyTo job bytes reply) whole is), told)
+
+-- only a job that makes an image has a reply with one
+makes_image : (job : JobView) (image : List ℕ) (reply : Reply) → IsReplyTo job image reply → IsMade reply → MakesImage job
+makes_image (catalog path volume) image (Done text) is made = absurd made
+makes_image (catalog path volume) image (Made bytes) is made = is
+makes_image (catalog path volume) image (Refused refusal) is made = absurd made
+makes_image (catalog path volume) image (Failed failure) is made = absurd made
+makes_image (convert words) image reply is made = tt
+
+pub image_handed : {O : Type 0} (job : JobView) (image : List ℕ) (reply : Reply) (status : ℕ) (text_old text_new : Option (List ℕ)) (old new : O)
+    → IsReplyTo job image reply → (new ≡ old) ⊎ (IsMade reply × HandsOut status text_old text_new)
+    → (new ≡ old) ⊎ (MakesImage job × HandsOut status text_old text_new)
+image_handed job image reply status text_old text_new old new is handed =
+    ⊎_elim inl (λ made. inr (makes_image job image reply is made.0, made.1)) handed
+
+-- ---- words
+
+pub command_answered : (list : List (List ℕ)) (job : JobView) (known : Option (List ℕ)) (status : ℕ) (old new : Held) → asked_job list ≡ Some job
+    → IfSome known (λ image. IsAnswer job image status old new) → IfSome known (λ image. IsCommandAnswer list image status old new)
+command_answered list job None status old new asked answer = tt
+command_answered list job (Some image) status old new asked answer = inr (inr (job, asked, answer))
 
 -- words that are no job have one of two statuses, and for want of memory only the last
 words_told : (fault : WordsFault) (status : ℕ) (old new : Option (List ℕ)) → IsWordsAnswer fault status old new → (status ≡ 2) ⊎ (status ≡ 4)
@@ -50,7 +83,7 @@ words_told words.Memory status old new told = inr told
 pub memory_told : (fault : WordsFault) (status : ℕ) (old new : Option (List ℕ)) → fault ≡ words.Memory → IsWordsAnswer fault status old new → status ≢ 2
 memory_told fault status old new is told two = let four = subst (λ f. IsWordsAnswer f status old new) is told in omega (arith, four, two)
 
-pub command_refused : (list : List (List ℕ)) (fault : WordsFault) (known : Option (List ℕ)) (status : ℕ) (old new : Option (List ℕ))
-    → IsWordsAnswer fault status old new → IfSome known (λ image. IsCommandAnswer list image status old new)
+pub command_refused : (list : List (List ℕ)) (fault : WordsFault) (known : Option (List ℕ)) (status : ℕ) (old new : Held)
+    → IsWordsAnswer fault status old.text new.text → IfSome known (λ image. IsCommandAnswer list image status old new)
 command_refused list fault None status old new told = tt
-command_refused list fault (Some image) status old new told = ⊎_elim inl (λ four. inr (inl four)) (words_told fault status old new told)
+command_refused list fault (Some image) status old new told = ⊎_elim inl (λ four. inr (inl four)) (words_told fault status old.text new.text told)

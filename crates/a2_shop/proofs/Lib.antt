@@ -1,2 +1,4 @@
+pub mod Disks
 pub mod Replies
+pub mod Converted
 pub mod Answered

@@ -1,1 +1,5 @@
+pub mod Disk
 pub mod Reply
+pub mod CatalogReply
+pub mod ConvertReply
+pub mod Answer

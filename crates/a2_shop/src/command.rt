@@ -1,10 +1,11 @@
 // Commands, from words to the text.
-ghost use Rattle.std.specs.Prelude.{◌≡◌, ◌≢◌, IfSome, map, string_bytes};
+ghost use Rattle.std.specs.Prelude.{◌≡◌, ◌≢◌, ◌⊎◌, IfSome, map, string_bytes};
 ghost use Rattle.shop_words.specs.Plain.{IsPlain};
-ghost use Rattle.a2_shop.specs.Reply.{IsCommandAnswer, IsWordsAnswer};
+ghost use Rattle.a2_shop.specs.Answer.{CommandHandsOut, IsCommandAnswer, IsWordsAnswer};
+ghost use Rattle.a2_shop.specs.Reply.{held};
 
 use crate::job::run_job;
-use crate::reply::{Failure, Reply, tell_text};
+use crate::reply::{Failure, Reply, written};
 use shop_words::{WordsFault, parse_words};
 use std::alloc::Global;
 use std::io::{Read, Write};
@@ -17,7 +18,7 @@ pub fn tell_words_fault<T: Write>(fault: &WordsFault, text: &mut T) -> u8
     ensures { IsWordsAnswer fault.now result (T.contents text.old) (T.contents text.new) }
 {
     match fault {
-        WordsFault::Refused(refusal) => tell_text(refusal.as_bytes(), WORDS_REFUSED, text),
+        WordsFault::Refused(refusal) => written(refusal.as_bytes(), WORDS_REFUSED, text),
         WordsFault::Memory => Reply::Failed(Failure::Memory).tell(text),
     }
 }
@@ -33,9 +34,9 @@ pub fn run_command<I: Read, E: Read, T: Write, O: Write>(
 ) -> u8
     ensures plain { IsPlain (map string_bytes words.now) → result ≢ WORDS_REFUSED }
     ensures answer { IfSome (I.remaining image.old) (λ bytes.
-        IsCommandAnswer (map string_bytes words.now) bytes result (T.contents text.old) (T.contents text.new)) }
+        IsCommandAnswer (map string_bytes words.now) bytes result (held (T.contents text.old) (O.contents out.old)) (held (T.contents text.new) (O.contents out.new))) }
     ensures extra { extra.new ≡ extra.old }
-    ensures out { out.new ≡ out.old }
+    ensures out { (out.new ≡ out.old) ⊎ CommandHandsOut (map string_bytes words.now) result (T.contents text.old) (T.contents text.new) }
 {
     match parse_words(alloc, words) {
         Ok(job) => run_job(alloc, &job, image, extra, text, out),

@@ -1,36 +1,59 @@
-// Jobs, from an image's reader to the text.
-ghost use Rattle.std.specs.Prelude.{◌≡◌, IfSome};
+// Jobs, from an image's reader to the text and the output file.
+ghost use Rattle.std.specs.Prelude.{◌≡◌, ◌⊎◌, IfSome};
 ghost use Rattle.shop_words.specs.Job.{job_view};
-ghost use Rattle.a2_shop.specs.Reply.{IsAnswer, IsStatus};
+ghost use Rattle.a2_shop.specs.Reply.{HandsOut, held};
+ghost use Rattle.a2_shop.specs.Answer.{IsAnswer, IsReplyTo, IsStatus, MakesImage, image_order_of};
 
+use crate::convert::convert_reply;
+use crate::disk::order_of;
 use crate::input::read_image;
 use crate::listing::catalog_reply;
 use crate::reply::Reply;
+use a2_image::Order;
 use shop_words::Job;
 use std::alloc::Global;
 use std::io::{Read, Write};
 
-/// Does a job on the image of a reader, and tells it: 0 done, 3 refused, 4 where a reader, a writer or memory fails.
+// The order of the image that a job names.
+fn image_order(job: &Job) -> Order
+    ensures { result ≡ image_order_of (job_view job.now) }
+{
+    match job {
+        Job::Catalog { volume, .. } => order_of(volume.order),
+        Job::Convert { order, .. } => order_of(*order),
+    }
+}
+
+// The reply to a job on the bytes of its image.
+fn reply_to(alloc: Global, job: &Job, image: Vec<u8>) -> Reply
+    ensures { IsReplyTo (job_view job.now) image.items result }
+{
+    let order = image_order(job);
+    match job {
+        Job::Catalog { .. } => catalog_reply(alloc, image, order),
+        Job::Convert { to, volume, .. } => convert_reply(image, order, order_of(*to), *volume),
+    }
+}
+
+/// Does a job on the image of a reader, tells it and hands the image that it makes to `out`: 0 done, 3 refused, 4 where a
+/// reader, a writer or memory fails.
 pub fn run_job<I: Read, E: Read, T: Write, O: Write>(
     alloc: Global,
     job: &Job,
     image: &mut I,
     _extra: &mut E,
     text: &mut T,
-    _out: &mut O,
+    out: &mut O,
 ) -> u8
     ensures status { IsStatus result }
     ensures answer { IfSome (I.remaining image.old) (λ bytes.
-        IsAnswer (job_view job.now) bytes result (T.contents text.old) (T.contents text.new)) }
+        IsAnswer (job_view job.now) bytes result (held (T.contents text.old) (O.contents out.old)) (held (T.contents text.new) (O.contents out.new))) }
     ensures extra { _extra.new ≡ _extra.old }
-    ensures out { _out.new ≡ _out.old }
+    ensures out { (out.new ≡ out.old) ⊎ (MakesImage (job_view job.now) × HandsOut result (T.contents text.old) (T.contents text.new)) }
 {
-    let bytes = match read_image(alloc, image) {
+    let bytes = match read_image(alloc, image, image_order(job)) {
         Ok(bytes) => bytes,
         Err(failure) => return Reply::Failed(failure).tell(text),
     };
-    let reply = match job {
-        Job::Catalog { .. } => catalog_reply(alloc, bytes),
-    };
-    reply.tell(text)
+    reply_to(alloc, job, bytes).deliver(text, out)
 }

@@ -1,10 +1,12 @@
 // The job that lists the files of a volume.
 ghost use Rattle.std.specs.Prelude.{◌≡◌};
-ghost use Rattle.a2_shop.specs.Reply.{IsCatalogReply, IsListingReply, reply_to_image, reply_to_refusal};
+ghost use Rattle.a2_shop.specs.CatalogReply.{IsCatalogReply, IsListingReply};
+ghost use Rattle.a2_shop.specs.Reply.{reply_to_refusal};
 
+use crate::disk::open_disk;
 use crate::reply::{Failure, Refusal, Reply};
 use a2_device::ImageDevice;
-use a2_image::{Image, ImageError, Order};
+use a2_image::Order;
 use file_cmds::{CmdError, Listing, catalog, dos_listing_text};
 use std::alloc::Global;
 
@@ -20,17 +22,6 @@ impl From<CmdError> for Reply {
     }
 }
 
-impl From<ImageError> for Reply {
-    ghost from_gives = { λ error reply. reply ≡ reply_to_image error };
-
-    fn from(error: ImageError) -> Reply {
-        match error {
-            ImageError::Memory => Reply::Failed(Failure::Memory),
-            _ => Reply::Refused(Refusal::Length),
-        }
-    }
-}
-
 // The text of a listing.
 fn listing_reply(alloc: Global, listing: &Listing) -> Reply
     ensures { IsListingReply listing.now result }
@@ -41,13 +32,13 @@ fn listing_reply(alloc: Global, listing: &Listing) -> Reply
     }
 }
 
-/// The listing of the DOS 3.3 volume in an image in DOS order.
-pub fn catalog_reply(alloc: Global, image: Vec<u8>) -> Reply
-    ensures { IsCatalogReply image.items result }
+/// The listing of the DOS 3.3 volume in an image in this order.
+pub fn catalog_reply(alloc: Global, image: Vec<u8>, order: Order) -> Reply
+    ensures { IsCatalogReply order image.items result }
 {
-    let image = match Image::open(image, Order::Dos) {
+    let image = match open_disk(image, order) {
         Ok(image) => image,
-        Err((error, _)) => return Reply::from(error),
+        Err(error) => return Reply::from(error),
     };
     let mut device = ImageDevice::dos(image);
     match catalog(alloc, &mut device) {

@@ -1,7 +1,7 @@
 // What a job answers, and how it is told.
 ghost use Rattle.std.specs.Prelude.{◌≡◌, ◌⊎◌};
 ghost use Rattle.std.specs.Io.KnownBytes.{Appends};
-ghost use Rattle.a2_shop.specs.Reply.{status_of, text_of, refusal_line, failure_line};
+ghost use Rattle.a2_shop.specs.Reply.{HandsOut, IsDelivered, IsMade, held, status_of, text_of, refusal_line, failure_line};
 
 use std::io::Write;
 
@@ -12,6 +12,8 @@ pub enum Refusal {
     Length,
     /// The volume has a fault.
     Check,
+    /// A track of the image lacks a sector.
+    NoSector,
 }
 
 /// What failed under a job.
@@ -29,6 +31,8 @@ pub enum Failure {
 pub enum Reply {
     /// The text of a job that is done.
     Done(String),
+    /// The image that a job has made, for the output file.
+    Made(Vec<u8>),
     Refused(Refusal),
     Failed(Failure),
 }
@@ -40,6 +44,7 @@ impl Refusal {
         match self {
             Refusal::Length => b"REFUSED Length\n",
             Refusal::Check => b"REFUSED Check\n",
+            Refusal::NoSector => b"REFUSED NoSector\n",
         }
     }
 }
@@ -64,7 +69,7 @@ impl Reply {
         ensures { result ≡ status_of self.now }
     {
         match self {
-            Reply::Done(_) => 0,
+            Reply::Done(_) | Reply::Made(_) => 0,
             Reply::Refused(_) => 3,
             Reply::Failed(_) => FAILED,
         }
@@ -75,6 +80,7 @@ impl Reply {
     {
         match self {
             Reply::Done(text) => text.as_bytes(),
+            Reply::Made(_) => b"OK\n",
             Reply::Refused(refusal) => refusal.line(),
             Reply::Failed(failure) => failure.line(),
         }
@@ -85,18 +91,31 @@ impl Reply {
         ensures { (result ≡ FAILED)
             ⊎ ((result ≡ status_of self.now) × Appends (T.contents text.old) (T.contents text.new) (text_of self.now)) }
     {
-        tell_text(self.text(), self.status(), text)
+        written(self.text(), self.status(), text)
+    }
+
+    /// Writes the text of a reply, then hands its image to the output file's writer, and answers its status, 4 where a
+    /// writer fails. What hands out no image leaves that writer as it is; so does a text that could not be written.
+    pub fn deliver<T: Write, O: Write>(&self, text: &mut T, out: &mut O) -> u8
+        ensures told { IsDelivered self.now result (held (T.contents text.old) (O.contents out.old)) (held (T.contents text.new) (O.contents out.new)) }
+        ensures out { (out.new ≡ out.old) ⊎ (IsMade self.now × HandsOut result (T.contents text.old) (T.contents text.new)) }
+    {
+        let status = self.tell(text);
+        match self {
+            Reply::Made(image) if status != FAILED => written(image.as_slice(), status, out),
+            _ => status,
+        }
     }
 }
 
-/// Writes a text and answers the status, or 4 where the writer fails.
-pub fn tell_text<T: Write>(bytes: &[u8], status: u8, text: &mut T) -> u8
-    ensures { (result ≡ FAILED) ⊎ ((result ≡ status) × Appends (T.contents text.old) (T.contents text.new) bytes.now) }
+/// Writes bytes and answers the status, or 4 where the writer fails.
+pub fn written<W: Write>(bytes: &[u8], status: u8, writer: &mut W) -> u8
+    ensures { (result ≡ FAILED) ⊎ ((result ≡ status) × Appends (W.contents writer.old) (W.contents writer.new) bytes.now) }
 {
-    if text.write_all(bytes).is_err() {
+    if writer.write_all(bytes).is_err() {
         return FAILED;
     }
-    if text.flush().is_err() {
+    if writer.flush().is_err() {
         return FAILED;
     }
     status

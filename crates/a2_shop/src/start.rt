@@ -1,11 +1,12 @@
 // The program's files and streams.
-ghost use Rattle.std.specs.Prelude.{◌≡◌};
+ghost use Rattle.std.specs.Prelude.{◌≡◌, option_map};
 ghost use Rattle.shop_words.specs.Job.{job_view};
-ghost use Rattle.a2_shop.specs.Reply.{image_of};
+ghost use Rattle.a2_shop.specs.Answer.{image_of, made_bytes_of, out_of};
 
 use crate::command::tell_words_fault;
+use crate::disk::{disk_bytes, order_of};
 use crate::job::run_job;
-use crate::reply::{Failure, Reply, tell_text};
+use crate::reply::{FAILED, Failure, Reply, written};
 use shop_words::{Job, parse_words};
 use std::alloc::Global;
 use std::fs::File;
@@ -24,21 +25,57 @@ fn image_path(job: &Job) -> &str
     ensures { result.now ≡ image_of (job_view job.now) }
 {
     match job {
-        Job::Catalog { image, .. } => image.as_str(),
+        Job::Catalog { image, .. } | Job::Convert { image, .. } => image.as_str(),
     }
 }
 
-// Does a job on the image of a reader, and tells it on standard output.
+// The path of the file that a job writes.
+fn out_path(job: &Job) -> Option<&str>
+    ensures { option_map (λ s. s.now) result ≡ out_of (job_view job.now) }
+{
+    match job {
+        Job::Catalog { .. } => None,
+        Job::Convert { out, .. } => Some(out.as_str()),
+    }
+}
+
+// The bytes of the image that a job makes, 0 where it makes none.
+fn made_bytes(job: &Job) -> usize
+    ensures { result ≡ made_bytes_of (job_view job.now) }
+{
+    match job {
+        Job::Catalog { .. } => 0,
+        Job::Convert { to, .. } => disk_bytes(order_of(*to)),
+    }
+}
+
+// Writes the output file and answers the status, 4 where it can't be written.
+fn write_file(rt: &HostRuntime, path: &str, bytes: &[u8], status: u8) -> u8 {
+    match File::create(rt, path) {
+        Ok(mut file) => written(bytes, status, &mut file),
+        Err(_) => FAILED,
+    }
+}
+
+// Does a job on the image of a reader, tells it on standard output and writes the output file. The room for the file's
+// bytes is taken first, so that want of it is told.
 fn run_on<I: Read>(rt: &HostRuntime, job: &Job, image: &mut I) -> u8 {
-    let mut out = Vec::new(rt.alloc());
-    run_job(
+    let mut text = rt.stdout();
+    let Ok(mut out) = Vec::with_capacity(rt.alloc(), made_bytes(job)) else {
+        return Reply::Failed(Failure::Memory).tell(&mut text);
+    };
+    let status = run_job(
         rt.alloc(),
         job,
         image,
         &mut io::empty(),
-        &mut rt.stdout(),
+        &mut text,
         &mut out,
-    )
+    );
+    match out_path(job) {
+        Some(path) if !out.is_empty() => write_file(rt, path, out.as_slice(), status),
+        _ => status,
+    }
 }
 
 /// Does what the program's words ask for, and answers its status.
@@ -50,7 +87,7 @@ pub fn run(rt: &HostRuntime) -> u8 {
         Err(error) if error.kind() == ErrorKind::OutOfMemory => {
             return Reply::Failed(Failure::Memory).tell(&mut text);
         }
-        Err(_) => return tell_text(b"error: a word is no UTF-8\n", 2, &mut text),
+        Err(_) => return written(b"error: a word is no UTF-8\n", 2, &mut text),
     };
     let job = match parse_words(alloc, words.as_slice()) {
         Ok(job) => job,

@@ -1,6 +1,7 @@
 use crate::command::run_command;
 use std::alloc::{AllocError, Global};
 use std::io::{self, ErrorKind, Read, Write};
+use std::process::Abort;
 use std::test::Fail;
 use test_volumes::{VTOC, hello, put};
 
@@ -56,6 +57,113 @@ fn a_listing_by_words_and_by_none(rt: HostRuntime) -> Result<(), Fail> {
     Ok(())
 }
 
+// The image that a line of words makes of another, which is told by OK.
+fn made_by(
+    rt: &impl Abort,
+    alloc: Global,
+    line: &str,
+    image: &[u8],
+) -> Result<Vec<u8>, AllocError> {
+    let mut image = image;
+    let Answer { status, text, out } = answer_to(alloc, line, &mut image)?;
+    assert_eq!(rt; status, 0, "for {line}");
+    assert!(rt; text.as_slice() == b"OK\n".as_slice(), "for {line}");
+    Ok(out)
+}
+
+// The volume HELLO on tracks that are made with volume number 254.
+fn hello_tracks(rt: &impl Abort, alloc: Global) -> Result<Vec<u8>, AllocError> {
+    let image = hello(alloc)?;
+    made_by(
+        rt,
+        alloc,
+        "convert a.dsk --order dos --to nibble --out b.nib",
+        image.as_slice(),
+    )
+}
+
+#[test]
+fn a_listing_in_each_order(rt: HostRuntime) -> Result<(), Fail> {
+    let image = hello(rt.alloc())?;
+    for order in ["dos", "prodos", "nibble"] {
+        let there = format!(in rt.alloc(); "convert a --order dos --to {order} --out b")?;
+        let back = format!(in rt.alloc(); "convert b --order {order} --to dos --out c --volume 7")?;
+        let list = format!(in rt.alloc(); "catalog b --fs dos --order {order}")?;
+        let other = made_by(&rt, rt.alloc(), there.as_str(), image.as_slice())?;
+        let answer = answer_to(rt.alloc(), list.as_str(), &mut other.as_slice())?;
+        assert!(rt; answer.is(0, LISTING), "in {order}");
+        let again = made_by(&rt, rt.alloc(), back.as_str(), other.as_slice())?;
+        assert!(rt; again == image, "from {order}");
+    }
+    Ok(())
+}
+
+#[test]
+fn a_block_is_two_sectors_of_dos(rt: HostRuntime) -> Result<(), Fail> {
+    let mut image = vec![in rt.alloc(); 0; 143_360]?;
+    image[4096..4352].fill(1);
+    image[4352..4608].fill(2);
+    let mut wanted = vec![in rt.alloc(); 0; 143_360]?;
+    wanted[4096..4352].fill(1);
+    wanted[7680..7936].fill(2);
+    let line = "convert a.po --order prodos --to dos --out b.dsk";
+    assert!(rt; made_by(&rt, rt.alloc(), line, image.as_slice())? == wanted);
+    Ok(())
+}
+
+#[test]
+fn made_tracks_have_the_volume_number(rt: HostRuntime) -> Result<(), Fail> {
+    let image = hello(rt.alloc())?;
+    let rows = [
+        ("", [0xff, 0xfe, 0xaa, 0xbb, 0xaa, 0xaa, 0xff, 0xef]),
+        (
+            "--volume 254",
+            [0xff, 0xfe, 0xaa, 0xbb, 0xaa, 0xaa, 0xff, 0xef],
+        ),
+        (
+            "--volume 0",
+            [0xaa, 0xaa, 0xaa, 0xbb, 0xaa, 0xaa, 0xaa, 0xbb],
+        ),
+        (
+            "--volume 1",
+            [0xaa, 0xab, 0xaa, 0xbb, 0xaa, 0xaa, 0xaa, 0xba],
+        ),
+        (
+            "--volume 255",
+            [0xff, 0xff, 0xaa, 0xbb, 0xaa, 0xaa, 0xff, 0xee],
+        ),
+    ];
+    for (volume, field) in rows {
+        let line = format!(in rt.alloc(); "convert a --order dos --to nibble --out b {volume}")?;
+        let made = made_by(&rt, rt.alloc(), line.as_str(), image.as_slice())?;
+        assert_eq!(rt; made.len(), 232_960);
+        assert!(rt; &made[113_200..113_203] == [0xd5, 0xaa, 0x96].as_slice());
+        assert!(rt; &made[113_203..113_211] == field.as_slice(), "{volume}");
+    }
+    Ok(())
+}
+
+#[test]
+fn tracks_that_lack_a_sector(rt: HostRuntime) -> Result<(), Fail> {
+    let mut damaged = hello_tracks(&rt, rt.alloc())?;
+    assert_eq!(rt; damaged.len(), 232_960);
+    damaged[113_223] = 0xaa;
+    let zeros = vec![in rt.alloc(); 0; 232_960]?;
+    let ones = vec![in rt.alloc(); 0xff; 232_960]?;
+    let marks = vec![in rt.alloc(); 0xd5; 232_960]?;
+    for image in [&damaged, &zeros, &ones, &marks] {
+        let list = "catalog a --fs dos --order nibble";
+        let answer = answer_to(rt.alloc(), list, &mut image.as_slice())?;
+        assert!(rt; answer.is(4, "FAILED Device\n"));
+        for to in ["dos", "prodos", "nibble"] {
+            let line = format!(in rt.alloc(); "convert a --order nibble --to {to} --out b")?;
+            let answer = answer_to(rt.alloc(), line.as_str(), &mut image.as_slice())?;
+            assert!(rt; answer.is(3, "REFUSED NoSector\n"), "to {to}");
+        }
+    }
+    Ok(())
+}
+
 #[test]
 fn an_empty_catalog_and_broken_volumes(rt: HostRuntime) -> Result<(), Fail> {
     let rows = [
@@ -84,6 +192,30 @@ fn images_of_other_lengths(rt: HostRuntime) -> Result<(), Fail> {
 }
 
 #[test]
+fn images_of_other_lengths_for_their_order(rt: HostRuntime) -> Result<(), Fail> {
+    let rows = [
+        ("dos", 232_960),
+        ("prodos", 143_361),
+        ("prodos", 143_872),
+        ("prodos", 8_192),
+        ("prodos", 0),
+        ("nibble", 143_360),
+        ("nibble", 232_959),
+        ("nibble", 232_961),
+    ];
+    for (order, length) in rows {
+        let image = vec![in rt.alloc(); 0; length]?;
+        let list = format!(in rt.alloc(); "catalog a --fs dos --order {order}")?;
+        let convert = format!(in rt.alloc(); "convert a --order {order} --to dos --out b")?;
+        for line in [list.as_str(), convert.as_str()] {
+            let answer = answer_to(rt.alloc(), line, &mut image.as_slice())?;
+            assert!(rt; answer.is(3, "REFUSED Length\n"), "{line}, {length} bytes");
+        }
+    }
+    Ok(())
+}
+
+#[test]
 fn refused_words(rt: HostRuntime) -> Result<(), Fail> {
     let image = hello(rt.alloc())?;
     for line in [
@@ -91,6 +223,9 @@ fn refused_words(rt: HostRuntime) -> Result<(), Fail> {
         "catalog",
         "catalog a.dsk --fs dos",
         "catalog a.dsk --fs dos --order woz",
+        "convert a.dsk --order dos --to nibble",
+        "convert a.dsk --order dos --to nibble --out b.nib --volume 256",
+        "convert a.dsk --order dos --to nibble --out b.nib --fs dos",
     ] {
         let answer = answer_to(rt.alloc(), line, &mut image.as_slice())?;
         assert_eq!(rt; answer.status, 2, "for {line}");
@@ -139,6 +274,42 @@ fn a_writer_that_fails(rt: HostRuntime) -> Result<(), Fail> {
     let status = run_command(
         rt.alloc(),
         &[],
+        &mut image.as_slice(),
+        &mut io::empty(),
+        &mut Broken,
+        &mut out,
+    );
+    assert_eq!(rt; status, 4);
+    assert!(rt; out.is_empty());
+    Ok(())
+}
+
+#[test]
+fn an_output_file_that_fails(rt: HostRuntime) -> Result<(), Fail> {
+    let image = hello(rt.alloc())?;
+    let words = words_of(rt.alloc(), "convert a --order dos --to prodos --out b")?;
+    let mut text = Vec::new(rt.alloc());
+    let status = run_command(
+        rt.alloc(),
+        words.as_slice(),
+        &mut image.as_slice(),
+        &mut io::empty(),
+        &mut text,
+        &mut Broken,
+    );
+    assert_eq!(rt; status, 4);
+    assert!(rt; text.as_slice() == b"OK\n".as_slice());
+    Ok(())
+}
+
+#[test]
+fn a_conversion_that_can_not_be_told(rt: HostRuntime) -> Result<(), Fail> {
+    let image = hello(rt.alloc())?;
+    let words = words_of(rt.alloc(), "convert a --order dos --to prodos --out b")?;
+    let mut out = Vec::new(rt.alloc());
+    let status = run_command(
+        rt.alloc(),
+        words.as_slice(),
         &mut image.as_slice(),
         &mut io::empty(),
         &mut Broken,

@@ -2,5 +2,6 @@ pub mod Entry
 pub mod Writes
 pub mod Catalog
 pub mod Listed
+pub mod Found
 pub mod Chain
 pub mod Walk

@@ -92,6 +92,7 @@ fn each_refused_block_is_told(rt: HostRuntime) -> Result<(), Fail> {
     assert!(rt; whole.asked() > 0);
     for before in 0..whole.asked() {
         let heap = Refusing::one(rt.alloc(), before);
+        let mut device = gaps(rt.alloc(), 0x10, [0, 0])?;
         let result = walk(&heap, &mut device, 7, &entry(3, 12));
         assert!(rt; matches!(&result, Err(WalkError::Memory)));
     }

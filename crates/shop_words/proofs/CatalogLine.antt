@@ -28,10 +28,15 @@ catalog_known =
     }
 
 pub catalog_defaults : HasPlainDefaults catalog_form
-catalog_defaults = record { name = refl; image = refl; fs = refl; order = refl; data_disk = refl }
+catalog_defaults = record { name = refl; options = refl; flags = refl }
 
 catalog_volume : HasVolume catalog_form
-catalog_volume = record { fs_values = refl; order_values = refl; needs_fs = (1, omega arith, refl); needs_order = (2, omega arith, refl) }
+catalog_volume = record {
+  fs = record { at = (1, omega arith, refl); is = refl };
+  order = record { at = (2, omega arith, refl); is = refl };
+  fs_values = refl;
+  order_values = refl;
+}
 
 with_image : (image : Text) (volume : Option VolumeOptions) → is_some volume ≡ true → is_some (option_map (catalog image) volume) ≡ true
 with_image image None has = cc

@@ -1,4 +1,5 @@
 pub mod TableLemmas
+pub mod Numbers
 pub mod PlainWalk
 pub mod PlainUses
 pub mod PlainLine
@@ -10,5 +11,6 @@ pub mod PlainValues
 pub mod PlainUsed
 pub mod PlainJobs
 pub mod CatalogLine
+pub mod ConvertLine
 pub mod PlainTable
 pub mod AskedLemmas

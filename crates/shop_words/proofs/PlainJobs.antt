@@ -1,45 +1,90 @@
 -- The job that clap finds in a plain list is the list's own.
-use Rattle.std.proofs.Common.{◌≡◌, ◌∙◌, ap, refl, Bool, true, List, Option, Some, None, codes, is_some, option_map, option_and_then, map, Contains}
-use Rattle.std.proofs.lemmas.List.Elements.{All-contains}
-use Rattle.std.specs.List.{list_all}
+use Rattle.std.proofs.Common.{◌≡◌, ◌∙◌, ap, refl, subst, Bool, true, false, ◌||◌, List, [], ◌∷◌, Option, Some, None, codes, is_some, option_map, option_and_then}
+use Rattle.std.proofs.lemmas.Bool.{and_parts}
+use Rattle.std.proofs.lemmas.Slice.Eq.{bytes_eq-Decides}
+use Rattle.std.specs.List.{list_all, list_any}
+use Rattle.std.specs.Str.{bytes_eq}
 use Rattle.clap.specs.Walk.{first_of}
-use Rattle.shop_words.specs.Table.{Text, ParameterView, FormView, file_system, order}
-use Rattle.shop_words.specs.Plain.{Use, use_name, is_needed, IsPlainLine, positional_names}
+use Rattle.shop_words.specs.Table.{Text, FormView, file_system, order}
+use Rattle.shop_words.specs.Plain.{Use, IsPlainLine, positional_names}
 use Rattle.shop_words.specs.Job.{Said, file_system_named, order_named, is_on, job_by, line_job, line_said, value_of, volume_by}
 use Rattle.shop_words.specs.declared.job.FileSystem.{FileSystem}
 use Rattle.shop_words.specs.declared.job.ImageOrder.{ImageOrder}
 use Rattle.shop_words.specs.declared.job.VolumeOptions.{VolumeOptions}
 use Rattle.shop_words.proofs.PlainForms.{shape_named}
 use Rattle.shop_words.proofs.PlainTaken.{finished_rows}
-use Rattle.shop_words.proofs.PlainUsed.{named_takes_only, value_of-passes}
-use Rattle.shop_words.proofs.PlainValues.{flag_same, leaves_off, option_same}
+use Rattle.shop_words.proofs.PlainUsed.{HasNeeded, named_only, needed_said, takes_words, value_passes, words_ensure}
+use Rattle.shop_words.proofs.PlainValues.{Test, flag_same, leaves_off, option_same}
 
 -- ---- the rows that clap finds say what the list says
 
--- no default stands for a word or turns the flag on
+-- the names by which a job is said, and those of its flags
+abbrev pub option_names : List Text
+option_names = codes "image" ∷ codes "fs" ∷ codes "order" ∷ codes "to" ∷ codes "out" ∷ codes "volume" ∷ []
+
+abbrev pub flag_names : List Text
+flag_names = codes "data-disk" ∷ []
+
+abbrev pub leaves_all_off : FormView → Test → List Text → Bool
+leaves_all_off f q names = list_all (λ id. list_all (leaves_off q id) (shape_named f.name).rules) names
+
+-- no default stands for a word or turns a flag on
 pub record HasPlainDefaults (f : FormView) : Type 0 where
   pub name : (shape_named f.name).name ≡ f.name
-  pub image : list_all (leaves_off is_some (codes "image")) (shape_named f.name).rules ≡ true
-  pub fs : list_all (leaves_off is_some (codes "fs")) (shape_named f.name).rules ≡ true
-  pub order : list_all (leaves_off is_some (codes "order")) (shape_named f.name).rules ≡ true
-  pub data_disk : list_all (leaves_off is_on (codes "data-disk")) (shape_named f.name).rules ≡ true
+  pub options : leaves_all_off f is_some option_names ≡ true
+  pub flags : leaves_all_off f is_on flag_names ≡ true
 
-job_by-same : (command : Text) (s t : Said) → s (codes "image") ≡ t (codes "image") → s (codes "fs") ≡ t (codes "fs")
-    → s (codes "order") ≡ t (codes "order") → is_on (s (codes "data-disk")) ≡ is_on (t (codes "data-disk"))
-    → job_by command s ≡ job_by command t
-job_by-same command s t image fs order data_disk = rw (image, fs, order, data_disk) refl
+-- the two say the same under each of the names
+abbrev pub SaySame : {X : Type 0} → (Option Text → X) → Said → Said → List Text → Type 0
+SaySame read s t names = (name : Text) → list_any (λ n. bytes_eq n name) names ≡ true → read (s name) ≡ read (t name)
+
+job_by-same : (command : Text) (s t : Said) → SaySame (λ o. o) s t option_names → SaySame is_on s t flag_names → job_by command s ≡ job_by command t
+job_by-same command s t options flags =
+    rw (
+      options (codes "image") refl,
+      options (codes "fs") refl,
+      options (codes "order") refl,
+      options (codes "to") refl,
+      options (codes "out") refl,
+      options (codes "volume") refl,
+      flags (codes "data-disk") refl,
+    ) refl
+
+-- what clap finds under a name
+abbrev pub rows_said : FormView → List Text → List Use → Said
+rows_said f positionals uses name = first_of name (finished_rows f positionals uses)
+
+-- no default passes the test under any of the names
+off_at : (f : FormView) (q : Test) (names : List Text) (name : Text) → leaves_all_off f q names ≡ true → list_any (λ n. bytes_eq n name) names ≡ true
+    → list_all (leaves_off q name) (shape_named f.name).rules ≡ true
+off_at f q [] name off at = cc
+off_at f q (n ∷ ns) name off at =
+    let parts = and_parts (list_all (leaves_off q n) (shape_named f.name).rules) (leaves_all_off f q ns) off in
+    by_test (bytes_eq n name) refl parts.0 (off_at f q ns name parts.1) at where
+      by_test : (b : Bool) → bytes_eq n name ≡ b → list_all (leaves_off q n) (shape_named f.name).rules ≡ true
+          → (list_any (λ m. bytes_eq m name) ns ≡ true → list_all (leaves_off q name) (shape_named f.name).rules ≡ true)
+          → (b || list_any (λ m. bytes_eq m name) ns) ≡ true → list_all (leaves_off q name) (shape_named f.name).rules ≡ true
+      by_test true same here later at = subst (λ m. list_all (leaves_off q m) (shape_named f.name).rules ≡ true) ((bytes_eq-Decides n name).0 same) here
+      by_test false other here later at = later at
+
+options_same : (f : FormView) (positionals : List Text) (uses : List Use) → HasPlainDefaults f
+    → SaySame (λ o. o) (rows_said f positionals uses) (line_said f positionals uses) option_names
+options_same f positionals uses plain name at =
+    option_same (positional_names f) positionals uses (shape_named f.name).rules name (off_at f is_some option_names name plain.options at)
+
+flags_same : (f : FormView) (positionals : List Text) (uses : List Use) → HasPlainDefaults f
+    → SaySame is_on (rows_said f positionals uses) (line_said f positionals uses) flag_names
+flags_same f positionals uses plain name at =
+    flag_same (positional_names f) positionals uses (shape_named f.name).rules name (off_at f is_on flag_names name plain.flags at)
 
 pub job_by-rows : (f : FormView) (positionals : List Text) (uses : List Use) → HasPlainDefaults f
     → job_by (shape_named f.name).name (λ name. first_of name (finished_rows f positionals uses)) ≡ line_job f positionals uses
 job_by-rows f positionals uses plain =
-    let names = positional_names f in
-    let rules = (shape_named f.name).rules in
-    ap (λ (command : Text). job_by command (λ name. first_of name (finished_rows f positionals uses))) plain.name
-    ∙ job_by-same f.name (λ name. first_of name (finished_rows f positionals uses)) (line_said f positionals uses)
-    (option_same names positionals uses rules (codes "image") plain.image) (option_same names positionals uses rules (codes "fs") plain.fs)
-    (option_same names positionals uses rules (codes "order") plain.order) (flag_same names positionals uses rules (codes "data-disk") plain.data_disk)
+    ap (λ (command : Text). job_by command (rows_said f positionals uses)) plain.name
+    ∙ job_by-same f.name (rows_said f positionals uses) (line_said f positionals uses)
+    (options_same f positionals uses plain) (flags_same f positionals uses plain)
 
--- ---- a plain list has a job
+-- ---- a plain list of a command on a volume has a volume
 
 abbrev pub names_file_system : Text → Bool
 names_file_system word = is_some (file_system_named word)
@@ -55,16 +100,16 @@ both_named (Some x) (Some y) p q c = refl
 
 -- the options `--fs` and `--order` of a form are needed, and each of their values names something
 pub record HasVolume (f : FormView) : Type 0 where
-  pub fs_values : list_all (named_takes_only (codes "fs") names_file_system) f.parameters ≡ true
-  pub order_values : list_all (named_takes_only (codes "order") names_order) f.parameters ≡ true
-  pub needs_fs : Contains f.parameters file_system
-  pub needs_order : Contains f.parameters order
+  pub fs : HasNeeded f file_system
+  pub order : HasNeeded f order
+  pub fs_values : list_all (named_only (codes "fs") (takes_words names_file_system)) f.parameters ≡ true
+  pub order_values : list_all (named_only (codes "order") (takes_words names_order)) f.parameters ≡ true
 
--- so a plain list has a volume
 pub volume_by-line : (f : FormView) (positionals : List Text) (uses : List Use) (said : Said) → HasVolume f → IsPlainLine f positionals uses
     → said (codes "fs") ≡ value_of (codes "fs") uses → said (codes "order") ≡ value_of (codes "order") uses → is_some (volume_by said) ≡ true
 volume_by-line f positionals uses said has plain fs_said order_said =
-    let Used : ParameterView → Type 0 = λ p. is_needed p.kind ≡ true → Contains (map use_name uses) p.name in
-    let fs_value = value_of-passes f.parameters (codes "fs") names_file_system uses has.fs_values plain.known (All-contains Used f.parameters file_system plain.complete has.needs_fs refl) in
-    let order_value = value_of-passes f.parameters (codes "order") names_order uses has.order_values plain.known (All-contains Used f.parameters order plain.complete has.needs_order refl) in
-    rw (fs_said ∙ fs_value.1, order_said ∙ order_value.1) (both_named (file_system_named fs_value.0) (order_named order_value.0) fs_value.2 order_value.2 _)
+    let fs = needed_said f positionals uses file_system has.fs plain in
+    let in_order = needed_said f positionals uses order has.order plain in
+    let fs_named = value_passes f.parameters (codes "fs") (takes_words names_file_system) names_file_system uses refl (words_ensure names_file_system) has.fs_values plain.known fs.0 fs.1 in
+    let order_named' = value_passes f.parameters (codes "order") (takes_words names_order) names_order uses refl (words_ensure names_order) has.order_values plain.known in_order.0 in_order.1 in
+    rw (fs_said ∙ fs.1, order_said ∙ in_order.1) (both_named (file_system_named fs.0) (order_named in_order.0) fs_named order_named' _)

@@ -1,54 +1,79 @@
 -- What a plain list says under the name of an option that it has.
-use Rattle.std.proofs.Common.{◌≡◌, ◌∙◌, ℕ, ◌<◌, sym, refl, Bool, true, false, List, [], ◌∷◌, Some, ◌||◌, map, not, length, All, Contains, arith, slice_index_or, zero, suc}
+use Rattle.std.proofs.Common.{◌≡◌, ◌∙◌, ℕ, ◌<◌, sym, ap, subst, refl, Bool, true, false, List, [], ◌∷◌, Some, cond, ◌||◌, ◌==◌, map, not, length, find, All, Contains, arith, eqb-true, option_map, slice_index_or, zero, suc}
 use Rattle.std.proofs.lemmas.List.Elements.{All-contains, All-head, All-tail}
 use Rattle.std.proofs.lemmas.List.Sums.{AllPass-from_list_all}
 use Rattle.std.proofs.lemmas.Slice.Eq.{bytes_eq-Decides}
 use Rattle.std.specs.List.{list_all}
 use Rattle.std.specs.Str.{bytes_eq}
-use Rattle.shop_words.specs.Table.{Text, any, one_of, KindView, positional, needed, optional, flag, parameter, ParameterView}
-use Rattle.shop_words.specs.Plain.{Use, alone, valued, use_name, IsUseOf, TakesValue}
+use Rattle.shop_words.specs.Table.{Text, any, one_of, number, KindView, positional, needed, optional, flag, parameter, ParameterView, FormView}
+use Rattle.shop_words.specs.Plain.{Use, alone, valued, use_name, is_needed, is_number, IsPlainLine, IsUseOf, TakesValue}
 use Rattle.shop_words.specs.Job.{use_value, value_of}
 
--- each value that the option takes passes the test
-abbrev pub takes_only : (Text → Bool) → KindView → Bool
-takes_only test (needed (one_of words)) = list_all test words
-takes_only test (optional (one_of words)) = list_all test words
-takes_only test _ = false
+-- a test of an option's kind
+abbrev pub KindTest : Type 0
+KindTest = KindView → Bool
 
--- what has the name is an option, each of whose values passes the test
-abbrev pub named_takes_only : Text → (Text → Bool) → ParameterView → Bool
-named_takes_only name test p = not (bytes_eq p.name name) || takes_only test p.kind
+-- each value of a kind that passes one test passes the other
+abbrev pub Ensures : KindTest → (Text → Bool) → Type 0
+Ensures only test = (k : KindView) (value : Text) → only k ≡ true → TakesValue k value → test value ≡ true
+
+-- the option takes some of these words, or a number up to the greatest
+abbrev pub takes_words : (Text → Bool) → KindTest
+takes_words test (needed (one_of words)) = list_all test words
+takes_words test (optional (one_of words)) = list_all test words
+takes_words test _ = false
+
+abbrev pub takes_number : ℕ → KindTest
+takes_number greatest (needed (number n)) = n == greatest
+takes_number greatest (optional (number n)) = n == greatest
+takes_number greatest _ = false
+
+-- what has the name is an option whose kind passes the test
+abbrev pub named_only : Text → KindTest → ParameterView → Bool
+named_only name only p = not (bytes_eq p.name name) || only p.kind
 
 -- a use passes the test, as an option with a value that does
 abbrev UsePasses : (Text → Bool) → Use → Type 0
 UsePasses test u = test (use_value u) ≡ true
 
-takes-only_passes : (test : Text → Bool) (k : KindView) (value : Text) → takes_only test k ≡ true → TakesValue k value → test value ≡ true
-takes-only_passes test positional value only takes = absurd takes
-takes-only_passes test (needed any) value only takes = cc
-takes-only_passes test (needed (one_of words)) value only takes =
+pub words_ensure : (test : Text → Bool) → Ensures (takes_words test) test
+words_ensure test positional value only takes = absurd takes
+words_ensure test (needed any) value only takes = cc
+words_ensure test (needed (one_of words)) value only takes =
     All-contains (λ w. test w ≡ true) words value (AllPass-from_list_all test words only) takes
-takes-only_passes test (optional any) value only takes = cc
-takes-only_passes test (optional (one_of words)) value only takes =
+words_ensure test (needed (number n)) value only takes = cc
+words_ensure test (optional any) value only takes = cc
+words_ensure test (optional (one_of words)) value only takes =
     All-contains (λ w. test w ≡ true) words value (AllPass-from_list_all test words only) takes
-takes-only_passes test flag value only takes = absurd takes
+words_ensure test (optional (number n)) value only takes = cc
+words_ensure test flag value only takes = absurd takes
+
+pub number_ensures : (greatest : ℕ) → Ensures (takes_number greatest) (is_number greatest)
+number_ensures greatest positional value only takes = absurd takes
+number_ensures greatest (needed any) value only takes = cc
+number_ensures greatest (needed (one_of words)) value only takes = cc
+number_ensures greatest (needed (number n)) value only takes = subst (λ m. is_number m value ≡ true) (eqb-true n greatest only) takes
+number_ensures greatest (optional any) value only takes = cc
+number_ensures greatest (optional (one_of words)) value only takes = cc
+number_ensures greatest (optional (number n)) value only takes = subst (λ m. is_number m value ≡ true) (eqb-true n greatest only) takes
+number_ensures greatest flag value only takes = absurd takes
 
 where_named : (b c : Bool) → (not b || c) ≡ true → b ≡ true → c ≡ true
 where_named true c passes is = passes
 where_named false c passes is = cc
 
 -- a use of the name passes the test
-use_passes-named : (ps : List ParameterView) (name : Text) (test : Text → Bool) (u : Use)
-    → list_all (named_takes_only name test) ps ≡ true → IsUseOf ps u → use_name u ≡ name → UsePasses test u
-use_passes-named ps name test (alone n) only fits same =
-    let at : named_takes_only name test (parameter n flag) ≡ true =
-    All-contains (λ p. named_takes_only name test p ≡ true) ps (parameter n flag) (AllPass-from_list_all (named_takes_only name test) ps only) fits in
-    let never : false ≡ true = where_named (bytes_eq n name) false at ((bytes_eq-Decides n name).1 same) in cc
-use_passes-named ps name test (valued n value) only fits same =
+use_passes-named : (ps : List ParameterView) (name : Text) (only : KindTest) (test : Text → Bool) (u : Use) → only flag ≡ false → Ensures only test
+    → list_all (named_only name only) ps ≡ true → IsUseOf ps u → use_name u ≡ name → UsePasses test u
+use_passes-named ps name only test (alone n) no_flag ensured named fits same =
+    let at : named_only name only (parameter n flag) ≡ true =
+    All-contains (λ p. named_only name only p ≡ true) ps (parameter n flag) (AllPass-from_list_all (named_only name only) ps named) fits in
+    let never : only flag ≡ true = where_named (bytes_eq n name) (only flag) at ((bytes_eq-Decides n name).1 same) in cc
+use_passes-named ps name only test (valued n value) no_flag ensured named fits same =
     let p = fits.0.1 in
-    let at : named_takes_only name test p ≡ true =
-    All-contains (λ q. named_takes_only name test q ≡ true) ps p (AllPass-from_list_all (named_takes_only name test) ps only) (fits.0.0, fits.0.2, fits.0.3) in
-    takes-only_passes test p.kind value (where_named (bytes_eq p.name name) _ at ((bytes_eq-Decides p.name name).1 (fits.0.4.0 ∙ same))) fits.0.4.1
+    let at : named_only name only p ≡ true =
+    All-contains (λ q. named_only name only q ≡ true) ps p (AllPass-from_list_all (named_only name only) ps named) (fits.0.0, fits.0.2, fits.0.3) in
+    ensured p.kind value (where_named (bytes_eq p.name name) _ at ((bytes_eq-Decides p.name name).1 (fits.0.4.0 ∙ same))) fits.0.4.1
 
 -- a name that is not the first of the list is later in it
 contained_later : (first name : Text) (names : List Text) (k : ℕ) → k < length (first ∷ names) → slice_index_or (first ∷ names) k name ≡ name
@@ -56,16 +81,42 @@ contained_later : (first name : Text) (names : List Text) (k : ℕ) → k < leng
 contained_later first name names zero lt at other = let never : true ≡ false = sym ((bytes_eq-Decides first name).1 at) ∙ other in cc
 contained_later first name names (suc k) lt at other = (k, omega (arith, lt), at)
 
--- a name that is used has a value, which passes the test
-pub value_of-passes : (ps : List ParameterView) (name : Text) (test : Text → Bool) (uses : List Use) → list_all (named_takes_only name test) ps ≡ true
-    → All (IsUseOf ps) uses → Contains (map use_name uses) name → (v : Text) × (value_of name uses ≡ Some v) × (test v ≡ true)
-value_of-passes ps name test [] only known at = let lt = at.1 in absurd (omega (arith, lt))
-value_of-passes ps name test (u ∷ us) only known at =
+-- what a name says passes the test
+pub value_passes : (ps : List ParameterView) (name : Text) (only : KindTest) (test : Text → Bool) (uses : List Use) → only flag ≡ false → Ensures only test
+    → list_all (named_only name only) ps ≡ true → All (IsUseOf ps) uses → (v : Text) → value_of name uses ≡ Some v → test v ≡ true
+value_passes ps name only test [] no_flag ensured named known v said = cc
+value_passes ps name only test (u ∷ us) no_flag ensured named known v said =
     by_test (bytes_eq (use_name u) name) refl
-    (λ other. value_of-passes ps name test us only (All-tail (IsUseOf ps) u us known) (contained_later (use_name u) name (map use_name us) at.0 at.1 at.2 other)) where
+    (value_passes ps name only test us no_flag ensured named (All-tail (IsUseOf ps) u us known) v) said where
+      by_test : (b : Bool) → bytes_eq (use_name u) name ≡ b → (value_of name us ≡ Some v → test v ≡ true)
+          → option_map use_value (cond b (Some u) (find (λ x. bytes_eq (use_name x) name) us)) ≡ Some v → test v ≡ true
+      by_test true same later is =
+          let value : use_value u ≡ v = cc in
+          ap test (sym value) ∙ use_passes-named ps name only test u no_flag ensured named (All-head (IsUseOf ps) u us known) ((bytes_eq-Decides (use_name u) name).0 same)
+      by_test false other later is = later is
+
+-- a name that is used says something
+pub value_said : (name : Text) (uses : List Use) → Contains (map use_name uses) name → (v : Text) × (value_of name uses ≡ Some v)
+value_said name [] at = let lt = at.1 in absurd (omega (arith, lt))
+value_said name (u ∷ us) at =
+    by_test (bytes_eq (use_name u) name) refl
+    (λ other. value_said name us (contained_later (use_name u) name (map use_name us) at.0 at.1 at.2 other)) where
       by_test : (b : Bool) → bytes_eq (use_name u) name ≡ b
-          → (bytes_eq (use_name u) name ≡ false → (v : Text) × (value_of name us ≡ Some v) × (test v ≡ true))
-          → (v : Text) × (value_of name (u ∷ us) ≡ Some v) × (test v ≡ true)
-      by_test true same later =
-          (use_value u, rw same refl, use_passes-named ps name test u only (All-head (IsUseOf ps) u us known) ((bytes_eq-Decides (use_name u) name).0 same))
-      by_test false other later = let rest = later other in (rest.0, rw other rest.1, rest.2)
+          → (bytes_eq (use_name u) name ≡ false → (v : Text) × (value_of name us ≡ Some v))
+          → (v : Text) × (value_of name (u ∷ us) ≡ Some v)
+      by_test true same later = (use_value u, rw same refl)
+      by_test false other later = let rest = later other in (rest.0, rw other rest.1)
+
+-- ---- the options of a form
+
+-- the form has the parameter, which is needed
+pub record HasNeeded (f : FormView) (p : ParameterView) : Type 0 where
+  pub at : Contains f.parameters p
+  pub is : is_needed p.kind ≡ true
+
+-- a plain list says something of it
+pub needed_said : (f : FormView) (positionals : List Text) (uses : List Use) (p : ParameterView) → HasNeeded f p → IsPlainLine f positionals uses
+    → (v : Text) × (value_of p.name uses ≡ Some v)
+needed_said f positionals uses p has plain =
+    let Used : ParameterView → Type 0 = λ q. is_needed q.kind ≡ true → Contains (map use_name uses) q.name in
+    value_said p.name uses (All-contains Used f.parameters p plain.complete has.at has.is)

@@ -1,32 +1,60 @@
 -- What the words ask for.
-use Rattle.std.specs.Prelude.{◌≡◌, Bool, true, false, IsSome, List, [], ◌∷◌, Option, Some, None, codes, string_bytes, option_map, option_and_then, find, if◌then◌else◌}
+use Rattle.std.specs.Prelude.{◌≡◌, ℕ, Bool, true, false, IsSome, List, [], ◌∷◌, Option, Some, None, codes, string_bytes, option_map, option_and_then, find, if◌then◌else◌}
 use Rattle.std.specs.Str.{bytes_eq}
+use Rattle.std.specs.Str.Parse.{digits_value}
 use Rattle.clap.specs.Simple.{subcommand_of}
 use Rattle.clap.specs.Takes.{takes}
 use Rattle.clap.specs.Walk.{Row, first_of}
 use Rattle.shop_words.specs.Grammar.{shop}
 use Rattle.shop_words.specs.Table.{Text, FormView}
-use Rattle.shop_words.specs.Plain.{Use, alone, valued, use_name, positional_names}
+use Rattle.shop_words.specs.Plain.{Use, alone, valued, use_name, positional_names, is_number}
 use Rattle.shop_words.specs.declared.job.FileSystem.{FileSystem}
 use Rattle.shop_words.specs.declared.job.FileSystem.TheVariants as file_systems
 use Rattle.shop_words.specs.declared.job.ImageOrder.{ImageOrder}
 use Rattle.shop_words.specs.declared.job.ImageOrder.TheVariants as orders
 use Rattle.shop_words.specs.declared.job.VolumeOptions.{VolumeOptions}
+use Rattle.shop_words.specs.declared.reading.Conversion.{Conversion}
 use Rattle.shop_words.specs.declared.job.Job.{Job}
 use Rattle.shop_words.specs.declared.job.Job.TheVariants as jobs
 
--- a job as contracts see it, with texts for its words
+-- a conversion as contracts see it, with texts for its words
+pub record ConversionView : Type 0 where
+  pub image : Text
+  pub order : ImageOrder
+  pub to : ImageOrder
+  pub out : Text
+  pub volume : ℕ
+
+abbrev pub conversion_view : Conversion → ConversionView
+conversion_view c = record { image = c.image.now; order = c.order; to = c.to; out = c.out.now; volume = c.volume }
+
+-- a job as contracts see it
 pub data JobView : Type 0 where
   catalog : Text → VolumeOptions → JobView
+  convert : ConversionView → JobView
 
 abbrev pub job_view : Job → JobView
 job_view (jobs.Catalog image volume) = catalog (string_bytes image) volume
+job_view (jobs.Convert image order to out volume) = convert (record {
+  image = string_bytes image;
+  order = order;
+  to = to;
+  out = string_bytes out;
+  volume = volume;
+})
 
 abbrev pub file_system_named : Text → Option FileSystem
 file_system_named word = if bytes_eq word (codes "dos") then Some file_systems.Dos else None
 
 abbrev pub order_named : Text → Option ImageOrder
-order_named word = if bytes_eq word (codes "dos") then Some orders.Dos else None
+order_named word =
+    if bytes_eq word (codes "dos") then Some orders.Dos else
+    if bytes_eq word (codes "prodos") then Some orders.Prodos else
+    if bytes_eq word (codes "nibble") then Some orders.Nibble else None
+
+-- the number that a word of decimal digits writes, up to the greatest
+abbrev pub number_named : ℕ → Text → Option ℕ
+number_named greatest word = if is_number greatest word then Some (digits_value 10 word) else None
 
 -- what is said under each parameter's name; a flag says `true`
 abbrev pub Said : Type 0
@@ -45,11 +73,29 @@ volume_by said = option_and_then (λ file_system. option_map (λ order. record {
 }) (option_and_then order_named (said (codes "order"))))
     (option_and_then file_system_named (said (codes "fs")))
 
+abbrev pub catalog_by : Said → Option JobView
+catalog_by said = option_and_then (λ image. option_map (catalog image) (volume_by said)) (said (codes "image"))
+
+-- the volume number that is said, 254 where none is
+abbrev pub volume_number : Option Text → Option ℕ
+volume_number None = Some 254
+volume_number (Some word) = number_named 255 word
+
+-- a conversion, where each part of it is there
+abbrev pub conversion_of : Option Text → Option ImageOrder → Option ImageOrder → Option Text → Option ℕ → Option ConversionView
+conversion_of (Some image) (Some order) (Some to) (Some out) (Some volume) =
+    Some (record { image = image; order = order; to = to; out = out; volume = volume })
+conversion_of _ _ _ _ _ = None
+
+abbrev pub conversion_by : Said → Option ConversionView
+conversion_by said = conversion_of (said (codes "image")) (option_and_then order_named (said (codes "order")))
+    (option_and_then order_named (said (codes "to"))) (said (codes "out")) (volume_number (said (codes "volume")))
+
 -- the job of a command, by what is said under each name
 abbrev pub job_by : Text → Said → Option JobView
-job_by command said = if bytes_eq command (codes "catalog")
-    then option_and_then (λ image. option_map (catalog image) (volume_by said)) (said (codes "image"))
-    else None
+job_by command said =
+    if bytes_eq command (codes "catalog") then catalog_by said else
+    if bytes_eq command (codes "convert") then option_map convert (conversion_by said) else None
 
 -- the job of the command that clap finds, by the rows that it finds
 abbrev pub found_job : Option (Text × List Row) → Option JobView

@@ -1,9 +1,11 @@
 -- The plain lists of words: no word at all, or printed from a command's form, its positional words
 -- and its uses of flags and options.
-use Rattle.std.specs.Prelude.{◌≡◌, ◌⊎◌, ◌==◌, All, Any, Contains, ℕ, Bool, true, false, not, List, [], ◌∷◌, ◌++◌, length, filter, map}
-use Rattle.std.specs.List.{AllPass, IsDistinct}
+use Rattle.std.specs.Prelude.{◌≡◌, ◌⊎◌, ◌==◌, All, Any, Contains, ℕ, Bool, true, false, not, ◌&&◌, nat_le, List, [], ◌∷◌, ◌++◌, length, filter, map}
+use Rattle.std.specs.List.{AllPass, IsDistinct, list_all}
+use Rattle.std.specs.Char.{is_ascii_digit}
 use Rattle.std.specs.Str.{bytes_eq}
-use Rattle.shop_words.specs.Table.{Text, ValuesView, any, one_of, KindView, positional, needed, optional, flag, ParameterView, FormView, forms, parameter}
+use Rattle.std.specs.Str.Parse.{digits_value}
+use Rattle.shop_words.specs.Table.{Text, ValuesView, any, one_of, number, KindView, positional, needed, optional, flag, ParameterView, FormView, forms, parameter}
 
 -- `-`
 abbrev pub hyphen : ℕ
@@ -45,9 +47,15 @@ abbrev pub all_use_words : List Use → List Text
 all_use_words [] = []
 all_use_words (u ∷ us) = use_words u ++ all_use_words us
 
+-- the word is of decimal digits, and writes a number up to the greatest
+abbrev pub is_number : ℕ → Text → Bool
+is_number greatest [] = false
+is_number greatest (x ∷ xs) = list_all is_ascii_digit (x ∷ xs) && nat_le (digits_value 10 (x ∷ xs)) greatest
+
 abbrev pub IsOfValues : ValuesView → Text → Type 0
 IsOfValues any value = Unit {0}
 IsOfValues (one_of words) value = Contains words value
+IsOfValues (number greatest) value = is_number greatest value ≡ true
 
 -- it is an option, which takes the value
 abbrev pub TakesValue : KindView → Text → Type 0

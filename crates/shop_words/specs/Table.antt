@@ -15,6 +15,7 @@ Text = List ℕ
 pub data ValuesView : Type 0 where
   any : ValuesView
   one_of : List Text → ValuesView
+  number : ℕ → ValuesView
 
 pub data KindView : Type 0 where
   positional : KindView
@@ -33,6 +34,7 @@ pub record FormView : Type 0 where
 abbrev pub values_view : Values → ValuesView
 values_view values.Any = any
 values_view (values.OneOf words) = one_of (map (λ w. w.now) words.now)
+values_view (values.Number greatest) = number greatest
 
 abbrev pub kind_view : Kind → KindView
 kind_view kinds.Positional = positional
@@ -49,7 +51,10 @@ form_view f = record { name = f.name.now; parameters = map parameter_view f.para
 abbrev pub parameter : Text → KindView → ParameterView
 parameter name kind = record { name = name; kind = kind }
 
--- `image`, `--fs dos`, `--order dos` and `--data-disk`
+abbrev pub order_words : List Text
+order_words = codes "dos" ∷ codes "prodos" ∷ codes "nibble" ∷ []
+
+-- `image`, `--fs dos`, `--order ORDER` and `--data-disk`
 abbrev pub image : ParameterView
 image = parameter (codes "image") positional
 
@@ -57,7 +62,7 @@ abbrev pub file_system : ParameterView
 file_system = parameter (codes "fs") (needed (one_of (codes "dos" ∷ [])))
 
 abbrev pub order : ParameterView
-order = parameter (codes "order") (needed (one_of (codes "dos" ∷ [])))
+order = parameter (codes "order") (needed (one_of order_words))
 
 abbrev pub data_disk : ParameterView
 data_disk = parameter (codes "data-disk") flag
@@ -68,6 +73,22 @@ catalog_form = record {
   parameters = image ∷ file_system ∷ order ∷ data_disk ∷ [];
 }
 
+-- `--to ORDER`, `--out FILE` and `--volume V`
+abbrev pub to : ParameterView
+to = parameter (codes "to") (needed (one_of order_words))
+
+abbrev pub out : ParameterView
+out = parameter (codes "out") (needed any)
+
+abbrev pub volume : ParameterView
+volume = parameter (codes "volume") (optional (number 255))
+
+abbrev pub convert_form : FormView
+convert_form = record {
+  name = codes "convert";
+  parameters = image ∷ order ∷ to ∷ out ∷ volume ∷ data_disk ∷ [];
+}
+
 -- the forms of all commands
 abbrev pub forms : List FormView
-forms = catalog_form ∷ []
+forms = catalog_form ∷ convert_form ∷ []

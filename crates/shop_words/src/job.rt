@@ -12,6 +12,10 @@ pub enum FileSystem {
 pub enum ImageOrder {
     /// Track by track, and in a track by logical sector.
     Dos,
+    /// By block.
+    Prodos,
+    /// Track by track, as disk bytes.
+    Nibble,
 }
 
 /// What an image is read as.
@@ -31,5 +35,17 @@ pub enum Job {
         /// The path of the image's file; `-` is standard input.
         image: String,
         volume: VolumeOptions,
+    },
+    /// Writes the sectors of an image in another order.
+    Convert {
+        /// The path of the image's file; `-` is standard input.
+        image: String,
+        order: ImageOrder,
+        /// The order that is written.
+        to: ImageOrder,
+        /// The path of the file that is written.
+        out: String,
+        /// The volume number of tracks that are made.
+        volume: u8,
     },
 }

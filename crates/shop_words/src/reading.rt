@@ -1,10 +1,12 @@
 //! The job that clap's matches say.
-ghost use Rattle.std.specs.Prelude.{◌≡◌, codes, IfOk, option_map};
+ghost use Rattle.std.specs.Prelude.{◌≡◌, codes, if◌then◌else◌, IfOk, nat_le, None, option_map, Some};
+ghost use Rattle.std.specs.Char.{is_ascii_digit};
+ghost use Rattle.std.specs.List.{list_all};
 ghost use Rattle.clap.specs.Matches.{found_of};
 ghost use Rattle.clap.specs.Simple.{subcommand_rows_of};
 ghost use Rattle.clap.specs.Walk.{first_of, rows_of};
-ghost use Rattle.shop_words.specs.Job.{file_system_named, found_job, is_on, job_by, job_view};
-ghost use Rattle.shop_words.specs.Job.{order_named, volume_by};
+ghost use Rattle.shop_words.specs.Job.{conversion_by, conversion_view, file_system_named, found_job, is_on};
+ghost use Rattle.shop_words.specs.Job.{job_by, job_view, number_named, order_named, volume_by, volume_number};
 
 use crate::job::{FileSystem, ImageOrder, Job, VolumeOptions};
 use clap::ArgMatches;
@@ -30,10 +32,52 @@ fn file_system_named(word: &str) -> Option<FileSystem>
 fn order_named(word: &str) -> Option<ImageOrder>
     ensures { result ≡ order_named word.now }
 {
-    if word == "dos" {
-        Some(ImageOrder::Dos)
+    match word {
+        "dos" => Some(ImageOrder::Dos),
+        "prodos" => Some(ImageOrder::Prodos),
+        "nibble" => Some(ImageOrder::Nibble),
+        _ => None,
+    }
+}
+
+/// The number that a word of decimal digits writes, up to the greatest.
+pub fn number_named(word: &str, greatest: u64) -> Option<u64>
+    ensures { result ≡ number_named greatest word.now }
+{
+    if !is_digits(word.as_bytes()) {
+        return None;
+    }
+    match word.parse::<u64>() {
+        Ok(number) => up_to(number, greatest),
+        Err(_) => None,
+    }
+}
+
+fn is_digits(word: &[u8]) -> bool
+    ensures { result ≡ list_all is_ascii_digit word.now }
+{
+    word.iter().all(|byte| byte.is_ascii_digit())
+}
+
+fn up_to(number: u64, greatest: u64) -> Option<u64>
+    ensures { result ≡ (if nat_le number greatest then Some number else None) }
+{
+    if number <= greatest {
+        Some(number)
     } else {
         None
+    }
+}
+
+/// The volume number where `--volume` is left out.
+const STANDARD_VOLUME: u8 = 254;
+
+fn volume_number(matches: &ArgMatches<'_>) -> Option<u8>
+    ensures { result ≡ volume_number (first_of (codes "volume") (rows_of (found_of matches.now))) }
+{
+    match said(matches, "volume") {
+        Some(word) => Some(number_named(word, 255)? as u8),
+        None => Some(STANDARD_VOLUME),
     }
 }
 
@@ -74,6 +118,44 @@ fn catalog_in(alloc: Global, matches: &ArgMatches<'_>) -> Result<Option<Job>, Al
     }))
 }
 
+/// The words of a conversion.
+#[derive(Clone, Copy)]
+struct Conversion<'a> {
+    image: &'a str,
+    order: ImageOrder,
+    to: ImageOrder,
+    out: &'a str,
+    volume: u8,
+}
+
+fn conversion_in<'a>(matches: &ArgMatches<'a>) -> Option<Conversion<'a>>
+    ensures { option_map conversion_view result ≡ conversion_by (λ name. first_of name (rows_of (found_of matches.now))) }
+{
+    Some(Conversion {
+        image: said(matches, "image")?,
+        order: order_named(said(matches, "order")?)?,
+        to: order_named(said(matches, "to")?)?,
+        out: said(matches, "out")?,
+        volume: volume_number(matches)?,
+    })
+}
+
+fn convert_in(alloc: Global, matches: &ArgMatches<'_>) -> Result<Option<Job>, AllocError>
+    ensures { IfOk result (λ job. option_map job_view job
+        ≡ job_by (codes "convert") (λ name. first_of name (rows_of (found_of matches.now)))) }
+{
+    let Some(words) = conversion_in(matches) else {
+        return Ok(None);
+    };
+    Ok(Some(Job::Convert {
+        image: words.image.to_string(alloc)?,
+        order: words.order,
+        to: words.to,
+        out: words.out.to_string(alloc)?,
+        volume: words.volume,
+    }))
+}
+
 fn command_job(
     alloc: Global,
     command: &str,
@@ -82,10 +164,10 @@ fn command_job(
     ensures { IfOk result (λ job. option_map job_view job
         ≡ job_by command.now (λ name. first_of name (rows_of (found_of matches.now)))) }
 {
-    if command == "catalog" {
-        catalog_in(alloc, matches)
-    } else {
-        Ok(None)
+    match command {
+        "catalog" => catalog_in(alloc, matches),
+        "convert" => convert_in(alloc, matches),
+        _ => Ok(None),
     }
 }
 

@@ -4,7 +4,7 @@ ghost use Rattle.clap.specs.Values.{kind_of};
 
 use crate::fault::WordsFault;
 use crate::grammar::{full_command, program};
-use crate::reading::said;
+use crate::reading::{number_named, said};
 use crate::table::{Form, Kind, Parameter, Values, table};
 use clap::error::ErrorKind;
 use clap::{ArgMatches, Error};
@@ -46,38 +46,46 @@ pub fn refusal(alloc: Global, words: &[String], error: &Error) -> WordsFault
     }
 }
 
-/// An option whose value is none of its words.
+/// An option whose value it does not take.
 #[derive(Clone, Copy)]
 struct Misfit<'a> {
     form: &'static Form,
     name: &'static str,
-    words: &'static [&'static str],
+    values: Values,
     value: &'a str,
 }
 
-/// The parameter, where its value is none of its words.
+/// Whether the word is one of the values.
+fn takes(values: Values, word: &str) -> bool {
+    match values {
+        Values::Any => true,
+        Values::OneOf(words) => words.iter().any(|one| *one == word),
+        Values::Number { greatest } => number_named(word, greatest).is_some(),
+    }
+}
+
+/// The parameter, where it does not take its value.
 fn misfit_of<'a>(
     form: &'static Form,
     parameter: &Parameter,
     matches: &ArgMatches<'a>,
 ) -> Option<Misfit<'a>> {
-    let (Kind::Needed(Values::OneOf(words)) | Kind::Optional(Values::OneOf(words))) = parameter.kind
-    else {
+    let (Kind::Needed(values) | Kind::Optional(values)) = parameter.kind else {
         return None;
     };
     let value = said(matches, parameter.name)?;
-    if words.iter().any(|word| *word == value) {
+    if takes(values, value) {
         return None;
     }
     Some(Misfit {
         form,
         name: parameter.name,
-        words,
+        values,
         value,
     })
 }
 
-/// The first option of the command whose value is none of its words.
+/// The first option of the command that does not take its value.
 fn misfit_in<'a>(matches: &ArgMatches<'a>) -> Option<Misfit<'a>> {
     let (command, inner) = matches.subcommand()?;
     let form = form_named(command)?;
@@ -86,14 +94,26 @@ fn misfit_in<'a>(matches: &ArgMatches<'a>) -> Option<Misfit<'a>> {
         .find_map(|parameter| misfit_of(form, parameter, inner))
 }
 
+/// What an option takes, for the user.
+fn wanted(alloc: Global, values: Values) -> Result<String, AllocError> {
+    match values {
+        Values::Any => Ok(String::new(alloc)),
+        Values::OneOf(words) => {
+            let words = words.join(alloc, ", ")?;
+            format!(in alloc; "[possible values: {words}]")
+        }
+        Values::Number { greatest } => format!(in alloc; "[a number from 0 to {greatest}]"),
+    }
+}
+
 impl Misfit<'_> {
     /// What clap says of such a value, with the command's usage.
     fn text(&self, alloc: Global) -> Result<String, AllocError> {
         let name = self.name;
         let value = self.value;
-        let words = self.words.join(alloc, ", ")?;
+        let wanted = wanted(alloc, self.values)?;
         let message = format!(in alloc;
-            "invalid value '{value}' for '--{name} <{name}>'\n  [possible values: {words}]"
+            "invalid value '{value}' for '--{name} <{name}>'\n  {wanted}"
         )?;
         full_command(alloc, self.form)?
             .error(ErrorKind::InvalidValue, message.as_str())?

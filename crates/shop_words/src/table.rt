@@ -9,6 +9,8 @@ pub enum Values {
     Any,
     /// One of these words.
     OneOf(&'static [&'static str]),
+    /// Decimal digits, of a number up to the greatest.
+    Number { greatest: u64 },
 }
 
 /// How a parameter stands among the words of a command.
@@ -52,10 +54,30 @@ const FILE_SYSTEM: Parameter = Parameter {
     help: "File system of the volume: dos",
 };
 
+const ORDERS: Values = Values::OneOf(&["dos", "prodos", "nibble"]);
+
 const ORDER: Parameter = Parameter {
     name: "order",
-    kind: Kind::Needed(Values::OneOf(&["dos"])),
-    help: "Order of the sectors in the image: dos",
+    kind: Kind::Needed(ORDERS),
+    help: "Order of the sectors in the image: dos, prodos or nibble",
+};
+
+const TO: Parameter = Parameter {
+    name: "to",
+    kind: Kind::Needed(ORDERS),
+    help: "Order of the sectors in the image that is written: dos, prodos or nibble",
+};
+
+const OUT: Parameter = Parameter {
+    name: "out",
+    kind: Kind::Needed(Values::Any),
+    help: "File that the image is written to",
+};
+
+const VOLUME: Parameter = Parameter {
+    name: "volume",
+    kind: Kind::Optional(Values::Number { greatest: 255 }),
+    help: "Volume number of the tracks that are made, 0 to 255; 254 if left out",
 };
 
 const DATA_DISK: Parameter = Parameter {
@@ -64,11 +86,18 @@ const DATA_DISK: Parameter = Parameter {
     help: "Tracks 1 and 2 hold files, as on a disk without DOS",
 };
 
-const FORMS: &[Form] = &[Form {
-    name: "catalog",
-    parameters: &[IMAGE, FILE_SYSTEM, ORDER, DATA_DISK],
-    help: "List the files of a volume",
-}];
+const FORMS: &[Form] = &[
+    Form {
+        name: "catalog",
+        parameters: &[IMAGE, FILE_SYSTEM, ORDER, DATA_DISK],
+        help: "List the files of a volume",
+    },
+    Form {
+        name: "convert",
+        parameters: &[IMAGE, ORDER, TO, OUT, VOLUME, DATA_DISK],
+        help: "Write the sectors of an image in another order",
+    },
+];
 
 /// The forms of all commands.
 pub fn table() -> &'static [Form]

@@ -1,5 +1,7 @@
 use Rattle.std.proofs.Common.{map, string_bytes}
-use Rattle.a2_shop.proofs.Answered.{command_refused, memory_told}
+use Rattle.shop_words.specs.Job.{job_view}
+use Rattle.a2_shop.specs.Reply.{held}
+use Rattle.a2_shop.proofs.Answered.{command_answered, command_refused, memory_told}
 use Rattle.a2_shop.proofs.command.run_command.Goals as goal
 
 pub returns-in-Err-clause-plain : goal.returns-in-Err-clause-plain
@@ -9,4 +11,11 @@ returns-in-Err-clause-plain g c = λ plain.
 pub returns-in-Err-clause-answer : goal.returns-in-Err-clause-answer
 returns-in-Err-clause-answer g c =
     command_refused (map string_bytes c.args.words.now) c.in-Err.fault (g.I.Read.remaining c.args.image.now) c.tell_words_fault.result
-    (g.T.Write.contents c.args.text.now) (g.T.Write.contents c.tell_words_fault.new.text) c.tell_words_fault.ensures
+    (held (g.T.Write.contents c.args.text.now) (g.O.Write.contents c.args.out.now))
+    (held (g.T.Write.contents c.tell_words_fault.new.text) (g.O.Write.contents c.args.out.now)) c.tell_words_fault.ensures
+
+pub returns-in-Ok-clause-answer : goal.returns-in-Ok-clause-answer
+returns-in-Ok-clause-answer g c =
+    command_answered (map string_bytes c.args.words.now) (job_view c.in-Ok.job) (g.I.Read.remaining c.args.image.now) c.run_job.result
+    (held (g.T.Write.contents c.args.text.now) (g.O.Write.contents c.args.out.now))
+    (held (g.T.Write.contents c.run_job.new.text) (g.O.Write.contents c.run_job.new.out)) c.in-Ok.ensures.job c.run_job.ensures.answer

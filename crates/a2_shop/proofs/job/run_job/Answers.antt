@@ -1,7 +1,15 @@
-use Rattle.a2_shop.proofs.Answered.{job_answered}
+use Rattle.shop_words.specs.Job.{job_view}
+use Rattle.a2_shop.specs.Reply.{held}
+use Rattle.a2_shop.proofs.Answered.{image_handed, job_answered}
 use Rattle.a2_shop.proofs.job.run_job.Goals as goal
 
 pub returns-clause-answer : goal.returns-clause-answer
 returns-clause-answer g c =
-    job_answered c.args.job.now (g.I.Read.remaining c.args.image.now) c.in-Ok.bytes.items c.catalog_reply-reply.result c.tell-2.result
-    (g.T.Write.contents c.args.text.now) (g.T.Write.contents c.tell-2.new.text) c.in-Ok.ensures c.catalog_reply-reply.ensures c.tell-2.ensures
+    job_answered (job_view c.args.job.now) (g.I.Read.remaining c.args.image.now) c.image_order.result c.in-Ok.bytes.items c.reply_to.result c.deliver.result
+    (held (g.T.Write.contents c.args.text.now) (g.O.Write.contents c.args.out.now)) (held (g.T.Write.contents c.deliver.new.text) (g.O.Write.contents c.deliver.new.out))
+    c.image_order.ensures c.in-Ok.ensures c.reply_to.ensures c.deliver.ensures.told
+
+pub returns-clause-out : goal.returns-clause-out
+returns-clause-out g c =
+    image_handed (job_view c.args.job.now) c.in-Ok.bytes.items c.reply_to.result c.deliver.result
+    (g.T.Write.contents c.args.text.now) (g.T.Write.contents c.deliver.new.text) c.args.out.now c.deliver.new.out c.reply_to.ensures c.deliver.ensures.out

@@ -1,32 +1,27 @@
-use Rattle.std.proofs.Common.{◌≡◌, ◌∙◌, length, subst, sym, ap, refl, Global}
+use Rattle.std.proofs.Common.{◌≡◌, subst, sym, ap, refl, Global}
 use Rattle.std.specs.Prelude.{Err}
-use Rattle.a2_image.proofs.Opened.{IsOfDisk-Dos, dos_length}
 use Rattle.a2_device.specs.Device.{DeviceState}
-use Rattle.a2_device.specs.DosPlaces.{dos_units}
 use Rattle.file_cmds.specs.Catalog.{IsCatalogOf}
 use Rattle.file_cmds.specs.declared.listing.Listing.{Listing}
-use Rattle.a2_shop.specs.Reply.{IsCatalogReply}
-use Rattle.a2_shop.proofs.Replies.{catalog_listed, catalog_refused, image_refused, no_failed_read}
+use Rattle.a2_shop.specs.CatalogReply.{IsCatalogReply}
+use Rattle.a2_shop.proofs.Replies.{catalog_listed, catalog_not_taken, catalog_refused}
 use Rattle.a2_shop.proofs.listing.catalog_reply.Goals as goal
 
 pub returns-in-Err : goal.returns-in-Err
-returns-in-Err c = subst (IsCatalogReply c.args.image.items) (sym c.from.ensures) (image_refused c.args.image.items c.in-Err.error c.in-Err.ensures.refused)
-
-pub dos-device-requires : goal.dos-device-requires
-dos-device-requires c = IsOfDisk-Dos c.in-Ok.image c.in-Ok.ensures.order
+returns-in-Err c =
+    subst (IsCatalogReply c.args.order c.args.image.items) (sym c.from.ensures) (catalog_not_taken c.args.order c.args.image.items c.in-Err.error c.in-Err.ensures.refused)
 
 pub returns-in-Ok-catalog : goal.returns-in-Ok-catalog
 returns-in-Ok-catalog c =
-    let store : dos_units c.dos-device.result.image.sectors ≡ dos_units c.in-Ok.image.sectors = ap (λ (d : DeviceState). d.store) c.dos-device.ensures in
-    catalog_listed c.args.image.items c.in-Ok.image.sectors c.in-Ok-catalog.listing c.listing_reply.result
-    (dos_length (length c.args.image.items) (c.in-Ok.ensures.takes refl)) c.in-Ok.ensures.holds
+    let store = ap (λ (d : DeviceState). d.store) c.dos-device.ensures in
+    catalog_listed c.args.order c.args.image.items c.in-Ok.image.sectors c.in-Ok-catalog.listing c.listing_reply.result
+    (c.in-Ok.ensures.takes refl) c.in-Ok.ensures.holds
     (subst (λ s. IsCatalogOf s c.in-Ok-catalog.listing) store (c.in-Ok-catalog.ensures.listed refl)) c.listing_reply.ensures
 
 pub returns : goal.returns
 returns c =
-    subst (IsCatalogReply c.args.image.items) (sym c.from-in-Err-catalog.ensures)
-    (catalog_refused (Listing Global) c.args.image.items c.in-Ok.image.sectors _ _ c.in-Err-catalog.error
-    (dos_length (length c.args.image.items) (c.in-Ok.ensures.takes refl)) c.in-Ok.ensures.holds
-    (ap (λ (d : DeviceState). d.store) c.dos-device.ensures) refl
-    (ap (λ (d : DeviceState). d.read_failures) c.dos-device.ensures ∙ no_failed_read c.args.image.items c.in-Ok.image.sectors c.in-Ok.ensures.holds)
+    subst (IsCatalogReply c.args.order c.args.image.items) (sym c.from-in-Err-catalog.ensures)
+    (catalog_refused (Listing Global) c.args.order c.args.image.items c.in-Ok.image.sectors _ _ c.in-Err-catalog.error
+    (c.in-Ok.ensures.takes refl) c.in-Ok.ensures.holds
+    (ap (λ (d : DeviceState). d.store) c.dos-device.ensures) (ap (λ (d : DeviceState). d.unreadable) c.dos-device.ensures) refl (ap (λ (d : DeviceState). d.read_failures) c.dos-device.ensures)
     c.in-Err-catalog.ensures.device (λ is. c.in-Err-catalog.ensures.check refl (ap Err is)))

@@ -3,6 +3,7 @@ use Rattle.std.specs.Prelude.{IsTrue, not, slice_get}
 use Rattle.a2_device.specs.Device.{OnlyReads, unit_at}
 use Rattle.dos_catalog.specs.Entry.{free_slots_in}
 use Rattle.dos_catalog.specs.Walk.{IsTable, IsWalking}
+use Rattle.dos_catalog.proofs.OnTrack.{AreSoFar}
 use Rattle.dos_catalog.proofs.catalog.Catalog.walk.Given as goal
 
 abbrev pub invariant-loop-unit : goal.invariant-loop-unit
@@ -11,6 +12,7 @@ invariant-loop-unit g l =
     record {
       device : OnlyReads false start (g.D.Device.state l.device);
       size : length l.met ≡ 16;
+      found : AreSoFar l.met l.catalog.entries.items;
       table : IsTable l.met l.catalog.sectors.items;
       walking : IsTrue start.honest → l.fn.vtoc ≡ unit_at start.store 272
           → IsWalking start.store l.catalog.sectors.items l.catalog.entries.items l.holder l.unit;

@@ -1,0 +1,5 @@
+mod Bits
+mod Counting
+mod Lanes
+mod Next
+mod Units

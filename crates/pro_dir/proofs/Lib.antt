@@ -1,0 +1,7 @@
+mod Slots
+mod Table
+mod Following
+mod Listing
+mod Described
+mod Small
+mod Written

@@ -1,0 +1,73 @@
+use Rattle.std.proofs.Common.{◌≡◌, ◌≢◌, ◌<◌, ◌≤◌, ◌++◌, List, [], ◌∷◌, ℕ, refl, sym, ◌∙◌, ap, subst, arith, false, true}
+use Rattle.std.specs.Prelude.{IsTrue}
+use Rattle.std.specs.Option.{option_or}
+use Rattle.std.proofs.lemmas.Result.{err_from_is_err_and}
+use Rattle.a2_device.specs.Device.{DeviceState, unit_at}
+use Rattle.a2_device.specs.Reading.{then_reads}
+use Rattle.a2_device.specs.declared.fault.Fault.TheVariants.{DirLink}
+use Rattle.pro_dir.specs.Entry.{entries_of}
+use Rattle.pro_dir.specs.Tree.{HasBadLink, next_of}
+use Rattle.pro_dir.specs.Walk.{IsTable, IsFollowing, is_met, work, first_free_of}
+use Rattle.pro_dir.proofs.Table.{tabled_on, work-less, count_by-set}
+use Rattle.pro_dir.proofs.Following.{followed_on, bad_link, read_out}
+use Rattle.pro_dir.proofs.tree.Tree.follow.Goals as goal
+
+pub returns-then-not-is_new-clause-refused : goal.returns-then-not-is_new-clause-refused
+returns-then-not-is_new-clause-refused g c = λ honest before following fault same.
+    let start = g.D.Device.state c.args.device.now in
+    let now = c.loop-next in
+    let whole = g.met.D.Device.whole c.args.device.now honest in
+    let key = c.args.reading.now.key in
+    let bad : HasBadLink start.store before key now.holder =
+    bad_link start.store start.places now.self.met.items key before now.self.blocks.items now.reading.entries.items now.reading.free now.holder now.unit now.next
+    whole.all now.invariant.table (now.invariant.following honest before following) now.invariant.next
+    (λ none. absurd (omega (arith, c.loop-next-test.true, none)))
+    (λ new. let no_way : false ≡ true = c.if-not-is_new.ensures.1 (new.0, omega (arith, new.1, c.places.ensures, now.invariant.device.same.places), new.2) in cc) in
+    let is : DirLink now.holder ≡ fault = cc in
+    (now.holder, sym is, bad)
+
+pub loop-next-preserved : goal.loop-next-preserved
+loop-next-preserved g c =
+    let start = g.D.Device.state c.args.device.now in
+    let now = c.loop-next in
+    let read = c.in_ok-read.ensures in
+    let new = c.if-not-is_new.ensures.0 refl in
+    let below : now.next < start.places = omega (arith, new.1, c.places.ensures, now.invariant.device.same.places) in
+    let named = now.invariant.key in
+    let inside = read.inside ∙ ap (λ (key : ℕ). now.reading.entries.items ++ entries_of key now.next c.read.new.unit) named in
+    let first = read.first ∙ ap (λ (key : ℕ). option_or now.reading.free (first_free_of key now.next c.read.new.unit)) named in
+    record {
+      device = then_reads false start (g.D.Device.state now.device) (g.D.Device.state c.read.new.device) now.invariant.device read.device;
+      next = c.next_block-next-in-loop-next.ensures;
+      table = tabled_on start.places now.self.met.items c.read.new.self.met.items now.self.blocks.items c.read.new.self.blocks.items now.next new.0 below new.2 now.invariant.table read.met read.blocks;
+      room = omega (
+        arith,
+        now.invariant.room,
+        work-less start.places now.self.met.items c.read.new.self.met.items now.reading.entries.items c.read.new.reading.entries.items c.args.reading.now.key now.next c.read.new.unit
+            now.invariant.table.size below new.2 read.met inside,
+      );
+      key = read.key ∙ named;
+      following = λ honest before following.
+          let still = subst IsTrue (sym now.invariant.device.same.honest) honest in
+          let whole = g.met.D.Device.whole c.args.device.now honest in
+          let unit : c.read.new.unit ≡ unit_at start.store now.next =
+          subst (λ (d : DeviceState). c.read.new.unit ≡ unit_at d.store now.next) (now.invariant.device.kept honest refl) (read.unit still) in
+          followed_on start.store c.args.reading.now.key before now.self.blocks.items c.read.new.self.blocks.items now.reading.entries.items c.read.new.reading.entries.items
+          now.reading.free c.read.new.reading.free now.holder now.unit c.read.new.unit now.next
+          (now.invariant.following honest before following) (new.0, omega (arith, below, whole.all)) now.invariant.next read.blocks inside first unit;
+      entries = read.same.0 ∙ now.invariant.entries;
+      pending = read.same.1 ∙ now.invariant.pending;
+      free = read.same.2 ∙ now.invariant.free;
+    }
+
+pub returns-clause-found : goal.returns-clause-found
+returns-clause-found g c = λ honest before following.
+    let start = g.D.Device.state c.args.device.now in
+    let now = c.loop-next in
+    read_out start.store c.args.reading.now.key before now.self.blocks.items now.reading.entries.items now.reading.free now.holder now.unit
+    (now.invariant.following honest before following) (sym now.invariant.next ∙ omega (arith, c.loop-next-test.false))
+
+pub returns-in_err-read-clause-device : goal.returns-in_err-read-clause-device
+returns-in_err-read-clause-device g c =
+    let given = err_from_is_err_and c.from_residual.result c.from_residual.ensures.1 in
+    rw (given.1, given.2) (then_reads _ (g.D.Device.state c.args.device.now) (g.D.Device.state c.loop-next.device) (g.D.Device.state c.read.new.device) c.loop-next.invariant.device c.in_err-read.ensures.device)

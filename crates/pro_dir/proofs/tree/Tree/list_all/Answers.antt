@@ -1,0 +1,49 @@
+use Rattle.std.proofs.Common.{◌≡◌, ◌++◌, [], ◌∷◌, refl, sym, ◌∙◌, subst, false}
+use Rattle.std.specs.Prelude.{IsTrue, reverse}
+use Rattle.std.proofs.lemmas.Result.{err_from_is_err_and}
+use Rattle.a2_device.specs.Device.{DeviceState}
+use Rattle.a2_device.specs.Reading.{then_reads}
+use Rattle.a2_device.specs.declared.fault.Fault.{Fault}
+use Rattle.a2_device.specs.declared.fault.WalkError.TheVariants.{Fault as AFault}
+use Rattle.pro_dir.specs.Tree.{IsCutOff}
+use Rattle.pro_dir.specs.Walk.{IsTable, IsListing}
+use Rattle.pro_dir.proofs.Listing.{next_listed}
+use Rattle.pro_dir.proofs.Following.{refused_so}
+use Rattle.pro_dir.proofs.tree.Tree.list_all.Goals as goal
+
+pub loop-entry-preserved : goal.loop-entry-preserved
+loop-entry-preserved g c =
+    let start = g.D.Device.state c.args.device.now in
+    let mid = g.D.Device.state c.loop-entry.device in
+    let now = c.loop-entry.self in
+    let before = c.loop-entry.invariant in
+    let next = c.in_ok-list.ensures in
+    record {
+      device = then_reads false start mid (g.D.Device.state c.list.new.device) before.device next.device;
+      table = subst (λ n. IsTable n c.list.new.self.met.items c.list.new.self.blocks.items) before.device.same.places next.table;
+      listed = λ honest first.
+          let still : IsTrue mid.honest = subst IsTrue (sym before.device.same.honest) honest in
+          let same : mid ≡ start = before.device.kept honest refl in
+          let so = next_listed start.store now.blocks.items now.entries.items now.pending.items c.pop.new.self.items c.in-Some.entry now.free.items (before.listed honest first) c.in-Some.ensures.items in
+          subst (λ (d : DeviceState). IsListing d.store c.list.new.self.blocks.items c.list.new.self.entries.items (reverse c.list.new.self.pending.items) c.list.new.self.free.items) same
+          (next.listed still (subst (λ (d : DeviceState). IsListing d.store now.blocks.items now.entries.items (c.in-Some.entry ∷ reverse c.pop.new.self.items) now.free.items) (sym same) so));
+    }
+
+pub returns-in_err-list-clause-refused : goal.returns-in_err-list-clause-refused
+returns-in_err-list-clause-refused g c = λ honest first.
+    let start = g.D.Device.state c.args.device.now in
+    let mid = g.D.Device.state c.loop-entry.device in
+    let now = c.loop-entry.self in
+    let before = c.loop-entry.invariant in
+    let still : IsTrue mid.honest = subst IsTrue (sym before.device.same.honest) honest in
+    let same : mid ≡ start = before.device.kept honest refl in
+    let so = next_listed start.store now.blocks.items now.entries.items now.pending.items c.pop.new.self.items c.in-Some.entry now.free.items (before.listed honest first) c.in-Some.ensures.items in
+    let told = c.in_err-list.ensures.refused still
+    (subst (λ (d : DeviceState). IsListing d.store now.blocks.items now.entries.items (c.in-Some.entry ∷ reverse c.pop.new.self.items) now.free.items) (sym same) so) in
+    refused_so c.from_residual.result c.in_err-list.field-0.0 (λ e. (fault : Fault) → e ≡ AFault fault → IsCutOff start.store fault) c.from_residual.ensures.1
+    (λ fault is. subst (λ (d : DeviceState). IsCutOff d.store fault) same (told fault is))
+
+pub returns-in_err-list-clause-device : goal.returns-in_err-list-clause-device
+returns-in_err-list-clause-device g c =
+    let given = err_from_is_err_and c.from_residual.result c.from_residual.ensures.1 in
+    rw (given.1, given.2) (then_reads _ (g.D.Device.state c.args.device.now) (g.D.Device.state c.loop-entry.device) (g.D.Device.state c.list.new.device) c.loop-entry.invariant.device c.in_err-list.ensures.device)

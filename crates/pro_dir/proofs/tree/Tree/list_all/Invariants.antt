@@ -1,0 +1,19 @@
+use Rattle.std.proofs.Common.{◌≡◌, false, reverse}
+use Rattle.std.specs.Prelude.{IsTrue}
+use Rattle.a2_device.specs.Device.{OnlyReads}
+use Rattle.pro_dir.specs.Walk.{IsTable, IsListing, work}
+use Rattle.pro_dir.proofs.tree.Tree.list_all.Given as goal
+
+abbrev pub invariant-loop-entry : goal.invariant-loop-entry
+invariant-loop-entry g l =
+    let start = g.D.Device.state l.fn.device in
+    let first = l.fn.self in
+    record {
+      device : OnlyReads false start (g.D.Device.state l.device);
+      table : IsTable start.places l.self.met.items l.self.blocks.items;
+      listed : IsTrue start.honest → IsListing start.store first.blocks.items first.entries.items (reverse first.pending.items) first.free.items
+          → IsListing start.store l.self.blocks.items l.self.entries.items (reverse l.self.pending.items) l.self.free.items;
+    }
+
+abbrev pub decreases-loop-entry : goal.decreases-loop-entry
+decreases-loop-entry g l = work l.self.met.items l.self.pending.items

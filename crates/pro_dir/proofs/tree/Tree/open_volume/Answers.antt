@@ -1,0 +1,64 @@
+use Rattle.std.proofs.Common.{◌≡◌, ◌++◌, ◌<◌, List, [], ◌∷◌, ℕ, None, refl, sym, ◌∙◌, ap, subst, arith, Vec, length, replicate, false}
+use Rattle.std.specs.Prelude.{IsTrue, reverse}
+use Rattle.a2_device.specs.Device.{DeviceState, unit_at}
+use Rattle.a2_device.specs.declared.fault.Fault.{Fault}
+use Rattle.a2_device.specs.declared.fault.Fault.TheVariants.{DirLink}
+use Rattle.a2_device.specs.declared.fault.WalkError.TheVariants.{Fault as AFault}
+use Rattle.pro_dir.specs.declared.entry.Entry.{Entry}
+use Rattle.pro_dir.specs.declared.reading.FreeSlot.{FreeSlot}
+use Rattle.pro_dir.specs.Tree.{HasBadLink, HasKind, HasSizes}
+use Rattle.pro_dir.specs.Walk.{IsFollowing, IsReadOut, IsTable, IsVolumeKey, kept_slots}
+use Rattle.pro_dir.proofs.Table.{tabled_none, tabled_on, unmet_none}
+use Rattle.pro_dir.proofs.Following.{volume_opened, refused_so}
+use Rattle.pro_dir.proofs.Listing.{volume_listed}
+use Rattle.pro_dir.proofs.tree.Tree.open_volume.Goals as goal
+
+pub follow-requires-clause-table : goal.follow-requires-clause-table
+follow-requires-clause-table g c =
+    let start = g.D.Device.state c.args.device.now in
+    let tree = c.in_ok-tree.tree in
+    let lists = c.in_ok-tree.ensures.lists in
+    let take = c.in_ok-take.ensures in
+    let met = subst (λ n. tree.met.items ≡ replicate n false) c.places.ensures c.in_ok-tree.ensures.met in
+    tabled_on start.places tree.met.items c.take.new.self.met.items tree.blocks.items c.take.new.self.blocks.items 2 (omega arith) c.requires.places (unmet_none start.places tree.met.items 2 met)
+    (tabled_none start.places tree.met.items tree.blocks.items met lists.0) take.met take.blocks
+
+pub returns-in_err-follow-clause-refused : goal.returns-in_err-follow-clause-refused
+returns-in_err-follow-clause-refused g c = λ honest key.
+    let store = (g.D.Device.state c.args.device.now).store in
+    let whole = g.met.D.Device.whole c.args.device.now honest in
+    let first = volume_opened store c.new-reading.result.key c.take.new.reading.key c.in_ok-tree.tree.blocks.items c.take.new.self.blocks.items c.new-reading.result.entries.items
+    c.take.new.reading.entries.items c.new-reading.result.free c.take.new.reading.free c.args.unit.now key (omega (arith, c.requires.places, whole.all)) c.new-reading.ensures.key
+    c.in_ok-take.ensures.key c.new-reading.ensures.entries c.new-reading.ensures.free c.in_ok-tree.ensures.lists.0 c.in_ok-take.ensures.blocks c.in_ok-take.ensures.inside c.in_ok-take.ensures.first in
+    let named : c.take.new.reading.key ≡ 2 = c.in_ok-take.ensures.key ∙ c.new-reading.ensures.key in
+    refused_so c.from_residual-in_err-follow.result c.in_err-follow.field-0.0 (λ e. (fault : Fault) → e ≡ AFault fault → (holder : ℕ) × (fault ≡ DirLink holder) × HasBadLink store [] 2 holder)
+    c.from_residual-in_err-follow.ensures.1
+    (λ fault is. let bad = c.in_err-follow.ensures.refused honest [] first fault is in (bad.0, bad.1, subst (λ k. HasBadLink store [] k bad.0) named bad.2))
+
+pub returns-clause-listed : goal.returns-clause-listed
+returns-clause-listed g c = λ honest key.
+    let store = (g.D.Device.state c.args.device.now).store in
+    let whole = g.met.D.Device.whole c.args.device.now honest in
+    let tree = c.in_ok-tree.tree in
+    let lists = c.in_ok-tree.ensures.lists in
+    let take = c.in_ok-take.ensures in
+    let follow = c.in_ok-follow.ensures in
+    let wait = c.in_ok-wait.ensures in
+    let new = c.wait.new.self in
+    let reading = c.follow.new.reading in
+    let first = volume_opened store c.new-reading.result.key c.take.new.reading.key c.in_ok-tree.tree.blocks.items c.take.new.self.blocks.items c.new-reading.result.entries.items
+    c.take.new.reading.entries.items c.new-reading.result.free c.take.new.reading.free c.args.unit.now key (omega (arith, c.requires.places, whole.all)) c.new-reading.ensures.key
+    c.in_ok-take.ensures.key c.new-reading.ensures.entries c.new-reading.ensures.free c.in_ok-tree.ensures.lists.0 c.in_ok-take.ensures.blocks c.in_ok-take.ensures.inside c.in_ok-take.ensures.first in
+    let named : c.take.new.reading.key ≡ 2 = take.key ∙ c.new-reading.ensures.key in
+    let there : (P : List ℕ → Type 0) → P c.args.unit.now → P (unit_at store 2) = λ P p. subst P key.here p in
+    let blocks : new.blocks.items ≡ c.follow.new.self.blocks.items = ap (λ (v : Vec ℕ _). v.items) wait.same.0 in
+    let out = subst (λ bs. IsReadOut store 2 [] bs reading.entries.items reading.free) (sym blocks)
+    (subst (λ k. IsReadOut store k [] c.follow.new.self.blocks.items reading.entries.items reading.free) named (follow.found honest [] first)) in
+    let entries : new.entries.items ≡ [] =
+    ap (λ (v : Vec Entry _). v.items) wait.same.2 ∙ ap (λ (v : Vec Entry _). v.items) follow.same.0 ∙ ap (λ (v : Vec Entry _). v.items) take.same.0 ∙ lists.1 in
+    let pending : c.follow.new.self.pending.items ≡ [] = ap (λ (v : Vec Entry _). v.items) follow.same.1 ∙ ap (λ (v : Vec Entry _). v.items) take.same.1 ∙ lists.2 in
+    let free : c.follow.new.self.free.items ≡ [] = ap (λ (v : Vec FreeSlot _). v.items) follow.same.2 ∙ ap (λ (v : Vec FreeSlot _). v.items) take.same.2 ∙ lists.3 in
+    let kept : new.free.items ≡ c.follow.new.self.free.items ++ kept_slots 2 reading.free =
+    wait.free ∙ ap (λ (k : ℕ). c.follow.new.self.free.items ++ kept_slots k reading.free) (follow.key ∙ named) in
+    volume_listed store new.blocks.items [] new.entries.items c.follow.new.self.pending.items new.pending.items reading.entries.items c.follow.new.self.free.items new.free.items reading.free
+    (there (HasKind 15) key.kind_is) (there HasSizes key.sizes) out refl entries pending free wait.pending kept

@@ -1,0 +1,9 @@
+pub mod Entry
+pub mod Dates
+pub mod Writes
+pub mod Tree
+pub mod TreeLaws
+pub mod Volume
+pub mod VolumeLaws
+pub mod Listed
+pub mod Walk

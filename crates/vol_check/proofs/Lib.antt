@@ -1,0 +1,7 @@
+pub mod Pushed
+pub mod Steps
+pub mod Room
+pub mod Files
+pub mod Index
+pub mod Lost
+pub mod Verdict

@@ -1,0 +1,71 @@
+use Rattle.std.proofs.Common.{◌≡◌, ◌<◌, ◌+◌, ◌++◌, [], ◌∷◌, refl, sym, ◌∙◌, ap, subst, arith, false}
+use Rattle.std.specs.Prelude.{IsTrue}
+use Rattle.a2_device.specs.Device.{DeviceState}
+use Rattle.a2_device.specs.Reading.{unread, then_reads}
+use Rattle.vol_check.specs.Walk.{lists, IsSound, after_next, next_unit}
+use Rattle.vol_check.proofs.Files.{root_sound, root_walking, next_walking}
+use Rattle.vol_check.proofs.Room.{next_sound, next_work, work, top_in_range}
+use Rattle.vol_check.proofs.walk.walk_file.Goals as goal
+
+pub loop-next-init : goal.loop-next-init
+loop-next-init g c =
+    let format = g.F.Format.meaning c.args.format.now in
+    let laws = g.met.F.Format.readable c.args.format.now in
+    let of = g.met.F.Format.rooted c.args.format.now c.args.volume.now in
+    let directory = g.F.Format.directory c.args.format.now c.args.volume.now in
+    let device = g.D.Device.state c.args.device.now in
+    record {
+      device = unread device;
+      sound = root_sound format laws directory of c.args.file c.entry_at-entry.result.place c.root.result (lists c.args.walk.now) (lists c.note.new.walk)
+          (subst format.Takes (sym c.requires.places) c.requires.takes) c.requires.file c.root.ensures c.in_ok-note.ensures c.requires.sound;
+      walking = λ honest. root_walking format laws directory device.store of c.args.file c.entry_at-entry.result.place c.root.result
+          (lists c.args.walk.now) (lists c.note.new.walk) c.entry_at-entry.ensures.place c.root.ensures c.in_ok-note.ensures c.requires.file c.requires.pending (c.requires.walking honest);
+    }
+
+pub go_on-requires-clause-place : goal.go_on-requires-clause-place
+go_on-requires-clause-place g c = λ part is.
+    let format = g.F.Format.meaning c.args.format.now in
+    let laws = g.met.F.Format.readable c.args.format.now in
+    let directory = g.F.Format.directory c.args.format.now c.args.volume.now in
+    let takes = subst format.Takes (sym c.requires.places) c.requires.takes in
+    let top = c.in-Some.ensures.items ∙ ap (λ next. c.pop.new.self.items ++ next ∷ []) is in
+    omega (
+      arith,
+      top_in_range format laws directory takes (lists c.loop-next.walk) c.pop.new.self.items part [] c.loop-next.invariant.sound top,
+      c.requires.places,
+      c.loop-next.invariant.device.same.places,
+    )
+
+pub loop-next-smaller : goal.loop-next-smaller
+loop-next-smaller g c =
+    let format = g.F.Format.meaning c.args.format.now in
+    let laws = g.met.F.Format.readable c.args.format.now in
+    let directory = g.F.Format.directory c.args.format.now c.args.volume.now in
+    let takes = subst format.Takes (sym c.requires.places) c.requires.takes in
+    let next : work (lists c.go_on.new.walk) < work (lists c.loop-next.walk) =
+    subst (λ w. work w < work (lists c.loop-next.walk)) (sym c.in_ok-go_on.ensures.walk)
+    (next_work format laws directory takes (lists c.loop-next.walk) c.pop.new.self.items c.in-Some.next c.go_on.new.unit c.loop-next.invariant.sound c.in-Some.ensures.items) in
+    next
+
+pub loop-next-preserved : goal.loop-next-preserved
+loop-next-preserved g c =
+    let format = g.F.Format.meaning c.args.format.now in
+    let laws = g.met.F.Format.readable c.args.format.now in
+    let directory = g.F.Format.directory c.args.format.now c.args.volume.now in
+    let takes = subst format.Takes (sym c.requires.places) c.requires.takes in
+    let device = g.D.Device.state c.args.device.now in
+    let before = c.loop-next.invariant in
+    let items = c.in-Some.ensures.items in
+    record {
+      device = then_reads false device (g.D.Device.state c.loop-next.device) (g.D.Device.state c.go_on.new.device) before.device c.in_ok-go_on.ensures.device;
+      sound = subst (IsSound format directory) (sym c.in_ok-go_on.ensures.walk)
+          (next_sound format laws directory takes (lists c.loop-next.walk) c.pop.new.self.items c.in-Some.next c.go_on.new.unit before.sound items);
+      walking = λ honest.
+          let same = before.device.kept honest refl in
+          let still = subst IsTrue (sym before.device.same.honest) honest in
+          let whole = g.met.D.Device.whole c.args.device.now honest in
+          next_walking format laws directory device.store (c.args.file + 1) (lists c.loop-next.walk) (lists c.go_on.new.walk) c.pop.new.self.items c.in-Some.next
+          before.sound (before.walking honest) items (c.requires.places ∙ sym whole.all)
+          (subst (λ (d : DeviceState). lists c.go_on.new.walk ≡ after_next format directory c.in-Some.next (next_unit d.store c.in-Some.next) (record (lists c.loop-next.walk) { pending = c.pop.new.self.items }))
+          same (c.in_ok-go_on.ensures.honest still));
+    }

@@ -1,0 +1,249 @@
+// The walk over the parts of all files.
+ghost use Rattle.std.specs.Prelude.{◌≡◌, ◌<◌, ◌≤◌, ◌+◌, [], false, replicate, length, OnOk, IfOk, IsTrue};
+ghost use Rattle.a2_device.specs.Device.{OnlyReads, unit_at};
+ghost use Rattle.vol_format.specs.Directory.{entries};
+ghost use Rattle.vol_check.specs.Stop.{is_device_stop};
+ghost use Rattle.a2_device.specs.declared.part.Part.{Part};
+ghost use Rattle.vol_check.specs.declared.walk.Pending.TheVariants.{Visit};
+ghost use Rattle.vol_check.specs.declared.walk.Stop.TheVariants.{Memory};
+ghost use Rattle.vol_check.specs.Walking.{IsWalking, None};
+ghost use Rattle.vol_check.specs.Walk.{lists, IsSound, is_admitted, admitted, noted, followed, after_visit, after_next, next_unit};
+
+use a2_device::{Device, Fault, Part};
+use std::alloc::{AllocError, AllocFailed, Allocator};
+use vol_format::{Format, Link};
+
+/// Why a walk ends early.
+#[derive(Clone, Copy, Debug, PartialEq, Eq)]
+pub enum Stop {
+    Device,
+    Memory,
+}
+
+impl From<AllocError> for Stop {
+    ghost from_gives = { λ _ e. e ≡ Memory };
+
+    fn from(_: AllocError) -> Self {
+        Stop::Memory
+    }
+}
+
+impl<T: Drop> From<AllocFailed<T>> for Stop {
+    ghost from_gives = { λ _ e. e ≡ Memory };
+
+    fn from(_: AllocFailed<T>) -> Self {
+        Stop::Memory
+    }
+}
+
+/// What a pointer that was read leaves to do: to look at a part, or to tell a fault when its turn comes.
+#[derive(Clone, Copy, Debug, PartialEq, Eq)]
+pub enum Pending {
+    Visit(Part),
+    Tell(Fault),
+}
+
+/// The parts so far, what is to do next with the first of it last, the faults so far, and which places were met.
+#[derive(Drop)]
+pub struct Walk<A: Allocator> {
+    pub parts: Vec<Part, A>,
+    pub pending: Vec<Pending, A>,
+    pub faults: Vec<Fault, A>,
+    pub visited: Vec<bool, A>,
+}
+
+// A walk that has seen nothing.
+fn start<A: Allocator + Copy>(alloc: A, places: u32) -> Result<Walk<A>, AllocError>
+    ensures { IfOk result (λ walk. lists walk ≡ record { parts = []; pending = []; faults = []; visited = replicate places false }) }
+{
+    Ok(Walk {
+        parts: Vec::new(alloc),
+        pending: Vec::new(alloc),
+        faults: Vec::new(alloc),
+        visited: vec![in alloc; false; places as usize]?,
+    })
+}
+
+// Takes a part up, unless its place is the system's or was met before.
+fn admit<F: Format, A: Allocator>(
+    format: &F,
+    volume: &F::Volume,
+    part: Part,
+    walk: &mut Walk<A>,
+) -> Result<bool, AllocError>
+    requires place { part.place < (F.directory format.now volume.now).places }
+    requires visited { length walk.old.visited.items ≡ (F.directory format.now volume.now).places }
+
+    ensures taken { IfOk result (λ taken. taken ≡ is_admitted (F.directory format.now volume.now) part (lists walk.old)) }
+    ensures walk { OnOk result (lists walk.new ≡ admitted (F.directory format.now volume.now) part (lists walk.old)) }
+{
+    if format.index(volume, part.place).is_none() {
+        walk.faults.push(Fault::InSystem(part.place))?;
+        return Ok(false);
+    }
+    if walk.visited[part.place as usize] {
+        walk.faults.push(Fault::Shared(part.place))?;
+        return Ok(false);
+    }
+    if format.is_free(volume, part.place) {
+        walk.faults.push(Fault::MarkedFree(part.place))?;
+    }
+    walk.parts.push(part)?;
+    walk.visited[part.place as usize] = true;
+    Ok(true)
+}
+
+// Notes what one pointer names.
+fn note<A: Allocator>(walk: &mut Walk<A>, holder: u32, link: Link) -> Result<(), AllocError>
+    ensures { OnOk result (lists walk.new ≡ noted holder link (lists walk.old)) }
+{
+    match link {
+        Link::Null | Link::Directory => {}
+        Link::Wild => walk.pending.push(Pending::Tell(Fault::OutOfRange(holder)))?,
+        Link::OtherType => walk
+            .pending
+            .push(Pending::Tell(Fault::StorageType(holder)))?,
+        Link::To(part) => walk.pending.push(Pending::Visit(part))?,
+    }
+    Ok(())
+}
+
+// Notes what the unit of a part points to, the last pointer first.
+fn follow<F: Format, A: Allocator>(
+    format: &F,
+    volume: &F::Volume,
+    part: Part,
+    unit: &[u8],
+    walk: &mut Walk<A>,
+) -> Result<(), AllocError>
+    requires unit { length unit.now ≡ (F.meaning format.now).unit_size }
+    requires depth { (F.meaning format.now).depth part < 65536 }
+
+    ensures { OnOk result (lists walk.new
+        ≡ followed ((F.meaning format.now).child (F.directory format.now volume.now).places part unit.now) part.place
+        ((F.meaning format.now).pointers part) (lists walk.old)) }
+{
+    for pointer in (0..format.pointers(&part)).rev() {
+        note(walk, part.place, format.child(volume, &part, unit, pointer))?;
+    }
+    Ok(())
+}
+
+// Looks at a part: takes it up, reads its unit and notes what that points to.
+fn visit<D: Device, F: Format, A: Allocator>(
+    device: &mut D,
+    format: &F,
+    volume: &F::Volume,
+    part: Part,
+    unit: &mut [u8],
+    walk: &mut Walk<A>,
+) -> Result<(), Stop>
+    requires size { (D.state device.old).unit_size ≡ (F.meaning format.now).unit_size }
+    requires places { (F.directory format.now volume.now).places ≡ (D.state device.old).places }
+    requires unit { length unit.old ≡ (F.meaning format.now).unit_size }
+    requires visited { length walk.old.visited.items ≡ (F.directory format.now volume.now).places }
+    requires place { part.place < (D.state device.old).places }
+    requires depth { (F.meaning format.now).depth part < 65536 }
+
+    ensures device { OnlyReads (is_device_stop result) (D.state device.old) (D.state device.new) }
+    ensures walk { OnOk result (lists walk.new
+        ≡ after_visit (F.meaning format.now) (F.directory format.now volume.now) part unit.new (lists walk.old)) }
+    ensures honest { IsTrue (D.state device.old).honest → OnOk result (lists walk.new
+        ≡ after_visit (F.meaning format.now) (F.directory format.now volume.now) part (unit_at (D.state device.old).store part.place) (lists walk.old)) }
+{
+    if admit(format, volume, part, walk)? {
+        device.read(part.place, unit).map_err(|_| Stop::Device)?;
+        follow(format, volume, part, unit, walk)?;
+    }
+    Ok(())
+}
+
+// Does what is next.
+fn go_on<D: Device, F: Format, A: Allocator>(
+    device: &mut D,
+    format: &F,
+    volume: &F::Volume,
+    next: Pending,
+    unit: &mut [u8],
+    walk: &mut Walk<A>,
+) -> Result<(), Stop>
+    requires size { (D.state device.old).unit_size ≡ (F.meaning format.now).unit_size }
+    requires places { (F.directory format.now volume.now).places ≡ (D.state device.old).places }
+    requires unit { length unit.old ≡ (F.meaning format.now).unit_size }
+    requires visited { length walk.old.visited.items ≡ (F.directory format.now volume.now).places }
+    requires place { (part : Part) → next ≡ Visit part → part.place < (D.state device.old).places }
+    requires depth { (part : Part) → next ≡ Visit part → (F.meaning format.now).depth part < 65536 }
+
+    ensures device { OnlyReads (is_device_stop result) (D.state device.old) (D.state device.new) }
+    ensures walk { OnOk result (lists walk.new
+        ≡ after_next (F.meaning format.now) (F.directory format.now volume.now) next unit.new (lists walk.old)) }
+    ensures honest { IsTrue (D.state device.old).honest → OnOk result (lists walk.new
+        ≡ after_next (F.meaning format.now) (F.directory format.now volume.now) next (next_unit (D.state device.old).store next) (lists walk.old)) }
+{
+    match next {
+        Pending::Visit(part) => visit(device, format, volume, part, unit, walk),
+        Pending::Tell(fault) => {
+            walk.faults.push(fault)?;
+            Ok(())
+        }
+    }
+}
+
+/// Walks over the parts of one file.
+fn walk_file<D: Device, F: Format, A: Allocator>(
+    device: &mut D,
+    format: &F,
+    volume: &F::Volume,
+    file: u32,
+    unit: &mut [u8],
+    walk: &mut Walk<A>,
+) -> Result<(), Stop>
+    requires size { (D.state device.old).unit_size ≡ (F.meaning format.now).unit_size }
+    requires places { (F.directory format.now volume.now).places ≡ (D.state device.old).places }
+    requires takes { (F.meaning format.now).Takes (D.state device.old).places }
+    requires unit { length unit.old ≡ (F.meaning format.now).unit_size }
+    requires file { file < entries (F.directory format.now volume.now) }
+    requires pending { walk.old.pending.items ≡ [] }
+    requires sound { IsSound (F.meaning format.now) (F.directory format.now volume.now) (lists walk.old) }
+    requires walking { IsTrue (D.state device.old).honest
+        → IsWalking (F.meaning format.now) (F.directory format.now volume.now) (D.state device.old).store file None (lists walk.old) }
+
+    ensures device { OnlyReads (is_device_stop result) (D.state device.old) (D.state device.new) }
+    ensures pending { OnOk result (walk.new.pending.items ≡ []) }
+    ensures sound { OnOk result (IsSound (F.meaning format.now) (F.directory format.now volume.now) (lists walk.new)) }
+    ensures walking { IsTrue (D.state device.old).honest
+        → OnOk result (IsWalking (F.meaning format.now) (F.directory format.now volume.now) (D.state device.old).store (file + 1) None (lists walk.new)) }
+{
+    let entry = format.entry_at(volume, file);
+    note(walk, entry.place, format.root(volume, file))?;
+    while let Some(next) = walk.pending.pop() {
+        go_on(device, format, volume, next, unit, walk)?;
+    }
+    Ok(())
+}
+
+/// Walks over the parts of all files.
+pub fn walk_files<D: Device, F: Format, A: Allocator + Copy>(
+    alloc: A,
+    device: &mut D,
+    format: &F,
+    volume: &F::Volume,
+) -> Result<Walk<A>, Stop>
+    requires size { (D.state device.old).unit_size ≡ (F.meaning format.now).unit_size }
+    requires places { (F.directory format.now volume.now).places ≡ (D.state device.old).places }
+    requires takes { (F.meaning format.now).Takes (D.state device.old).places }
+
+    ensures device { OnlyReads (is_device_stop result) (D.state device.old) (D.state device.new) }
+    ensures pending { IfOk result (λ walk. walk.pending.items ≡ []) }
+    ensures sound { IfOk result (λ walk. IsSound (F.meaning format.now) (F.directory format.now volume.now) (lists walk)) }
+    ensures walking { IsTrue (D.state device.old).honest
+        → IfOk result (λ walk. IsWalking (F.meaning format.now) (F.directory format.now volume.now) (D.state device.old).store
+        (entries (F.directory format.now volume.now)) None (lists walk)) }
+{
+    let mut walk = start(alloc, device.places())?;
+    let mut unit = vec![in alloc; 0; device.unit()]?;
+    for file in 0..format.entries(volume) {
+        walk_file(device, format, volume, file, &mut unit, &mut walk)?;
+    }
+    Ok(walk)
+}

@@ -1,0 +1,3 @@
+pub mod Dos
+pub mod DosLaws
+pub mod DosDirectory
