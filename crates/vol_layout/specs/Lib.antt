@@ -1,3 +1,4 @@
 pub mod Dos
 pub mod DosLaws
 pub mod DosDirectory
+pub mod DosBytes
