@@ -2,3 +2,4 @@ pub mod Dos
 pub mod DosLaws
 pub mod DosDirectory
 pub mod DosBytes
+pub mod DosPointers
