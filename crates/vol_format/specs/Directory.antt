@@ -11,11 +11,12 @@ pub record Listed : Type 0 where
   pub bytes : List ℕ
   pub root : Link
 
--- How many places the volume has; its entries in use, in directory order; for each place whether it is one of the system's and
+-- How many places the volume has; its name, for DOS 3.3 the one byte of its number; its entries in use, in directory order; for each place whether it is one of the system's and
 -- whether it is marked free; the available places, in their order; the places of the map's units, and how many
 -- places each unit of the map has.
 pub record Directory : Type 0 where
   pub places : ℕ
+  pub name : List ℕ
   pub listed : List Listed
   pub system : List Bool
   pub free : List Bool

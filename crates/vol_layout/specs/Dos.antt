@@ -6,7 +6,7 @@ use Rattle.a2_device.specs.declared.part.PartKind.{PartKind}
 use Rattle.a2_device.specs.declared.part.PartKind.TheVariants.{List as AList, Body}
 use Rattle.a2_device.specs.declared.fault.Fault.{Fault}
 use Rattle.a2_device.specs.declared.fault.Fault.TheVariants.{Geometry}
-use Rattle.dos_vtoc.specs.Vtoc.{HasGeometry, link_of, is_free, marked, released, order_of}
+use Rattle.dos_vtoc.specs.Vtoc.{HasGeometry, link_of, volume_number, is_free, marked, released, order_of}
 use Rattle.dos_catalog.specs.declared.entry.Entry.{Entry}
 use Rattle.dos_catalog.specs.Entry.{entries_in}
 use Rattle.dos_catalog.specs.Catalog.{IsCatalog, CatalogFaultAt}
@@ -114,6 +114,7 @@ dos_free vtoc = map (is_free vtoc) (range_with_len 0 560)
 abbrev pub dos_directory : Bool → List Bool → List ℕ → List Entry → Directory
 dos_directory data_disk reserved vtoc entries = record {
   places = 560;
+  name = volume_number vtoc ∷ [];
   listed = numbered 0 entries;
   system = dos_system data_disk reserved;
   free = dos_free vtoc;

@@ -1,4 +1,5 @@
 pub mod Dos
+pub mod DosVolume
 pub mod DosLaws
 pub mod DosDirectory
 pub mod DosBytes

@@ -121,9 +121,28 @@ pub struct DosVolume<A: Allocator = Global> {
     ghost on_track: { AreOnTrack (entries_of_catalog catalog) },
 }
 
+impl<A: Allocator> DosVolume<A> {
+    ghost use Rattle.vol_layout.specs.DosVolume.{vtoc_of, catalog_of};
+
+    /// The VTOC.
+    pub fn vtoc(&self) -> &Vtoc
+        ensures { result.now ≡ vtoc_of self.now }
+    {
+        &self.vtoc
+    }
+
+    /// The catalog.
+    pub fn catalog(&self) -> &Catalog<A>
+        ensures { result.now ≡ catalog_of self.now }
+    {
+        &self.catalog
+    }
+}
+
 impl<A: Allocator + Copy> Format for Dos33<A> {
     ghost use Rattle.vol_layout.specs.Dos.{dos_meaning, dos_directory};
     ghost use Rattle.dos_catalog.specs.Listed.{entries_of_catalog};
+    ghost use Rattle.vol_layout.specs.DosVolume.{vtoc_of, catalog_of};
     ghost use Rattle.vol_layout.specs.DosLaws.{dos_is_readable};
     ghost use Rattle.vol_layout.specs.DosDirectory.{dos_is_directory};
 
@@ -131,11 +150,11 @@ impl<A: Allocator + Copy> Format for Dos33<A> {
 
     ghost meaning = { λ f. dos_meaning f.data_disk f.reserved };
 
-    ghost directory = { λ f v. dos_directory f.data_disk f.reserved v.vtoc (entries_of_catalog v.catalog) };
+    ghost directory = { λ f v. dos_directory f.data_disk f.reserved (vtoc_of v) (entries_of_catalog (catalog_of v)) };
 
     ghost readable = { λ f. dos_is_readable f.data_disk f.reserved };
 
-    ghost rooted = { λ f v. dos_is_directory f.data_disk f.reserved v.vtoc (entries_of_catalog v.catalog) v.on_track };
+    ghost rooted = { λ f v. dos_is_directory f.data_disk f.reserved (vtoc_of v) (entries_of_catalog (catalog_of v)) v.on_track };
 
     fn volume<D: Device>(&self, device: &mut D) -> Result<DosVolume<A>, WalkError> {
         let vtoc = read_vtoc(device)?;
