@@ -6,3 +6,5 @@ pub mod DosChain
 pub mod DosEntries
 pub mod DosBytes
 pub mod DosPointers
+pub mod DosSlots
+pub mod DosTurned
