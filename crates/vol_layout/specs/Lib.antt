@@ -8,3 +8,4 @@ pub mod DosBytes
 pub mod DosPointers
 pub mod DosSlots
 pub mod DosTurned
+pub mod DosRoots
