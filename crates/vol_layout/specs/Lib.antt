@@ -9,3 +9,4 @@ pub mod DosPointers
 pub mod DosSlots
 pub mod DosTurned
 pub mod DosRoots
+pub mod DosMarks
