@@ -10,3 +10,4 @@ pub mod DosSlots
 pub mod DosTurned
 pub mod DosRoots
 pub mod DosMarks
+pub mod DosContents
