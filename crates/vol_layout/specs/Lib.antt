@@ -11,3 +11,4 @@ pub mod DosTurned
 pub mod DosRoots
 pub mod DosMarks
 pub mod DosContents
+pub mod DosMovable
