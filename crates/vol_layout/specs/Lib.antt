@@ -12,3 +12,4 @@ pub mod DosRoots
 pub mod DosMarks
 pub mod DosContents
 pub mod DosMovable
+pub mod DosClearing
