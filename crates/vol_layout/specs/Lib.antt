@@ -13,3 +13,5 @@ pub mod DosMarks
 pub mod DosContents
 pub mod DosMovable
 pub mod DosClearing
+pub mod DosSystemContents
+pub mod DosWritable
