@@ -38,7 +38,7 @@ one_pointer file other list later i j child same at at' kind number = by_cases a
         kinds_differ e = cc
     by_cases (inr next) (inr next') = (omega (arith, next.list, next'.list, number), next.last ∙ sym next'.last)
 
-pointer_below : (file list i : ℕ) (child : Part) → IsPointedTo file list i child → i < 123
+pub pointer_below : (file list i : ℕ) (child : Part) → IsPointedTo file list i child → i < 123
 pointer_below file list i child at = ⊎_elim (λ body. omega (arith, body.pair)) (λ next. omega (arith, next.last)) at.which
 
 pub dos_is_movable : (data_disk : Bool) (reserved : List Bool) → IsMovable (dos_meaning data_disk reserved)

@@ -15,3 +15,4 @@ pub mod DosMovable
 pub mod DosClearing
 pub mod DosSystemContents
 pub mod DosWritable
+pub mod DosHolders
