@@ -1,5 +1,5 @@
 -- What two directories of one frame share, and what a changed entry or mark leaves of the frame.
-use Rattle.std.specs.Prelude.{◌≡◌, ℕ, Bool, List, length, map, slice_index_or, slice_set}
+use Rattle.std.specs.Prelude.{◌≡◌, ℕ, Bool, List, length, slice_index_or}
 use Rattle.std.proofs.Common.{refl, sym, ◌∙◌, ap}
 use Rattle.std.proofs.Math.ListN.{get_or-map}
 use Rattle.std.proofs.Math.Seq.{map-set_same}

@@ -1,11 +1,11 @@
 -- Which part has the pointer to a part, and where that stands.
-use Rattle.std.proofs.Common.{◌≡◌, ◌<◌, ◌≤◌, ◌+◌, ◌*◌, ◌%◌, ◌⊎◌, ℕ, Bool, true, false, List, length, get_or, inl, inr, refl, sym, ◌∙◌, ap, subst, arith, ⊎_elim}
-use Rattle.std.specs.Prelude.{◌≢◌, slice_index, slice_index_or, All, AllPairs}
+use Rattle.std.proofs.Common.{◌≡◌, ◌<◌, ◌≤◌, ◌+◌, ◌*◌, ◌⊎◌, ℕ, Bool, true, false, List, length, get_or, inl, inr, sym, ◌∙◌, ap, subst, arith, ⊎_elim}
+use Rattle.std.specs.Prelude.{slice_index, All, AllPairs}
 use Rattle.std.proofs.lemmas.Bool.{cases_lt}
 use Rattle.std.proofs.lemmas.List.{get_or_default}
 use Rattle.a2_device.specs.Device.{unit_at}
 use Rattle.a2_device.specs.declared.part.Part.{Part}
-use Rattle.a2_device.specs.declared.part.PartKind.TheVariants.{List as AList, Body}
+use Rattle.a2_device.specs.declared.part.PartKind.TheVariants.{List as AList}
 use Rattle.part_layout.specs.Layouts.{IsLayout}
 use Rattle.dos_catalog.specs.declared.entry.Entry.{Entry}
 use Rattle.dos_catalog.specs.Entry.{entries_in}
@@ -23,7 +23,7 @@ use Rattle.vol_format.proofs.Frames.{same_entry_place, same_entry_slot, same_ava
 use Rattle.vol_layout.specs.Dos.{dos_meaning, dos_directory, dos_available, DescribesDos, HasDosSlot}
 use Rattle.vol_layout.specs.DosDirectory.{root_of-dos, available_of, dos_is_directory}
 use Rattle.vol_layout.specs.DosHolders.{IsListBefore, part_of, dos_slot}
-use Rattle.vol_layout.specs.DosLaws.{IsNamed, IsPointedTo, IsBodyAt, IsNextList, dos_child-To, rank_at, pointed_cases}
+use Rattle.vol_layout.specs.DosLaws.{IsNamed, IsPointedTo, dos_child-To, rank_at, pointed_cases}
 use Rattle.vol_layout.specs.DosMovable.{pointer_below}
 
 -- what is pointed to has the number of the pointer in its own
@@ -130,22 +130,24 @@ module _ (data_disk : Bool) (reserved : List Bool) (before present : Directory) 
       let number : is.parent.number ≡ (part_of parts found.0).number = ap (λ (p : Part). p.number) found.2 in
       let rank = rank_at is.parent.file is.parent.number is.pointer part is.at in
       let low = pointer_below is.parent.file is.parent.number is.pointer part is.at in
-      let comes : found.0 < k = comes_before parts stands.ordered found.0 k found.1 inside file (omega (arith, list_rank parts stands.ordered found.0 kind, rank, number)) in
-      (found.0, record {
-        within = found.1;
-        is_before = record {
-          before = comes;
-          kind = kind;
-          file = file;
-          nearest = λ between after less. none_between parts stands.ordered found.0 k between inside kind file (omega (arith, rank, number, low)) after less;
-        };
-        pointer = is.pointer;
-        slot = slot_there is.parent.file is.parent.number is.pointer part is.at;
-        parent = is.parent;
-        here = found.2;
-        reached = is.reached;
-        link = is.link;
-      })
+      let comes : found.0 < k = comes_before parts stands.ordered found.0 k found.1 inside file (omega (arith, list_rank parts stands.ordered found.0 kind, rank, number)) in (
+        found.0,
+        record {
+          within = found.1;
+          is_before = record {
+            before = comes;
+            kind = kind;
+            file = file;
+            nearest = λ between after less. none_between parts stands.ordered found.0 k between inside kind file (omega (arith, rank, number, low)) after less;
+          };
+          pointer = is.pointer;
+          slot = slot_there is.parent.file is.parent.number is.pointer part is.at;
+          parent = is.parent;
+          here = found.2;
+          reached = is.reached;
+          link = is.link;
+        },
+      )
 
   -- there is one such list
   one_list : (list other : ℕ) → IsListBefore parts k list → IsListBefore parts k other → list ≡ other
@@ -209,5 +211,9 @@ pub list_place : (data_disk : Bool) (reserved : List Bool) (at : List ℕ) (list
     → place ≡ slice_index (dos_available data_disk reserved) (slice_index at list) → place < 560
 list_place data_disk reserved at list place places layout size inside is =
     let number : slice_index at list < length (dos_available data_disk reserved) = omega (arith, size, layout.below list 0 inside) in
-    omega (arith, is, ((available_of data_disk reserved (slice_index (dos_available data_disk reserved) (slice_index at list))).0
-    (slice_index at list, number, get_or_default (dos_available data_disk reserved) (slice_index at list) (slice_index (dos_available data_disk reserved) (slice_index at list)) 0 number)).0)
+    omega (
+      arith,
+      is,
+      ((available_of data_disk reserved (slice_index (dos_available data_disk reserved) (slice_index at list))).0
+          (slice_index at list, number, get_or_default (dos_available data_disk reserved) (slice_index at list) (slice_index (dos_available data_disk reserved) (slice_index at list)) 0 number)).0,
+    )

@@ -1,12 +1,11 @@
 -- What is read where a pointer was written.
 use Rattle.std.specs.Prelude.{◌≡◌, ◌≢◌, ◌<◌, ◌≤◌, ℕ, ◌+◌, ◌*◌, ◌/◌, ◌%◌, ◌==◌, nat_lt, ◌||◌, if◌then◌else◌, Bool, true, false, List, Option, Some, None, length, slice_index, slice_set}
-use Rattle.std.proofs.Common.{refl, sym, ◌∙◌, ap, arith, subst}
+use Rattle.std.proofs.Common.{refl, ◌∙◌, ap, arith}
 use Rattle.std.proofs.lemmas.Bool.Decides.{nat_tests}
 use Rattle.std.proofs.lemmas.List.{get_or-set_same, get_or-set_other, length-set}
 use Rattle.a2_device.specs.declared.part.PartKind.{PartKind}
 use Rattle.dos_catalog.specs.Writes.{with_place}
 use Rattle.dos_tslist.specs.Pointers.{pointer_of}
-use Rattle.vol_format.specs.declared.link.Link.{Link}
 use Rattle.vol_format.specs.declared.link.Link.TheVariants.{Wild, To}
 use Rattle.vol_layout.specs.Dos.{link_to}
 

@@ -1,14 +1,14 @@
 -- The marks of a VTOC put to 0: what the mark of one of these places was makes no difference.
-use Rattle.std.specs.Prelude.{◌≡◌, ◌≢◌, ◌<◌, ◌≤◌, ◌⊎◌, ℕ, ◌+◌, ◌*◌, ◌-◌, ◌/◌, ◌%◌, true, false, Bool, List, [], ◌∷◌, length, slice_index, slice_set, All, Contains, bit_and, bit_or}
+use Rattle.std.specs.Prelude.{◌≡◌, ◌≢◌, ◌<◌, ◌⊎◌, ℕ, ◌-◌, ◌%◌, true, false, Bool, List, [], ◌∷◌, length, slice_index, slice_set, All, Contains, bit_and, bit_or}
 use Rattle.std.specs.Int.{bit_at}
-use Rattle.std.proofs.Common.{refl, sym, ◌∙◌, ap, arith, subst, inl, inr, get_or, min, max, ◌^◌, w8}
-use Rattle.std.proofs.lemmas.Bool.{cases_eq, cases_lt}
+use Rattle.std.proofs.Common.{refl, sym, ◌∙◌, ap, arith, subst, inl, inr, min, max, ◌^◌, w8}
+use Rattle.std.proofs.lemmas.Bool.{cases_eq}
 use Rattle.std.proofs.lemmas.List.{ext_get_or, length-set, get_or-set_same, get_or-set_other}
 use Rattle.std.proofs.lemmas.List.Elements.{All-tail}
 use Rattle.std.proofs.lemmas.Nat.{pow_below}
-use Rattle.std.proofs.lemmas.Nat.Bits.{bit_at_and, bit_at_or, bit_at_not, bit_at-pow_same, bit_at-pow_other, bit_at-lt, bit_at_above, same_from_bits}
+use Rattle.std.proofs.lemmas.Nat.Bits.{bit_at_and, bit_at_or, bit_at_not, bit_at-pow_same, bit_at-pow_other, bit_at-lt, same_from_bits}
 use Rattle.part_layout.proofs.Lists.{Contains-cases}
-use Rattle.dos_vtoc.specs.Vtoc.{byte_of_place, marked, released}
+use Rattle.dos_vtoc.specs.Vtoc.{byte_of_place, marked}
 use Rattle.vol_layout.specs.Dos.{dos_with_free, marks_cleared}
 
 -- one byte of a list, changed

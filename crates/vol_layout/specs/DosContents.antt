@@ -1,5 +1,5 @@
 -- The content of a list, and where one of its pointers was written.
-use Rattle.std.specs.Prelude.{◌≡◌, ◌≢◌, ◌<◌, ◌≤◌, ◌⊎◌, ℕ, ◌+◌, ◌*◌, ◌-◌, ◌/◌, ◌%◌, ◌==◌, nat_lt, not, ◌&&◌, ◌||◌, if◌then◌else◌, true, false, Bool, List, length, map, slice_index, Option, Some, None}
+use Rattle.std.specs.Prelude.{◌≡◌, ◌≢◌, ◌<◌, ◌≤◌, ◌⊎◌, ℕ, ◌+◌, ◌*◌, ◌-◌, ◌/◌, ◌==◌, nat_lt, ◌||◌, if◌then◌else◌, true, false, Bool, List, length, map, slice_index, Option, Some, None}
 use Rattle.std.specs.List.{range_with_len}
 use Rattle.std.proofs.Common.{refl, sym, ◌∙◌, ap, arith, subst, inl, inr, ⊎_elim}
 use Rattle.std.proofs.lemmas.Bool.{cases_eq}
@@ -11,12 +11,11 @@ use Rattle.a2_device.specs.declared.part.PartKind.{PartKind}
 use Rattle.a2_device.specs.declared.part.PartKind.TheVariants.{List as AList, Body}
 use Rattle.dos_vtoc.specs.Vtoc.{link_of}
 use Rattle.dos_tslist.specs.Pointers.{pair_of}
-use Rattle.vol_format.specs.declared.link.Link.{Link}
 use Rattle.vol_format.specs.declared.link.Link.TheVariants.{Null, Wild, To}
 use Rattle.vol_format.specs.Standing.{at_place}
 use Rattle.vol_layout.specs.Dos.{link_to, list_link, dos_child, pointer_offset, pointer_at_byte, names_part, dos_content, dos_with_pointer, CanNameDos}
 use Rattle.vol_layout.specs.DosBytes.{byte-with_place_other}
-use Rattle.vol_layout.specs.DosLaws.{list_link_cases, dos_child-To}
+use Rattle.vol_layout.specs.DosLaws.{dos_child-To}
 use Rattle.vol_layout.specs.DosPointers.{offset_cases, pair-other, link-other, child-here}
 
 pub map_range_same : (f g : ℕ → ℕ) (n : ℕ) → ((k : ℕ) → k < n → f k ≡ g k) → map f (range_with_len 0 n) ≡ map g (range_with_len 0 n)

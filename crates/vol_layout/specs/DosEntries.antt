@@ -1,7 +1,7 @@
 -- The entries of a catalog: where they stand, each in a slot of its own.
-use Rattle.std.specs.Prelude.{◌≡◌, ◌≢◌, ◌<◌, ◌≤◌, ℕ, ◌+◌, ◌*◌, ◌-◌, zero, suc, true, Bool, not, List, [], ◌∷◌, ◌++◌, length, map, filter, slice_index, All, AllPairs, Contains}
+use Rattle.std.specs.Prelude.{◌≡◌, ◌≢◌, ◌<◌, ◌≤◌, ℕ, ◌*◌, ◌-◌, suc, true, List, [], ◌∷◌, ◌++◌, length, map, All, AllPairs}
 use Rattle.std.specs.List.{range_with_len}
-use Rattle.std.proofs.Common.{inl, inr, refl, sym, ◌∙◌, ap, arith, subst, get_or, length-append}
+use Rattle.std.proofs.Common.{inl, inr, refl, sym, ap, arith, subst, get_or, length-append}
 use Rattle.std.proofs.lemmas.List.{get_or_append_left, get_or-append_right}
 use Rattle.std.proofs.lemmas.Bool.{cases_lt}
 use Rattle.std.proofs.lemmas.List.Elements.{All-append, filter_passes}
@@ -13,7 +13,7 @@ use Rattle.dos_catalog.specs.Entry.{entry_at, is_in_use, entries_of, entries_in}
 use Rattle.dos_catalog.specs.Catalog.{IsCatalog}
 use Rattle.dos_catalog.specs.Found.{AreOnTrack}
 use Rattle.dos_catalog.proofs.OnTrack.{each_slot, at_most_seven}
-use Rattle.vol_layout.specs.DosChain.{IsOnTrack, sectors_on_track, few_sectors}
+use Rattle.vol_layout.specs.DosChain.{sectors_on_track, few_sectors}
 
 -- what holds of each entry of a slot below 7 of one of these sectors
 pub each_entry : (P : Entry → Type 0) (store : List (List ℕ)) (sectors : List ℕ)

@@ -1,5 +1,5 @@
 -- A place's mark, written, and a write outside the system: what the directory is then.
-use Rattle.std.specs.Prelude.{◌≡◌, ◌≢◌, ◌<◌, ◌≤◌, ◌⊎◌, ℕ, ◌+◌, ◌*◌, ◌-◌, ◌/◌, ◌%◌, ◌==◌, nat_lt, not, ◌&&◌, ◌||◌, true, false, Bool, List, [], ◌∷◌, length, map, slice_index, slice_set, All, bit_and, bit_or}
+use Rattle.std.specs.Prelude.{◌≡◌, ◌≢◌, ◌<◌, ◌≤◌, ℕ, ◌-◌, ◌/◌, ◌%◌, ◌==◌, nat_lt, not, ◌&&◌, ◌||◌, true, false, Bool, List, [], ◌∷◌, length, map, slice_index, slice_set, All, bit_and, bit_or}
 use Rattle.std.specs.List.{range_with_len}
 use Rattle.std.proofs.Common.{refl, sym, ◌∙◌, ap, arith, subst, get_or, inl, inr, ◌^◌}
 use Rattle.std.proofs.lemmas.Bool.{cases_eq}
@@ -7,12 +7,12 @@ use Rattle.std.proofs.lemmas.Bool.Decides.{nat_tests}
 use Rattle.std.proofs.lemmas.List.{ext_get_or, length-set, get_or-set_same, get_or-set_other}
 use Rattle.std.proofs.lemmas.List.FromFn.{length-map-range_with_len, get_or-map-range_with_len}
 use Rattle.a2_device.specs.Device.{unit_at}
-use Rattle.dos_vtoc.specs.Vtoc.{HasGeometry, byte_of_place, is_free, volume_number}
+use Rattle.dos_vtoc.specs.Vtoc.{HasGeometry, byte_of_place, is_free}
 use Rattle.dos_vtoc.proofs.Bits.{is_free-marked_same, is_free-marked_other, is_free-released_same, is_free-released_other}
 use Rattle.dos_catalog.specs.Entry.{entries_in}
 use Rattle.reserved_places.specs.Reserved.{is_reserved}
 use Rattle.vol_format.specs.Directory.{Directory, is_system, map_place, remapped}
-use Rattle.vol_layout.specs.Dos.{is_dos_system, dos_free, dos_directory, DescribesDos, dos_with_free}
+use Rattle.vol_layout.specs.Dos.{dos_free, dos_directory, DescribesDos, dos_with_free}
 use Rattle.vol_layout.specs.DosChain.{IsOnTrack, HaveSameLinks, sectors_on_track, catalog_same, entries_same}
 use Rattle.vol_layout.specs.DosDirectory.{system_at}
 
@@ -155,9 +155,9 @@ module _ (data_disk : Bool) (reserved : List Bool) (store : List (List ℕ)) (di
     sectors = sectors;
     catalog = catalog_same store (slice_set store place unit) (λ at near. (ap (λ u. slice_index u 1) (kept at near), ap (λ u. slice_index u 2) (kept at near))) sectors described.catalog;
     says = described.says ∙ sym (
-          ap (λ vtoc. dos_directory data_disk reserved vtoc (entries_in (slice_set store place unit) sectors)) (kept 272 (omega arith, omega arith))
-          ∙ ap (dos_directory data_disk reserved (unit_at store 272)) (entries_same store (slice_set store place unit) sectors
-          (λ k d inside. kept (get_or sectors k d) (omega (arith, (on k d inside).0), (on k d inside).1)))
+        ap (λ vtoc. dos_directory data_disk reserved vtoc (entries_in (slice_set store place unit) sectors)) (kept 272 (omega arith, omega arith))
+        ∙ ap (dos_directory data_disk reserved (unit_at store 272)) (entries_same store (slice_set store place unit) sectors
+        (λ k d inside. kept (get_or sectors k d) (omega (arith, (on k d inside).0), (on k d inside).1)))
         );
   }
     where

@@ -1,15 +1,13 @@
 -- The laws of DOS 3.3 that moves ask for.
-use Rattle.std.specs.Prelude.{◌≡◌, ◌<◌, ◌⊎◌, ℕ, ◌+◌, ◌*◌, Bool, List}
+use Rattle.std.specs.Prelude.{◌≡◌, ◌<◌, ◌⊎◌, ℕ, Bool, List}
 use Rattle.std.proofs.Common.{refl, sym, ◌∙◌, ap, arith, subst, inl, inr, ⊎_elim}
 use Rattle.a2_device.specs.Device.{unit_at}
 use Rattle.a2_device.specs.declared.part.Part.{Part}
-use Rattle.a2_device.specs.declared.part.PartKind.{PartKind}
 use Rattle.a2_device.specs.declared.part.PartKind.TheVariants.{List as AList, Body}
 use Rattle.dos_catalog.specs.Entry.{entries_in}
 use Rattle.dos_tslist.specs.Reach.{rank_of}
 use Rattle.vol_format.specs.Laws.{IsMovable, IsDirectory}
-use Rattle.vol_format.specs.declared.link.Link.TheVariants.{To}
-use Rattle.vol_layout.specs.Dos.{dos_child, dos_content, pointer_offset, dos_meaning}
+use Rattle.vol_layout.specs.Dos.{dos_content, pointer_offset, dos_meaning}
 use Rattle.vol_layout.specs.DosBytes.{length-with_place}
 use Rattle.vol_layout.specs.DosContents.{content-here}
 use Rattle.vol_layout.specs.DosDirectory.{dos_is_directory}

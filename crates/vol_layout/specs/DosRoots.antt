@@ -1,5 +1,5 @@
 -- An entry's pointer, written: the directory has that entry pointing to the new place, and else what it had.
-use Rattle.std.specs.Prelude.{◌≡◌, ◌≢◌, ◌<◌, ◌≤◌, ◌⊎◌, ℕ, ◌+◌, ◌*◌, ◌/◌, ◌%◌, ◌==◌, zero, suc, true, false, Bool, List, [], ◌∷◌, length, map, take, drop, slice_index, slice_set, All}
+use Rattle.std.specs.Prelude.{◌≡◌, ◌≢◌, ◌<◌, ℕ, ◌+◌, ◌/◌, zero, suc, true, Bool, List, [], ◌∷◌, length, map, take, drop, slice_index, slice_set, All}
 use Rattle.std.proofs.Common.{refl, sym, ◌∙◌, ap, arith, subst, get_or, inl, inr, add-zero}
 use Rattle.std.proofs.lemmas.Bool.{cases_eq}
 use Rattle.std.proofs.lemmas.List.{length-set, get_or-set_same, get_or-set_other}
@@ -66,9 +66,9 @@ same_links store place slot to inside at near = elim (cases_eq at place) [
       × (slice_index (unit_at (slice_set store place (dos_with_root (unit_at store place) slot to)) p) 2 ≡ slice_index (unit_at store p) 2))
       (sym same) (here 1 (λ e. omega (arith, e)) (λ e. omega (arith, e)), here 2 (λ e. omega (arith, e)) (λ e. omega (arith, e)))
   | inr differ ↦ (
-      ap (λ u. slice_index u 1) (get_or-set_other store place at (dos_with_root (unit_at store place) slot to) [] differ),
-      ap (λ u. slice_index u 2) (get_or-set_other store place at (dos_with_root (unit_at store place) slot to) [] differ),
-    )
+    ap (λ u. slice_index u 1) (get_or-set_other store place at (dos_with_root (unit_at store place) slot to) [] differ),
+    ap (λ u. slice_index u 2) (get_or-set_other store place at (dos_with_root (unit_at store place) slot to) [] differ),
+  )
 ]
   where
     here : (byte : ℕ) → byte ≢ slot_offset slot → byte ≢ slot_offset slot + 1
@@ -136,10 +136,10 @@ module _ (data_disk : Bool) (reserved : List Bool) (store : List (List ℕ)) (se
     sectors = sectors;
     catalog = catalog_same store after (same_links store entry.place entry.slot to below) sectors catalog;
     says = sym (
-          ap (λ vtoc. dos_directory data_disk reserved vtoc (entries_in after sectors)) vtoc_same
-          ∙ ap (dos_directory data_disk reserved (unit_at store 272)) entries_after
-          ∙ ap (λ (listed : List Listed). record directory { listed = listed })
-          (numbered-set (entries_in store sectors) 0 file entry_after ∙ ap (slice_set (numbered 0 (entries_in store sectors)) file) listed_there)
+        ap (λ vtoc. dos_directory data_disk reserved vtoc (entries_in after sectors)) vtoc_same
+        ∙ ap (dos_directory data_disk reserved (unit_at store 272)) entries_after
+        ∙ ap (λ (listed : List Listed). record directory { listed = listed })
+        (numbered-set (entries_in store sectors) 0 file entry_after ∙ ap (slice_set (numbered 0 (entries_in store sectors)) file) listed_there)
         );
   }
 

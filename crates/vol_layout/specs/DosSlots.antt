@@ -1,14 +1,10 @@
 -- One slot of a catalog sector, written: its entry has another pointer, and the other slots have the same entries.
-use Rattle.std.specs.Prelude.{◌≡◌, ◌≢◌, ◌<◌, ◌≤◌, ℕ, ◌+◌, ◌*◌, ◌-◌, ◌/◌, ◌%◌, ◌==◌, not, ◌&&◌, if◌then◌else◌, zero, suc, true, false, Bool, List, [], ◌∷◌, ◌++◌, length, map, filter, take, drop, slice_index, slice_set, All, AllPairs}
-use Rattle.std.specs.List.{range_with_len}
-use Rattle.std.proofs.Common.{refl, sym, ◌∙◌, ap, arith, subst, get_or, length-drop}
-use Rattle.std.proofs.lemmas.Bool.{cases_eq}
+use Rattle.std.specs.Prelude.{◌≡◌, ◌≢◌, ◌<◌, ◌≤◌, ℕ, ◌+◌, ◌-◌, ◌/◌, ◌%◌, ◌==◌, not, ◌&&◌, true, false, Bool, List, length, take, drop, slice_index}
+use Rattle.std.proofs.Common.{refl, sym, ◌∙◌, ap, arith, get_or, length-drop}
 use Rattle.std.proofs.lemmas.Bool.Decides.{nat_tests}
 use Rattle.std.proofs.lemmas.List.{ext_get_or, get_or-drop, get_or-take, length-take}
-use Rattle.a2_device.specs.Device.{unit_at}
-use Rattle.dos_catalog.specs.declared.entry.Entry.{Entry}
-use Rattle.dos_catalog.specs.Entry.{entry_at, is_in_use, entries_of, entries_in}
-use Rattle.dos_catalog.specs.Writes.{slot_offset, with_place}
+use Rattle.dos_catalog.specs.Entry.{entry_at, is_in_use}
+use Rattle.dos_catalog.specs.Writes.{slot_offset}
 use Rattle.vol_layout.specs.Dos.{dos_with_root}
 use Rattle.vol_layout.specs.DosBytes.{length-with_place, byte-with_place_other, track-with_place, sector-with_place}
 

@@ -1,17 +1,14 @@
 -- The content of the system's units, and where an entry's pointer or a mark was written.
-use Rattle.std.specs.Prelude.{◌≡◌, ◌≢◌, ◌<◌, ◌≤◌, ◌⊎◌, ℕ, ◌+◌, ◌*◌, ◌-◌, ◌/◌, ◌%◌, ◌==◌, nat_lt, not, ◌&&◌, ◌||◌, if◌then◌else◌, zero, suc, true, false, Bool, List, [], ◌∷◌, length, map, slice_index, All, Contains}
+use Rattle.std.specs.Prelude.{◌≡◌, ◌≢◌, ◌<◌, ◌≤◌, ◌⊎◌, ℕ, ◌+◌, ◌-◌, ◌/◌, ◌%◌, ◌==◌, nat_lt, not, ◌&&◌, ◌||◌, if◌then◌else◌, true, false, Bool, List, [], ◌∷◌, length, map, slice_index, All, Contains}
 use Rattle.std.specs.List.{range_with_len, list_any}
 use Rattle.std.proofs.Common.{refl, sym, ◌∙◌, ap, arith, subst, inl, inr, get_or}
 use Rattle.std.proofs.lemmas.Bool.{cases_eq}
 use Rattle.std.proofs.lemmas.Bool.Decides.{nat_tests}
 use Rattle.std.proofs.lemmas.List.Folds.{list_any_at}
 use Rattle.std.proofs.lemmas.List.{get_or_default}
-use Rattle.a2_device.specs.Device.{unit_at}
-use Rattle.dos_catalog.specs.declared.entry.Entry.{Entry}
-use Rattle.dos_catalog.specs.Entry.{entries_in}
 use Rattle.dos_catalog.specs.Writes.{slot_offset}
-use Rattle.vol_format.specs.Directory.{Directory, Listed, no_entry, entries, entry_of, map_place, unplaced, frame_of, IsSameFrame}
-use Rattle.vol_layout.specs.Dos.{dos_available, dos_directory, DescribesDos, dos_with_root, dos_with_free, has_root_at, marks_cleared, root_at_byte, dos_system_content}
+use Rattle.vol_format.specs.Directory.{Directory, Listed, no_entry, entries, entry_of, map_place, unplaced, IsSameFrame}
+use Rattle.vol_layout.specs.Dos.{dos_available, DescribesDos, dos_with_root, dos_with_free, has_root_at, marks_cleared, root_at_byte, dos_system_content}
 use Rattle.vol_layout.specs.DosBytes.{byte-with_place_other}
 use Rattle.vol_layout.specs.DosClearing.{marks_cleared-same}
 use Rattle.vol_layout.specs.DosContents.{map_range_same}

@@ -1,10 +1,10 @@
 -- A catalog in which one entry got another pointer.
-use Rattle.std.specs.Prelude.{◌≡◌, ◌≢◌, ◌<◌, ◌≤◌, ◌⊎◌, ℕ, ◌+◌, ◌*◌, ◌/◌, ◌%◌, ◌==◌, not, ◌&&◌, if◌then◌else◌, zero, suc, true, false, Bool, List, [], ◌∷◌, ◌++◌, length, map, filter, take, drop, slice_index, slice_set, All, AllPairs}
+use Rattle.std.specs.Prelude.{◌≡◌, ◌≢◌, ◌<◌, ◌⊎◌, ℕ, ◌==◌, ◌&&◌, if◌then◌else◌, suc, true, false, Bool, List, [], ◌∷◌, ◌++◌, length, map, filter, slice_set, All, AllPairs}
 use Rattle.std.specs.List.{range_with_len}
-use Rattle.std.proofs.Common.{refl, sym, ◌∙◌, ap, arith, subst, get_or, set, inl, inr, cond}
+use Rattle.std.proofs.Common.{refl, sym, ◌∙◌, ap, arith, subst, get_or, inl, inr, cond}
 use Rattle.std.proofs.lemmas.Bool.{cases_eq, cases_lt}
 use Rattle.std.proofs.lemmas.Bool.Decides.{nat_tests}
-use Rattle.std.proofs.lemmas.List.{ext_get_or, get_or-map, length-map, length-set, get_or-set_same, get_or-set_other, map-append, get_or_default}
+use Rattle.std.proofs.lemmas.List.{ext_get_or, get_or-map, length-map, length-set, get_or-set_same, get_or-set_other, map-append}
 use Rattle.a2_device.specs.Device.{unit_at}
 use Rattle.dos_catalog.specs.declared.entry.Entry.{Entry}
 use Rattle.dos_catalog.specs.Entry.{entry_at, is_in_use, entries_of, entries_in}

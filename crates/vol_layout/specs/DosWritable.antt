@@ -1,12 +1,12 @@
 -- The laws of DOS 3.3 that writes to the system's units ask for.
-use Rattle.std.specs.Prelude.{◌≡◌, ◌≢◌, ◌<◌, ◌≤◌, ℕ, true, Bool, List, length}
-use Rattle.std.proofs.Common.{refl, sym, ◌∙◌, ap, arith, subst}
+use Rattle.std.specs.Prelude.{◌≡◌, ◌<◌, ℕ, true, Bool, List, length}
+use Rattle.std.proofs.Common.{sym, ◌∙◌, ap, arith, subst}
 use Rattle.a2_device.specs.Device.{unit_at}
 use Rattle.dos_catalog.specs.Entry.{entries_in}
 use Rattle.dos_catalog.specs.Writes.{slot_offset}
 use Rattle.vol_format.specs.Directory.{Directory, Listed, entries, entry_of, is_system, map_place}
 use Rattle.vol_format.specs.Laws.{IsWritable}
-use Rattle.vol_layout.specs.Dos.{dos_directory, DescribesDos, dos_meaning}
+use Rattle.vol_layout.specs.Dos.{DescribesDos, dos_meaning}
 use Rattle.vol_layout.specs.DosBytes.{length-with_place}
 use Rattle.vol_layout.specs.DosDirectory.{length-numbered, entry_of-dos, no_list}
 use Rattle.vol_layout.specs.DosEntries.{on_track}

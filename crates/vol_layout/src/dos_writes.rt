@@ -61,7 +61,9 @@ impl<A: Allocator + Copy> WritableFormat for Dos33<A> {
             None => self.entry_at(volume, part.file),
             Some(list) => Holder {
                 entry: false,
-                place: self.available(volume, layout.at()[list as usize]).unwrap_or(0),
+                place: self
+                    .available(volume, layout.at()[list as usize])
+                    .unwrap_or(0),
                 slot: slot_of(&part),
             },
         }
