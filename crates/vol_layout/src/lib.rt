@@ -6,6 +6,8 @@
 
 mod dos;
 mod dos_writes;
+#[cfg(test)]
+mod tests;
 
 pub use dos::{Dos33, DosVolume};
 pub use part_layout::{Layout, LayoutError, Move, MoveError};
