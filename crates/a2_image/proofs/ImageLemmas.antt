@@ -24,7 +24,7 @@ prodos_sectors : (bytes : List ℕ) (fields : List (Option Field)) → length by
 unfolding kept_sectors
 prodos_sectors bytes fields e = ap (λ n. if n == 280 then sectors_by Prodos bytes else []) e
 
-length_of_disk : (order : Order) (bytes : List ℕ) → order ≢ Nibble → IsImageLength order (length bytes) → blocks_of order (length bytes) ≡ 280 → length bytes ≡ 143360
+pub length_of_disk : (order : Order) (bytes : List ℕ) → order ≢ Nibble → IsImageLength order (length bytes) → blocks_of order (length bytes) ≡ 280 → length bytes ≡ 143360
 unfolding IsImageLength blocks_of
 length_of_disk Dos bytes plain long disk = long
 length_of_disk Prodos bytes plain long disk = let whole = long.0 in omega (arith, whole, disk)
@@ -47,6 +47,14 @@ unfolding HoldsSectors kept_sectors
 kept_holds Dos bytes fields kept = refl
 kept_holds Prodos bytes fields kept = refl
 kept_holds Nibble bytes fields kept = HoldsTracks-kept bytes fields (kept.keeps refl)
+
+-- the sectors of a disk that lie in the image as they are
+pub holds_plain : (order : Order) (bytes : List ℕ) (sectors : List (Option (List ℕ))) → order ≢ Nibble → blocks_of order (length bytes) ≡ 280
+    → HoldsSectors order bytes sectors → sectors ≡ sectors_by order bytes
+unfolding HoldsSectors blocks_of
+holds_plain Dos bytes sectors plain disk holds = holds
+holds_plain Prodos bytes sectors plain disk holds = holds ∙ ap (λ n. if n == 280 then sectors_by Prodos bytes else []) disk
+holds_plain Nibble bytes sectors plain disk holds = absurd (plain refl)
 
 kept_disk : (order : Order) (bytes : List ℕ) (fields : List (Option Field)) → IsKept order bytes fields → blocks_of order (length bytes) ≡ 280 → IsDisk (kept_sectors order bytes fields)
 kept_disk Nibble bytes fields kept disk = IsDisk-kept bytes fields (kept.keeps refl)

@@ -8,3 +8,5 @@ pub mod ImageLemmas
 pub mod ConvertLemmas
 pub mod LawLemmas
 pub mod Opened
+pub mod LentLemmas
+pub mod LentSectors

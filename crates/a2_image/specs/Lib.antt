@@ -5,3 +5,4 @@ pub mod Kept
 pub mod Blocks
 pub mod Opening
 pub mod Converting
+pub mod Lending

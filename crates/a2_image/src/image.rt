@@ -1,6 +1,7 @@
 // A disk image in memory.
-ghost use Rattle.std.specs.Prelude.{◌≡◌, ◌≢◌, ◌+◌, ◌*◌, ◌<◌, ◌≤◌, ◌↔◌, length, IsTrue, IsErrOf, IsOk, IfSome, IfNone, IfOk, IfErr, OnOk, OnErr, Some, None, Err, slice_set};
-ghost use Rattle.a2_image.specs.Image.{IsDisk, IsImageLength, IsOfDisk, IsOutside, LacksSector, HasSector, HoldsSectors, sector_in, sectors_by, block_count};
+ghost use Rattle.std.specs.Prelude.{◌≡◌, ◌≢◌, ◌+◌, ◌*◌, ◌<◌, ◌≤◌, ◌↔◌, length, IsTrue, IsErrOf, IsOk, IfSome, IfNone, IfOk, IfErr, OnOk, OnErr, Some, None, Err, [], slice_set};
+ghost use Rattle.std.specs.Borrow.{sem};
+ghost use Rattle.a2_image.specs.Image.{IsDisk, IsImageLength, IsOfDisk, IsOutside, LacksSector, HasSector, HoldsSectors, CanLend, sector_in, sectors_by, block_count};
 ghost use Rattle.a2_image.specs.Blocks.{bytes_of_block, blocks as blocks_of_image};
 ghost use Rattle.a2_image.specs.Tracks.{WritesTrack};
 ghost use Rattle.a2_image.specs.Kept.{HasField, IsKept, kept_sectors};
@@ -99,6 +100,8 @@ impl<A: Allocator + Copy> Image<A> {
 }
 
 impl<A: Allocator> Image<A> {
+    ghost use Rattle.a2_image.specs.Lending.{LendsSector};
+
     /// The order of the sectors in the image.
     pub fn order(&self) -> Order
         ensures value { result ≡ self.now.order }
@@ -285,6 +288,26 @@ impl<A: Allocator> Image<A> {
             BLOCK_BYTES * number as usize,
             block,
         );
+    }
+
+    // How many bytes the image has.
+    pub(crate) fn byte_count(&self) -> usize
+        ensures value { result ≡ length self.now.bytes }
+        ensures long { IsImageLength self.now.order result }
+    {
+        self.bytes.len()
+    }
+
+    /// The 256 bytes of a physical sector of a track, to be written where they lie; what is written there changes this sector
+    /// alone (`a_lent_sector_is_one`). No byte where `sector_ref` lends none.
+    pub fn sector_mut(&mut self, track: u8, sector: u8) -> &mut [u8]
+        ensures* writes_back { sem 𝓛 (LendsSector A.row A.Allocator self.entry track sector result) }
+        ensures content { CanLend self.old track sector → sector_in self.old.sectors track sector ≡ Some result.now }
+        ensures long { CanLend self.old track sector → length result.now ≡ 256 }
+        ensures none { (CanLend self.old track sector → ⊥) → result.now ≡ [] }
+    {
+        let (start, end) = self.lent_range(track, sector);
+        self.bytes.slice_mut(start..end)
     }
 
     /// The bytes, in the order of the image.

@@ -1,6 +1,7 @@
 // Laws of images.
-ghost use Rattle.std.specs.Prelude.{◌≡◌, ◌<◌, ℕ, List, Option, Some, length};
-ghost use Rattle.a2_image.specs.Image.{DiskImage, HoldsSectors, IsImageLength, block_count};
+ghost use Rattle.std.specs.Prelude.{◌≡◌, ◌<◌, ◌+◌, ◌*◌, ℕ, List, Option, Some, length, slice_set};
+ghost use Rattle.a2_image.specs.Image.{DiskImage, CanLend, HoldsSectors, IsImageLength, block_count};
+ghost use Rattle.a2_image.specs.Lending.{with_lent};
 ghost use Rattle.a2_image.specs.Blocks.{block_in, bytes_of_block};
 
 use crate::Order;
@@ -18,4 +19,13 @@ pub fn prodos_blocks_lie_in_order()
         → HoldsSectors image.order image.bytes image.sectors
         → block < block_count image
         → block_in image block ≡ Some (bytes_of_block image.bytes block) }
+{}
+
+/// A law: 256 bytes that are left in a lent sector are that sector, and every other sector keeps its content.
+pub fn a_lent_sector_is_one()
+    ensures { (image : DiskImage) (track sector : ℕ) (content : List ℕ)
+        → IsImageLength image.order (length image.bytes)
+        → HoldsSectors image.order image.bytes image.sectors
+        → CanLend image track sector → length content ≡ 256
+        → (with_lent image track sector content).sectors ≡ slice_set image.sectors (16 * track + sector) (Some content) }
 {}

@@ -1,10 +1,12 @@
 // Sectors that are lent.
-ghost use Rattle.std.specs.Prelude.{◌≡◌, ◌↔◌, Some, IsTrue, IsSome, IfSome, length};
+ghost use Rattle.std.specs.Prelude.{◌≡◌, ◌↔◌, ◌≤◌, Some, IsTrue, IsSome, IfSome, length};
 ghost use Rattle.a2_image.specs.Image.{sector_in, CanLend};
+ghost use Rattle.a2_image.specs.Lending.{is_lent, lent_range};
 
 use crate::Image;
+use crate::image::SECTOR_BYTES;
 use crate::order::{DISK_BLOCKS, SECTORS, TRACKS};
-use crate::plain::lent_plain;
+use crate::plain::{lent_plain, stored_number};
 use std::alloc::Allocator;
 
 impl<A: Allocator> Image<A> {
@@ -21,9 +23,24 @@ impl<A: Allocator> Image<A> {
         Some(lent_plain(self.stored(), self.order(), track, sector))
     }
 
+    // From which byte to which the image is lent for a sector: the sector's, or no byte.
+    pub(crate) fn lent_range(&self, track: u8, sector: u8) -> (usize, usize)
+        ensures range { result ≡ lent_range self.now track sector }
+        ensures order { result.0 ≤ result.1 }
+        ensures within { result.1 ≤ length self.now.bytes }
+    {
+        if !self.can_lend(track, sector) {
+            let end = self.byte_count();
+            return (end, end);
+        }
+        let start = SECTOR_BYTES * stored_number(self.order(), track, sector);
+        (start, start + SECTOR_BYTES)
+    }
+
     // Whether a sector lies in the image as it is.
     fn can_lend(&self, track: u8, sector: u8) -> bool
-        ensures { IsTrue result ↔ CanLend self.now track sector }
+        ensures lends { IsTrue result ↔ CanLend self.now track sector }
+        ensures value { result ≡ is_lent self.now track sector }
     {
         !self.order().is_nibble()
             && track < TRACKS

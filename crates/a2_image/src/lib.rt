@@ -22,7 +22,7 @@ mod tests;
 
 pub use error::ImageError;
 pub use image::{Image, SECTOR_BYTES};
-pub use laws::{prodos_blocks_lie_in_order, sectors_are_one};
+pub use laws::{a_lent_sector_is_one, prodos_blocks_lie_in_order, sectors_are_one};
 pub use order::{
     BLOCK_BYTES, DISK_BLOCKS, IMAGE_BYTES, NIBBLE_BYTES, Order, SECTORS, TRACKS, block_to_phys,
     dos_to_phys,

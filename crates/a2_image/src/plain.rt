@@ -6,7 +6,7 @@ use crate::part::replace;
 use crate::{Order, SECTOR_BYTES};
 
 // How many sectors such an image has before this one.
-fn stored_number(order: Order, track: u8, sector: u8) -> usize
+pub(crate) fn stored_number(order: Order, track: u8, sector: u8) -> usize
     requires exists { (track < 35) × (sector < 16) }
     ensures value { result ≡ number_in order (16 * track + sector) }
     ensures within { result < 560 }

@@ -235,6 +235,24 @@ fn lends_a_sector(rt: HostRuntime) -> Result<(), Fail> {
 }
 
 #[test]
+fn writes_into_a_lent_sector(rt: HostRuntime) -> Result<(), Fail> {
+    let image = numbered(&rt)?;
+    for order in [Order::Dos, Order::Prodos] {
+        let mut image = image.convert(order, 254)?;
+        image.sector_mut(34, 5).fill(0xa5);
+        for sector in 0..16u8 {
+            let byte = if sector == 5 { 0xa5 } else { sector };
+            assert!(rt; image.sector_ref(34, sector) == Some([byte; SECTOR_BYTES].as_slice()));
+        }
+        assert!(rt; image.sector_mut(35, 0).is_empty());
+        assert!(rt; image.sector_mut(0, 16).is_empty());
+    }
+    let mut image = image.convert(Order::Nibble, 254)?;
+    assert!(rt; image.sector_mut(17, 0).is_empty());
+    Ok(())
+}
+
+#[test]
 fn each_refused_block_is_memory(rt: HostRuntime) -> Result<(), Fail> {
     // The first block is the bytes that are opened.
     for (order, blocks) in [(Order::Dos, 2), (Order::Prodos, 2), (Order::Nibble, 3)] {

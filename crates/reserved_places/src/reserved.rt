@@ -1,8 +1,11 @@
 // Reserved places.
-ghost use Rattle.std.specs.Prelude.{◌≡◌, []};
-ghost use Rattle.reserved_places.specs.Reserved.{is_reserved};
+ghost use Rattle.std.specs.Prelude.{◌≡◌, ◌<◌, ℕ, List, [], All, IfOk, IfErr};
+ghost use Rattle.reserved_places.specs.declared.error.ReserveError.TheVariants.{Syntax};
+ghost use Rattle.reserved_places.specs.Reserved.{is_reserved, HasPlaces, IsPlaceList, Reserves};
 
-use std::alloc::{Allocator, Global};
+use crate::words::places_of;
+use crate::{PlaceForm, ReserveError};
+use std::alloc::{AllocError, Allocator, Global};
 use std::marker::Model;
 
 /// The places that are kept for the system beside its own.
@@ -37,5 +40,36 @@ impl<A: Allocator> Reserved<A> {
             Some(reserved) => *reserved,
             None => false,
         }
+    }
+}
+
+// The table that has some places, which are below `count`.
+fn table_of<A: Allocator>(
+    alloc: A,
+    places: &[u32],
+    count: usize,
+) -> Result<Vec<bool, A>, AllocError>
+    requires { All (λ place. place < count) places.now }
+    ensures { IfOk result (λ table. HasPlaces table.items places.now) }
+{
+    let mut table = vec![in alloc; false; count]?;
+    for place in places {
+        table[*place as usize] = true;
+    }
+    Ok(table)
+}
+
+impl<A: Allocator + Copy> Reserved<A> {
+    /// The places that a text names, in words between commas. A place may be named again, to no further effect.
+    ///
+    /// # Errors
+    /// `Syntax` exactly where some word names no place, `Memory`.
+    pub fn read(alloc: A, text: &str, form: PlaceForm) -> Result<Reserved<A>, ReserveError>
+        ensures read { IfOk result (λ reserved. Reserves form text.now reserved) }
+        ensures syntax { IfErr result (λ e. e ≡ Syntax → (places : List ℕ) → ¬ IsPlaceList form text.now places) }
+    {
+        let places = places_of(alloc, text, form)?;
+        let table = table_of(alloc, places.as_slice(), form.places())?;
+        Ok(Reserved { table })
     }
 }
