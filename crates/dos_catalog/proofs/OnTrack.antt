@@ -16,12 +16,12 @@ pub record AreSoFar (met : List Bool) (entries : List Entry) : Type 0 where
   pub few : length entries + 7 * count_by not met ≤ 112
 
 module _ (place : ℕ) (unit : List ℕ) where
-  each_slot : (P : Entry → Type 0) → ((slot : ℕ) → slot < 7 → P (entry_at place unit slot)) → All P (entries_of place unit)
+  pub each_slot : (P : Entry → Type 0) → ((slot : ℕ) → slot < 7 → P (entry_at place unit slot)) → All P (entries_of place unit)
   each_slot P each = All-filter is_in_use P (map (entry_at place unit) (range_with_len 0 7)) (λ k d within.
       let inside : k < 7 = omega (arith, within, length-map-range_with_len (entry_at place unit) 0 7) in
       subst P (sym (get_or-map-range_with_len (entry_at place unit) 0 7 k k d inside (omega arith))) (each k inside))
 
-  at_most_seven : length (entries_of place unit) ≤ 7
+  pub at_most_seven : length (entries_of place unit) ≤ 7
   at_most_seven = omega (
     arith,
     length-filter_both is_in_use (λ e. not (is_in_use e)) (λ e. refl) (map (entry_at place unit) (range_with_len 0 7)),

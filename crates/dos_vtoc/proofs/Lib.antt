@@ -1,4 +1,4 @@
-mod Bits
+pub mod Bits
 mod Next
 mod Tracks
 mod Lanes

@@ -3,7 +3,7 @@ ghost use Rattle.std.specs.Prelude.{◌≡◌, ◌≤◌, ◌<◌, ◌+◌, ◌*
 ghost use Rattle.dos_vtoc.specs.Vtoc.{free_count_of};
 ghost use Rattle.dos_vtoc.specs.Count.{free_below, ones_of_track};
 
-use crate::vtoc::FREE_BITS;
+use crate::marks::FREE_BITS;
 use std::simd::prelude::*;
 
 const TRACKS: usize = 35;

@@ -3,6 +3,7 @@ ghost use Rattle.std.specs.Prelude.{◌≡◌, ◌≢◌, ◌<◌, ◌↔◌, �
 ghost use Rattle.dos_vtoc.specs.Vtoc.{HasGeometry, IsFreeFrom, IsNextFree, link_of, volume_number, byte_of_place, is_free, free_count_of, marked, released, order_of};
 
 use crate::count::free_in_map;
+use crate::marks::{FREE_BITS, set_free, set_used};
 use a2_device::Fault;
 use std::marker::Model;
 
@@ -13,9 +14,6 @@ pub const VTOC_PLACE: u32 = 272;
 const PLACES: u32 = 560;
 
 const VOLUME_NUMBER: usize = 0x06;
-
-/// Four bytes of free bits for each track.
-pub(crate) const FREE_BITS: usize = 0x38;
 
 /// The volume table of contents of a volume of 35 tracks of 16 sectors (Beneath Apple DOS, chapter 4).
 #[derive(Debug, Drop)]
@@ -32,18 +30,6 @@ impl Model for Vtoc {
     ghost view = { λ v. v.bytes };
 
     ghost invariant = { λ v. HasGeometry v.bytes };
-}
-
-// The byte of the map that has the bit of a place, and that bit.
-fn bit_of(place: u32) -> (usize, u8)
-    requires { place < 560 }
-    ensures at { result.0 ≡ byte_of_place place }
-    ensures bit { result.1 ≡ 2 ^ (place % 8) }
-    ensures within { result.0 < 256 }
-{
-    let sector = place % 16;
-    let at = FREE_BITS + 4 * (place / 16) as usize + 1 - (sector / 8) as usize;
-    (at, 1 << (sector % 8))
 }
 
 // The place with a number in the order of rising tracks and falling sectors, and the number of that place.
@@ -96,8 +82,7 @@ impl Vtoc {
         ensures others { (other : ℕ) → other < 560 → other ≢ place → is_free self.new other ≡ is_free self.old other }
         ensures rest { (at : ℕ) → at ≢ byte_of_place place → slice_index self.new at ≡ slice_index self.old at }
     {
-        let (at, bit) = bit_of(place);
-        self.bytes[at] &= !bit;
+        set_used(&mut self.bytes, place);
     }
 
     /// Marks the sector at a place free.
@@ -108,8 +93,7 @@ impl Vtoc {
         ensures others { (other : ℕ) → other < 560 → other ≢ place → is_free self.new other ≡ is_free self.old other }
         ensures rest { (at : ℕ) → at ≢ byte_of_place place → slice_index self.new at ≡ slice_index self.old at }
     {
-        let (at, bit) = bit_of(place);
-        self.bytes[at] |= bit;
+        set_free(&mut self.bytes, place);
     }
 
     /// How many sectors of the volume are free.

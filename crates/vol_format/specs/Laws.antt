@@ -85,11 +85,12 @@ pub record IsWritable (format : Meaning) : Type 0 where
       (remapped directory place free)
   pub root_length : (unit : List ℕ) (slot place : ℕ) → length (format.with_root unit slot place) ≡ length unit
   pub free_length : (unit : List ℕ) (place : ℕ) (free : Bool) → length (format.with_free unit place free) ≡ length unit
-  pub turn_content : (directory : Directory) (file place : ℕ) (part : Part) (unit : List ℕ) → file < entries directory → root_of directory file ≡ To part
-      → length unit ≡ format.unit_size
+  pub turn_content : (store : List (List ℕ)) (directory : Directory) (file place : ℕ) (part : Part) (unit : List ℕ) → format.Describes store directory
+      → file < entries directory → root_of directory file ≡ To part → length unit ≡ format.unit_size
       → format.system_content directory (entry_of directory file).place (format.with_root unit (entry_of directory file).slot place)
       ≡ format.system_content directory (entry_of directory file).place unit
-  pub remap_content : (directory : Directory) (place : ℕ) (free : Bool) (unit : List ℕ) → Contains directory.available place → length unit ≡ format.unit_size
+  pub remap_content : (store : List (List ℕ)) (directory : Directory) (place : ℕ) (free : Bool) (unit : List ℕ) → format.Describes store directory
+      → Contains directory.available place → length unit ≡ format.unit_size
       → format.system_content directory (map_place directory place) (format.with_free unit place free) ≡ format.system_content directory (map_place directory place) unit
   pub frame_content : (before after : Directory) (place : ℕ) (unit : List ℕ) → IsSameFrame before after
       → format.system_content after place unit ≡ format.system_content before place unit

@@ -1,5 +1,5 @@
 -- Places in an order, and a table with the number of each.
-use Rattle.std.specs.Prelude.{◌≡◌, ◌<◌, ℕ, List, Option, Some, None, length, slice_get, slice_index, slice_index_or}
+use Rattle.std.specs.Prelude.{◌≡◌, ◌<◌, ℕ, List, Option, Some, None, slice_get, slice_index, slice_index_or}
 
 -- the number that a table has for a place, if it has one
 abbrev pub number_in : List (Option ℕ) → ℕ → Option ℕ

@@ -11,7 +11,9 @@
 mod format;
 mod link;
 mod order;
+mod writable;
 
 pub use format::Format;
 pub use link::{Holder, Link};
 pub use order::PlaceOrder;
+pub use writable::WritableFormat;

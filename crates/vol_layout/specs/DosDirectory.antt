@@ -38,7 +38,7 @@ pub entry_of-dos : (data_disk : Bool) (reserved : List Bool) (vtoc : List ℕ) (
 entry_of-dos data_disk reserved vtoc all file e within =
     get_or-numbered all 0 file no_entry e within ∙ ap (λ n. dos_entry n (get_or all file e)) (omega arith)
 
-no_list : Entry
+pub no_list : Entry
 no_list = record { place = 0; slot = 0; bytes = [] }
 
 -- what an entry names is list 0 of its own file

@@ -131,7 +131,7 @@ pointed_cases P file list i part at body next =
     at.which
 
 -- the rank of what a list points to
-rank_at : (file list i : ℕ) (part : Part) → IsPointedTo file list i part → rank_of part.kind part.number ≡ 123 * list + i + 1
+pub rank_at : (file list i : ℕ) (part : Part) → IsPointedTo file list i part → rank_of part.kind part.number ≡ 123 * list + i + 1
 rank_at file list i part at =
     pointed_cases (λ kind number. rank_of kind number ≡ 123 * list + i + 1) file list i part at
     (λ pair. omega arith) (λ last. omega arith)

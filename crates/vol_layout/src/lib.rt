@@ -5,8 +5,11 @@
 #![tactic(auto)]
 
 mod dos;
+mod dos_writes;
+#[cfg(test)]
+mod tests;
 
 pub use dos::{Dos33, DosVolume};
 pub use part_layout::{Layout, LayoutError, Move, MoveError};
 pub use reserved_places::Reserved;
-pub use vol_format::{Format, Holder, Link};
+pub use vol_format::{Format, Holder, Link, WritableFormat};

@@ -1,4 +1,4 @@
-use Rattle.std.proofs.Common.{◌<◌, refl, ◌∙◌, length, length-set, arith}
+use Rattle.std.proofs.Common.{◌<◌, refl, ◌∙◌, length-set, arith}
 use Rattle.std.specs.Prelude.{slice_index_or, Some}
 use Rattle.vol_format.proofs.Numbers.{one_more}
 use Rattle.vol_format.proofs.order.numbers_of.Goals as goal

@@ -1,4 +1,4 @@
-use Rattle.std.proofs.Common.{◌≡◌, ◌<◌, sym, ◌∙◌, subst, arith, length, List, ℕ}
+use Rattle.std.proofs.Common.{◌<◌, sym, ◌∙◌, subst, arith, length, List, ℕ}
 use Rattle.std.specs.Prelude.{Contains, None}
 use Rattle.std.proofs.lemmas.List.{get_or_default}
 use Rattle.vol_format.proofs.Numbers.{has_number, past_last, if_none}
