@@ -1,4 +1,5 @@
-pub mod Walked
 pub mod Names
 pub mod Lines
 pub mod Shown
+pub mod DosEntries
+pub mod Told

@@ -1,3 +1,10 @@
 pub mod Refusal
+pub mod Files
+pub mod Listing
+pub mod Text
+pub mod Read
+pub mod OneFile
+pub mod DosFiles
 pub mod Catalog
 pub mod DosText
+pub mod DosListing

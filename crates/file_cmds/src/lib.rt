@@ -1,18 +1,22 @@
-//! Commands on the files of a volume, over any device that has its units.
+//! Commands on the files of a volume, over any device that has its units and any format.
 //!
-//! The listing so far: what a catalog shows of a DOS 3.3 volume, as a function of the volume's store
-//! (`specs/Catalog.antt`), and its exact text (`specs/DosText.antt`). A command that reads leaves the device's store as it is.
+//! What the commands ask of a format, beside its parts, is the trait `FileFormat`; its model is the record `FileMeaning`
+//! (`specs/Files.antt`). A listing shows what a directory says (`specs/Listing.antt`), and for DOS 3.3 it has an exact text
+//! (`specs/DosText.antt`). A command that reads leaves the device's store as it is.
 #![tactic(auto)]
 
 mod command;
+mod dos;
 mod dos_text;
 mod error;
+mod format;
 mod listing;
 mod name;
 
 pub use command::catalog;
 pub use dos_text::dos_listing_text;
 pub use error::CmdError;
+pub use format::FileFormat;
 pub use listing::{ListEntry, Listing};
 pub use name::StoredName;
 
