@@ -4,6 +4,7 @@ pub mod Listing
 pub mod Text
 pub mod Read
 pub mod OneFile
+pub mod FileAlone
 pub mod DosFiles
 pub mod Catalog
 pub mod DosText

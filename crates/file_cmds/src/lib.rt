@@ -12,6 +12,7 @@ mod error;
 mod format;
 mod listing;
 mod name;
+mod one_file;
 
 pub use command::catalog;
 pub use dos_text::dos_listing_text;
