@@ -3,3 +3,5 @@ pub mod Lines
 pub mod Shown
 pub mod DosEntries
 pub mod Told
+pub mod Members
+pub mod Texts

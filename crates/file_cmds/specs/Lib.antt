@@ -3,6 +3,8 @@ pub mod Files
 pub mod Listing
 pub mod Text
 pub mod Read
+pub mod Walked
+pub mod Stop
 pub mod OneFile
 pub mod FileAlone
 pub mod DosFiles

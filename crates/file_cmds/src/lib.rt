@@ -13,6 +13,7 @@ mod format;
 mod listing;
 mod name;
 mod one_file;
+mod text;
 
 pub use command::catalog;
 pub use dos_text::dos_listing_text;
