@@ -5,3 +5,4 @@ pub mod DosEntries
 pub mod Told
 pub mod Members
 pub mod Texts
+pub mod OwnParts

@@ -7,6 +7,7 @@ use Rattle.std.proofs.lemmas.List.FromFn.{get_or-range_with_len, get_or-map-rang
 use Rattle.std.proofs.lemmas.List.{get_or-replicate}
 use Rattle.std.proofs.lemmas.Option.{slice_get-get_or, slice_get_past}
 use Rattle.a2_device.specs.declared.part.Part.{Part}
+use Rattle.vol_format.specs.declared.link.Link.{Link}
 use Rattle.vol_format.specs.declared.link.Link.TheVariants.{Null, To}
 use Rattle.vol_format.specs.Directory.{Directory, Listed, no_entry, entries, entry_of, root_of, is_system}
 use Rattle.vol_format.specs.Meaning.{Meaning}
@@ -77,14 +78,11 @@ module _ (directory : Directory) (file : ℕ) where
   pub root-alone : (entry : ℕ) → entry ≡ file → entry < entries directory → root_of directory entry ≡ root_of (file_alone directory file) entry
   root-alone entry same within = sym (ap (λ (one : Listed). one.root) (entry_of-alone entry within ∙ if_same entry same))
 
-  -- only the file's own entry points to a part
-  pub root_of-To : (entry : ℕ) (part : Part) → root_of (file_alone directory file) entry ≡ To part → (entry ≡ file) × (root_of directory file ≡ To part)
-  root_of-To entry part is = by_tests (entry == file) (nat_lt entry (entries directory)) refl refl
+  -- only the file's own entry points to anything
+  pub root_of-link : (entry : ℕ) (link : Link) → (Null ≡ link → ⊥) → root_of (file_alone directory file) entry ≡ link → (entry ≡ file) × (root_of directory file ≡ link)
+  root_of-link entry link null is = by_tests (entry == file) (nat_lt entry (entries directory)) refl refl
     where
-      null : Null ≡ To part → ⊥
-      null e = cc
-
-      by_tests : (same below : Bool) → (entry == file) ≡ same → nat_lt entry (entries directory) ≡ below → (entry ≡ file) × (root_of directory file ≡ To part)
+      by_tests : (same below : Bool) → (entry == file) ≡ same → nat_lt entry (entries directory) ≡ below → (entry ≡ file) × (root_of directory file ≡ link)
       by_tests true true at within_is =
           let same : entry ≡ file = grind (arith, nat_tests) in
           let within : entry < entries directory = grind (arith, nat_tests) in (
@@ -95,6 +93,12 @@ module _ (directory : Directory) (file : ℕ) where
           let beyond : entries directory ≤ entry = grind (arith, nat_tests) in
           absurd (null (sym (ap (λ (one : Listed). one.root) (past (entries_alone directory file) entry (omega (arith, entries-alone, beyond)))) ∙ is))
       by_tests false below at below_is = absurd (null (sym (root_of-other entry (grind (arith, nat_tests))) ∙ is))
+
+  root_of-To : (entry : ℕ) (part : Part) → root_of (file_alone directory file) entry ≡ To part → (entry ≡ file) × (root_of directory file ≡ To part)
+  root_of-To entry part is = root_of-link entry (To part) null is
+    where
+      null : Null ≡ To part → ⊥
+      null e = cc
 
   same_place : (entry : ℕ) → (entry_alone directory file entry).place ≡ (entry_of directory entry).place
   same_place entry = by_test (entry == file)
