@@ -6,3 +6,5 @@ pub mod Told
 pub mod Members
 pub mod Texts
 pub mod OwnParts
+pub mod Whole
+pub mod Outcomes

@@ -1,6 +1,6 @@
 -- The parts of one file, and those of the volume that has this file alone.
-use Rattle.std.specs.Prelude.{◌≡◌, ◌≢◌, ◌⊎◌, ◌↔◌, ◌<◌, ℕ, Bool, true, false, List, [], ◌∷◌, length, map, filter, AllPairs, Contains}
-use Rattle.std.proofs.Common.{refl, sym, ◌∙◌, ap, subst, arith, get_or, ⊎_elim, inl, inr}
+use Rattle.std.specs.Prelude.{◌≡◌, ◌<◌, ℕ, true, false, List, [], ◌∷◌, length, filter, Contains}
+use Rattle.std.proofs.Common.{refl, sym, ◌∙◌, ap, subst, arith, get_or, ⊎_elim}
 use Rattle.std.proofs.lemmas.List.{get_or-map, length-map}
 use Rattle.std.proofs.lemmas.List.Kept.{AllPairs-filter}
 use Rattle.a2_device.specs.Device.{unit_at}
@@ -9,10 +9,9 @@ use Rattle.a2_device.specs.declared.part.PartKind.{PartKind}
 use Rattle.a2_device.specs.declared.part.PartKind.TheVariants.{List as AList, Master, Index, Body}
 use Rattle.a2_device.specs.declared.fault.Fault.{Fault}
 use Rattle.a2_device.specs.declared.fault.Fault.TheVariants.{Geometry, CatalogLink, DirLink, MapPointer, StorageType, OutOfRange, InSystem, Shared, MarkedFree}
-use Rattle.vol_format.specs.declared.link.Link.{Link}
 use Rattle.vol_format.specs.declared.link.Link.TheVariants.{Null, Wild, OtherType, To}
-use Rattle.vol_format.specs.Directory.{Directory, entries, root_of, is_system, is_free}
-use Rattle.vol_format.specs.Meaning.{Meaning, link_from}
+use Rattle.vol_format.specs.Directory.{Directory, entries, root_of, is_system}
+use Rattle.vol_format.specs.Meaning.{Meaning}
 use Rattle.vol_format.specs.Reach.{Reach, at_root, at_child, Before, IsPartsOf}
 use Rattle.vol_format.specs.Accepted.{IsAccepted, PartFaultAt, FaultAt}
 use Rattle.vol_format.specs.Laws.{IsReadable, IsDirectory}

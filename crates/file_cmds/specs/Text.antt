@@ -46,6 +46,13 @@ text_from unit_size number (stored ∷ later) =
 abbrev pub whole_text : ℕ → List Stored → List ℕ
 whole_text unit_size units = text_from unit_size 0 units
 
+-- the whole text of a file that has no fault of its own
+pub record IsWholeTextOf (format : Meaning) (directory : Directory) (store : List (List ℕ)) (file : ℕ) (text : List ℕ) : Type 0 where
+  pub faultless : ¬ OwnFault format directory store file
+  pub units : List Stored
+  pub are_units : AreUnitsOf format directory store file units
+  pub is : text ≡ whole_text format.unit_size units
+
 -- the whole text of a file whose entry has these bytes, or its body alone
 abbrev pub text_of : FileMeaning → ℕ → Bool → List ℕ → List Stored → List ℕ
 text_of files unit_size true bytes units = whole_text unit_size units

@@ -9,10 +9,12 @@ mod command;
 mod dos;
 mod dos_text;
 mod error;
+mod find;
 mod format;
 mod listing;
 mod name;
 mod one_file;
+mod reading;
 mod text;
 
 pub use command::catalog;
@@ -21,6 +23,7 @@ pub use error::CmdError;
 pub use format::FileFormat;
 pub use listing::{ListEntry, Listing};
 pub use name::StoredName;
+pub use reading::read;
 
 #[cfg(test)]
 mod tests;
