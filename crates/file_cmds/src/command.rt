@@ -1,5 +1,5 @@
 // The catalog command.
-ghost use Rattle.std.specs.Prelude.{◌≡◌, IfOk, IsTrue, map};
+ghost use Rattle.std.specs.Prelude.{◌≡◌, ◌≢◌, IfOk, IsTrue, map};
 ghost use Rattle.a2_device.specs.Device.{OnlyReads};
 ghost use Rattle.file_cmds.specs.Refusal.{told_device};
 ghost use Rattle.file_cmds.specs.Listing.{ShowsDirectory, IsListingOf, HasHeaderFault};
@@ -55,6 +55,7 @@ pub fn catalog<D: Device, F: FileFormat, A: Allocator + Copy>(
     requires places { (F.meaning format.now).Takes (D.state device.old).places }
 
     ensures device { OnlyReads (told_device result) (D.state device.old) (D.state device.new) }
+    ensures found { result ≢ Err CmdError.NotFound }
     ensures listed { IsTrue (D.state device.old).honest
         → IfOk result (IsListingOf (F.meaning format.now) (F.files format.now) (D.state device.old).store) }
     ensures check { IsTrue (D.state device.old).honest → result ≡ Err CmdError.Check → HasHeaderFault (F.meaning format.now) (D.state device.old).store }

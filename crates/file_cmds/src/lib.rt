@@ -2,7 +2,9 @@
 //!
 //! What the commands ask of a format, beside its parts, is the trait `FileFormat`; its model is the record `FileMeaning`
 //! (`specs/Files.antt`). A listing shows what a directory says (`specs/Listing.antt`), and for DOS 3.3 it has an exact text
-//! (`specs/DosText.antt`). A command that reads leaves the device's store as it is.
+//! (`specs/DosText.antt`). A read gives the units of one file in order, or what is wrong with this file (`specs/Text.antt`,
+//! `specs/Read.antt`): the checker of volumes walks over the volume that has the file alone (`specs/OneFile.antt`). A command that
+//! reads leaves the device's store as it is.
 #![tactic(auto)]
 
 mod command;
@@ -25,5 +27,7 @@ pub use listing::{ListEntry, Listing};
 pub use name::StoredName;
 pub use reading::read;
 
+#[cfg(test)]
+mod read_tests;
 #[cfg(test)]
 mod tests;
