@@ -1,4 +1,5 @@
 pub mod Disks
 pub mod Replies
+pub mod Checks
 pub mod Converted
 pub mod Answered

@@ -1,6 +1,6 @@
 -- The reply to a catalog, by what the walk over the volume said.
 use Rattle.std.proofs.Common.{◌≡◌, ◌∙◌, ◌++◌, ℕ, ◌<◌, List, [], length, take, refl, sym, subst, ap, arith, ⊎_elim}
-use Rattle.std.specs.Prelude.{◌/◌, ◌%◌, Contains, IsTrue, Option, Some, None, IfSome, Err, option_map}
+use Rattle.std.specs.Prelude.{◌/◌, ◌%◌, Contains, IsTrue, true, Option, Some, None, IfSome, Err, option_map}
 use Rattle.std.proofs.lemmas.List.FromFn.{length-map-range_with_len}
 use Rattle.a2_image.specs.declared.order.Order.{Order}
 use Rattle.a2_image.specs.declared.error.ImageError.{ImageError}
@@ -22,7 +22,7 @@ use Rattle.file_cmds.specs.declared.error.CmdError.TheVariants as commands
 use Rattle.file_cmds.proofs.Shown.{IsListingText-listing_text}
 use Rattle.a2_shop.specs.declared.reply.Failure.TheVariants as failures
 use Rattle.a2_shop.specs.declared.reply.Reply.{Reply}
-use Rattle.a2_shop.specs.declared.reply.Reply.TheVariants.{Done, Made, Refused, Failed}
+use Rattle.a2_shop.specs.declared.reply.Reply.TheVariants.{Done, Faulty, Made, Refused, Failed}
 use Rattle.a2_shop.specs.CatalogReply.{IsCatalogReply, IsListingReply}
 use Rattle.a2_shop.specs.Disk.{IsDiskImage, LacksOne, RefusesDisk}
 use Rattle.a2_shop.specs.Reply.{reply_to_image, reply_to_refusal}
@@ -33,6 +33,7 @@ pub catalog_listed : {A : Type 0} (order : Order) (image : List ℕ) (sectors : 
     → IsCatalogReply order image reply
 catalog_listed order image sectors listing (Done text) long holds is told =
     (long, sectors, holds, subst (IsListingText (dos_units sectors)) (sym told) (IsListingText-listing_text (dos_units sectors) listing is))
+catalog_listed order image sectors listing (Faulty text) long holds is told = absurd told
 catalog_listed order image sectors listing (Made made) long holds is told = absurd told
 catalog_listed order image sectors listing (Refused refusal) long holds is told = absurd told
 catalog_listed order image sectors listing (Failed failures.Input) long holds is told = cc
@@ -54,6 +55,15 @@ lacks_one sectors place lacks =
       sym (unit_in-sectors_by_place sectors place within) ∙ unreadable-none (sectors_by_place sectors) place lacks,
     )
 
+-- on the device of a disk, which has no failure to come, a read fails where a sector is not there
+pub device_lacks : (sectors : List (Option (List ℕ))) (old new : DeviceState) → old.unreadable ≡ unreadable_places (sectors_by_place sectors)
+    → IsTrue old.honest → old.read_failures ≡ Some 0 → OnlyReads true old new → LacksOne sectors
+device_lacks sectors old new unreadable honest never reads =
+    ⊎_elim
+    (λ met. let used = subst (λ failures. UsesRead failures new.read_failures) never met.0 in absurd (omega (arith, used.1)))
+    (λ lacks. lacks_one sectors (reads.met honest refl).0 (subst (λ places. Contains places (reads.met honest refl).0) unreadable lacks.0))
+    (reads.met honest refl).1
+
 -- the listing was refused
 pub catalog_refused : (T : Type 0) (order : Order) (image : List ℕ) (sectors : List (Option (List ℕ))) (old new : DeviceState) (error : CmdError)
     → IsDiskImage order image → HoldsSectors order image sectors
@@ -62,15 +72,8 @@ pub catalog_refused : (T : Type 0) (order : Order) (image : List ℕ) (sectors :
     → IsCatalogReply order image (reply_to_refusal error)
 catalog_refused T order image sectors old new commands.Check long holds same unreadable honest never reads none =
     (long, sectors, holds, subst HasNoCatalog same (none refl))
-catalog_refused T order image sectors old new commands.Device long holds same unreadable honest never reads none = (
-  long,
-  sectors,
-  holds,
-  ⊎_elim
-      (λ met. let used = subst (λ failures. UsesRead failures new.read_failures) never met.0 in absurd (omega (arith, used.1)))
-      (λ lacks. lacks_one sectors (reads.met honest refl).0 (subst (λ places. Contains places (reads.met honest refl).0) unreadable lacks.0))
-      (reads.met honest refl).1,
-)
+catalog_refused T order image sectors old new commands.Device long holds same unreadable honest never reads none =
+    (long, sectors, holds, device_lacks sectors old new unreadable honest never reads)
 catalog_refused T order image sectors old new commands.Memory long holds same unreadable honest never reads none = tt
 
 -- an image that is not taken

@@ -6,14 +6,17 @@ use Rattle.file_cmds.specs.declared.error.CmdError.{CmdError}
 use Rattle.file_cmds.specs.declared.error.CmdError.TheVariants as commands
 use Rattle.a2_image.specs.declared.error.ImageError.{ImageError}
 use Rattle.a2_image.specs.declared.error.ImageError.TheVariants as images
+use Rattle.reserved_places.specs.declared.error.ReserveError.{ReserveError}
+use Rattle.reserved_places.specs.declared.error.ReserveError.TheVariants as reserves
 use Rattle.a2_shop.specs.declared.reply.Refusal.{Refusal}
 use Rattle.a2_shop.specs.declared.reply.Refusal.TheVariants as refusals
 use Rattle.a2_shop.specs.declared.reply.Failure.{Failure}
 use Rattle.a2_shop.specs.declared.reply.Failure.TheVariants as failures
 use Rattle.a2_shop.specs.declared.reply.Reply.{Reply}
-use Rattle.a2_shop.specs.declared.reply.Reply.TheVariants.{Done, Made, Refused, Failed}
+use Rattle.a2_shop.specs.declared.reply.Reply.TheVariants.{Done, Faulty, Made, Refused, Failed}
 
 abbrev pub refusal_line : Refusal → Text
+refusal_line refusals.Reserve = codes "REFUSED Reserve\n"
 refusal_line refusals.Length = codes "REFUSED Length\n"
 refusal_line refusals.Check = codes "REFUSED Check\n"
 refusal_line refusals.NoSector = codes "REFUSED NoSector\n"
@@ -23,15 +26,17 @@ failure_line failures.Input = codes "FAILED Input\n"
 failure_line failures.Device = codes "FAILED Device\n"
 failure_line failures.Memory = codes "FAILED Memory\n"
 
--- the status of a reply: 0 done, 3 refused, 4 failed
+-- the status of a reply: 0 done, 1 something is wrong, 3 refused, 4 failed
 abbrev pub status_of : Reply → ℕ
 status_of (Done text) = 0
+status_of (Faulty text) = 1
 status_of (Made image) = 0
 status_of (Refused refusal) = 3
 status_of (Failed failure) = 4
 
 abbrev pub text_of : Reply → Text
 text_of (Done text) = string_bytes text
+text_of (Faulty text) = string_bytes text
 text_of (Made image) = codes "OK\n"
 text_of (Refused refusal) = refusal_line refusal
 text_of (Failed failure) = failure_line failure
@@ -67,6 +72,11 @@ abbrev pub reply_to_refusal : CmdError → Reply
 reply_to_refusal commands.Check = Refused refusals.Check
 reply_to_refusal commands.Device = Failed failures.Device
 reply_to_refusal commands.Memory = Failed failures.Memory
+
+-- the reply to a text of places to reserve that is not taken
+abbrev pub reply_to_reserve : ReserveError → Reply
+reply_to_reserve reserves.Syntax = Refused refusals.Reserve
+reply_to_reserve reserves.Memory = Failed failures.Memory
 
 -- the reply to an image that is not taken
 abbrev pub reply_to_image : ImageError → Reply

@@ -4,6 +4,7 @@ ghost use Rattle.shop_words.specs.Job.{job_view};
 ghost use Rattle.a2_shop.specs.Reply.{HandsOut, held};
 ghost use Rattle.a2_shop.specs.Answer.{IsAnswer, IsReplyTo, IsStatus, MakesImage, image_order_of};
 
+use crate::check::check_reply;
 use crate::convert::convert_reply;
 use crate::disk::order_of;
 use crate::input::read_image;
@@ -19,7 +20,7 @@ fn image_order(job: &Job) -> Order
     ensures { result ≡ image_order_of (job_view job.now) }
 {
     match job {
-        Job::Catalog { volume, .. } => order_of(volume.order),
+        Job::Catalog { volume, .. } | Job::Check { volume, .. } => order_of(volume.order),
         Job::Convert { order, .. } => order_of(*order),
     }
 }
@@ -31,11 +32,16 @@ fn reply_to(alloc: Global, job: &Job, image: Vec<u8>) -> Reply
     let order = image_order(job);
     match job {
         Job::Catalog { .. } => catalog_reply(alloc, image, order),
+        Job::Check {
+            volume,
+            reserve,
+            ..
+        } => check_reply(alloc, image, order, volume.data_disk, reserve.as_deref()),
         Job::Convert { to, volume, .. } => convert_reply(image, order, order_of(*to), *volume),
     }
 }
 
-/// Does a job on the image of a reader, tells it and hands the image that it makes to `out`: 0 done, 3 refused, 4 where a
+/// Does a job on the image of a reader, tells it and hands the image that it makes to `out`: 0 done, 1 something is wrong, 3 refused, 4 where a
 /// reader, a writer or memory fails.
 pub fn run_job<I: Read, E: Read, T: Write, O: Write>(
     alloc: Global,

@@ -5,6 +5,8 @@
 //! the words name and hands over the rest.
 #![tactic(auto)]
 
+mod check;
+mod check_text;
 mod command;
 mod convert;
 mod disk;

@@ -8,6 +8,8 @@ use std::io::Write;
 /// Why a job was refused.
 #[derive(Clone, Copy, Debug, PartialEq, Eq)]
 pub enum Refusal {
+    /// The text of the places to reserve is no list of places.
+    Reserve,
     /// The image has the wrong length for its order.
     Length,
     /// The volume has a fault.
@@ -31,6 +33,8 @@ pub enum Failure {
 pub enum Reply {
     /// The text of a job that is done.
     Done(String),
+    /// The text of what a job found wrong.
+    Faulty(String),
     /// The image that a job has made, for the output file.
     Made(Vec<u8>),
     Refused(Refusal),
@@ -42,6 +46,7 @@ impl Refusal {
         ensures { result.now ≡ refusal_line self }
     {
         match self {
+            Refusal::Reserve => b"REFUSED Reserve\n",
             Refusal::Length => b"REFUSED Length\n",
             Refusal::Check => b"REFUSED Check\n",
             Refusal::NoSector => b"REFUSED NoSector\n",
@@ -70,6 +75,7 @@ impl Reply {
     {
         match self {
             Reply::Done(_) | Reply::Made(_) => 0,
+            Reply::Faulty(_) => 1,
             Reply::Refused(_) => 3,
             Reply::Failed(_) => FAILED,
         }
@@ -79,7 +85,7 @@ impl Reply {
         ensures { result.now ≡ text_of self.now }
     {
         match self {
-            Reply::Done(text) => text.as_bytes(),
+            Reply::Done(text) | Reply::Faulty(text) => text.as_bytes(),
             Reply::Made(_) => b"OK\n",
             Reply::Refused(refusal) => refusal.line(),
             Reply::Failed(failure) => failure.line(),

@@ -7,6 +7,8 @@ use test_volumes::{VTOC, hello, put};
 
 const LISTING: &str = "DISK VOLUME 254\n*B 002 HELLO\nFREE 494\n";
 
+const ACCEPTED: &str = "ACCEPTED files 1 parts 2 available 496 lost 0\n";
+
 // The words of a line.
 fn words_of(alloc: Global, line: &str) -> Result<Vec<String>, AllocError> {
     let mut words = Vec::new(alloc);
@@ -57,6 +59,58 @@ fn a_listing_by_words_and_by_none(rt: HostRuntime) -> Result<(), Fail> {
     Ok(())
 }
 
+#[test]
+fn a_check_of_an_accepted_volume(rt: HostRuntime) -> Result<(), Fail> {
+    let rows = [
+        ("", 0, ACCEPTED),
+        (
+            "--data-disk",
+            0,
+            "ACCEPTED files 1 parts 2 available 528 lost 32\n",
+        ),
+        (
+            "--reserve 3/13,4/0",
+            0,
+            "ACCEPTED files 1 parts 2 available 494 lost 0\n",
+        ),
+        ("--reserve 17/0,0/0", 0, ACCEPTED),
+        ("--reserve 3/14", 1, "FAULT InSystem 3/14\n"),
+        ("--reserve 3/16", 3, "REFUSED Reserve\n"),
+    ];
+    let image = hello(rt.alloc())?;
+    for (words, status, lines) in rows {
+        let line = format!(in rt.alloc(); "check a --fs dos --order dos {words}")?;
+        let answer = answer_to(rt.alloc(), line.as_str(), &mut image.as_slice())?;
+        assert!(rt; answer.is(status, lines), "for {words}");
+    }
+    Ok(())
+}
+
+#[test]
+fn a_check_of_volumes_with_faults(rt: HostRuntime) -> Result<(), Fail> {
+    let rows = [
+        (62, 0x01, [0x03, 0x0e], "FAULT Shared 3/14\n"),
+        (62, 0x0c, [0x23, 0x00], "FAULT OutOfRange 3/14\n"),
+        (62, 0x0c, [0x11, 0x01], "FAULT InSystem 17/1\n"),
+        (
+            VTOC,
+            0x44,
+            [0xff, 0xff],
+            "FAULT MarkedFree 3/14\nFAULT MarkedFree 3/15\n",
+        ),
+        (VTOC, 0x34, [0x28, 0x10], "FAULT Geometry 17/0\n"),
+        (VTOC, 0x01, [0x12, 0x0f], "FAULT CatalogLink 17/0\n"),
+    ];
+    for (place, offset, bytes, lines) in rows {
+        let mut image = hello(rt.alloc())?;
+        put(&mut image, place, offset, &bytes);
+        let line = "check a --fs dos --order dos";
+        let answer = answer_to(rt.alloc(), line, &mut image.as_slice())?;
+        assert!(rt; answer.is(1, lines), "for {lines}");
+    }
+    Ok(())
+}
+
 // The image that a line of words makes of another, which is told by OK.
 fn made_by(
     rt: &impl Abort,
@@ -83,15 +137,17 @@ fn hello_tracks(rt: &impl Abort, alloc: Global) -> Result<Vec<u8>, AllocError> {
 }
 
 #[test]
-fn a_listing_in_each_order(rt: HostRuntime) -> Result<(), Fail> {
+fn a_listing_and_a_check_in_each_order(rt: HostRuntime) -> Result<(), Fail> {
     let image = hello(rt.alloc())?;
     for order in ["dos", "prodos", "nibble"] {
         let there = format!(in rt.alloc(); "convert a --order dos --to {order} --out b")?;
         let back = format!(in rt.alloc(); "convert b --order {order} --to dos --out c --volume 7")?;
-        let list = format!(in rt.alloc(); "catalog b --fs dos --order {order}")?;
         let other = made_by(&rt, rt.alloc(), there.as_str(), image.as_slice())?;
-        let answer = answer_to(rt.alloc(), list.as_str(), &mut other.as_slice())?;
-        assert!(rt; answer.is(0, LISTING), "in {order}");
+        for (command, lines) in [("catalog", LISTING), ("check", ACCEPTED)] {
+            let line = format!(in rt.alloc(); "{command} b --fs dos --order {order}")?;
+            let answer = answer_to(rt.alloc(), line.as_str(), &mut other.as_slice())?;
+            assert!(rt; answer.is(0, lines), "{command} in {order}");
+        }
         let again = made_by(&rt, rt.alloc(), back.as_str(), other.as_slice())?;
         assert!(rt; again == image, "from {order}");
     }
@@ -152,9 +208,13 @@ fn tracks_that_lack_a_sector(rt: HostRuntime) -> Result<(), Fail> {
     let ones = vec![in rt.alloc(); 0xff; 232_960]?;
     let marks = vec![in rt.alloc(); 0xd5; 232_960]?;
     for image in [&damaged, &zeros, &ones, &marks] {
-        let list = "catalog a --fs dos --order nibble";
-        let answer = answer_to(rt.alloc(), list, &mut image.as_slice())?;
-        assert!(rt; answer.is(4, "FAILED Device\n"));
+        for line in [
+            "catalog a --fs dos --order nibble",
+            "check a --fs dos --order nibble",
+        ] {
+            let answer = answer_to(rt.alloc(), line, &mut image.as_slice())?;
+            assert!(rt; answer.is(4, "FAILED Device\n"), "{line}");
+        }
         for to in ["dos", "prodos", "nibble"] {
             let line = format!(in rt.alloc(); "convert a --order nibble --to {to} --out b")?;
             let answer = answer_to(rt.alloc(), line.as_str(), &mut image.as_slice())?;
@@ -188,6 +248,23 @@ fn images_of_other_lengths(rt: HostRuntime) -> Result<(), Fail> {
     assert!(rt; answer_to(rt.alloc(), "", &mut image.as_slice())?.is(3, "REFUSED Length\n"));
     image.truncate(143_359);
     assert!(rt; answer_to(rt.alloc(), "", &mut image.as_slice())?.is(3, "REFUSED Length\n"));
+    Ok(())
+}
+
+#[test]
+fn places_to_reserve_are_tried_before_the_length(rt: HostRuntime) -> Result<(), Fail> {
+    let rows = [
+        ("", 3, "REFUSED Length\n"),
+        ("--reserve 3/14", 3, "REFUSED Length\n"),
+        ("--reserve 3/16", 3, "REFUSED Reserve\n"),
+    ];
+    for (words, status, lines) in rows {
+        let line = format!(in rt.alloc(); "check a --fs dos --order dos {words}")?;
+        let answer = answer_to(rt.alloc(), line.as_str(), &mut io::empty())?;
+        assert!(rt; answer.is(status, lines), "for {words}");
+        let answer = answer_to(rt.alloc(), line.as_str(), &mut Broken)?;
+        assert!(rt; answer.is(4, "FAILED Input\n"), "for {words}");
+    }
     Ok(())
 }
 

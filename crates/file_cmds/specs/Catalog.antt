@@ -1,5 +1,5 @@
 -- What the catalog of a DOS 3.3 volume shows.
-use Rattle.std.specs.Prelude.{◌≡◌, ℕ, ◌+◌, ◌*◌, ◌%◌, nat_le, List, [], ◌∷◌, map, slice_index, slice_range}
+use Rattle.std.specs.Prelude.{◌≡◌, ℕ, ◌+◌, ◌*◌, ◌%◌, nat_le, false, List, [], ◌∷◌, map, slice_index, slice_range}
 use Rattle.a2_device.specs.Device.{unit_at}
 use Rattle.dos_vtoc.specs.Vtoc.{HasGeometry, volume_number, free_count_of}
 use Rattle.dos_catalog.specs.declared.entry.Entry.{Entry}
@@ -14,6 +14,8 @@ list_entry entry = record {
   locked = nat_le 0x80 (slice_index entry.bytes 2);
   kind = slice_index entry.bytes 2 % 0x80;
   size = slice_index entry.bytes 0x21 + 256 * slice_index entry.bytes 0x22;
+  eof = 0;
+  directory = false;
   path = slice_range entry.bytes 0x03 0x21;
 }
 

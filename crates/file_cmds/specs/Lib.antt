@@ -1,3 +1,13 @@
 pub mod Refusal
+pub mod Files
+pub mod Listing
+pub mod Text
+pub mod Read
+pub mod Walked
+pub mod Stop
+pub mod OneFile
+pub mod FileAlone
+pub mod DosFiles
 pub mod Catalog
 pub mod DosText
+pub mod DosListing

@@ -1,98 +1,65 @@
 // The catalog command.
-ghost use Rattle.std.specs.Prelude.{◌≡◌, IfOk, IsTrue, map};
-ghost use Rattle.a2_device.specs.Device.{OnlyReads, unit_at};
-ghost use Rattle.dos_vtoc.specs.Vtoc.{HasGeometry};
-ghost use Rattle.dos_catalog.specs.Listed.{entries_of_catalog};
+ghost use Rattle.std.specs.Prelude.{◌≡◌, ◌≢◌, IfOk, IsTrue, map};
+ghost use Rattle.a2_device.specs.Device.{OnlyReads};
 ghost use Rattle.file_cmds.specs.Refusal.{told_device};
-ghost use Rattle.file_cmds.specs.Catalog.{IsCatalogOf, HasNoCatalog, Shows, list_entry};
+ghost use Rattle.file_cmds.specs.Listing.{ShowsDirectory, IsListingOf, HasHeaderFault};
 
-use crate::{CmdError, ListEntry, Listing, StoredName};
-use a2_device::{Device, WalkError};
-use dos_catalog::{Catalog, Entry};
-use dos_vtoc::{VTOC_PLACE, Vtoc};
+use crate::{CmdError, FileFormat, ListEntry, Listing};
+use a2_device::Device;
 use std::alloc::{AllocError, Allocator};
 
-// One file of the catalog.
-fn list_entry<A: Allocator>(alloc: A, entry: &Entry) -> Result<ListEntry<A>, AllocError>
-    ensures { IfOk result (λ listed. listed ≡ list_entry entry.now) }
-{
-    let path = StoredName::copy_of(alloc, entry.name())?;
-    Ok(ListEntry {
-        locked: entry.locked(),
-        kind: entry.kind(),
-        size: entry.sectors(),
-        path,
-    })
-}
-
-// The files of the catalog, in its order.
-fn list_entries<A: Allocator + Copy>(
+// The entries of a directory, in its order.
+fn list_entries<F: FileFormat, A: Allocator + Copy>(
     alloc: A,
-    entries: &[Entry],
+    format: &F,
+    volume: &F::Volume,
 ) -> Result<Vec<ListEntry<A>, A>, AllocError>
-    ensures { IfOk result (λ listed. listed.items ≡ map list_entry entries.now) }
+    ensures { IfOk result (λ listed. listed.items ≡ map (F.files format.now).shown (F.directory format.now volume.now).listed) }
 {
     let mut listed = Vec::new(alloc);
-    for entry in entries {
-        listed.push(list_entry(alloc, entry)?)?;
+    for file in 0..format.entries(volume) {
+        listed.push(format.list_entry(alloc, volume, file)?)?;
     }
     Ok(listed)
 }
 
-// The VTOC of a volume.
-fn read_vtoc<D: Device>(device: &mut D) -> Result<Vtoc, CmdError>
-    requires unit { (D.state device.old).unit_size ≡ 256 }
-    requires places { (D.state device.old).places ≡ 560 }
-
-    ensures device { OnlyReads (told_device result) (D.state device.old) (D.state device.new) }
-    ensures value { IsTrue (D.state device.old).honest → IfOk result (λ vtoc. (vtoc ≡ unit_at (D.state device.old).store 272) × HasGeometry vtoc) }
-    ensures check { IsTrue (D.state device.old).honest → result ≡ Err CmdError.Check → ¬ HasGeometry (unit_at (D.state device.old).store 272) }
-{
-    let mut unit = [0; 256];
-    if device.read(VTOC_PLACE, &mut unit).is_err() {
-        return Err(CmdError::Device);
-    }
-    match Vtoc::read(&unit) {
-        Ok(vtoc) => Ok(vtoc),
-        Err(_) => Err(CmdError::Check),
-    }
-}
-
-// The listing of a volume with this VTOC and catalog.
-fn listing_of<A: Allocator + Copy>(
+// What is shown of a volume that was read.
+fn listing_of<F: FileFormat, A: Allocator + Copy>(
     alloc: A,
-    vtoc: &Vtoc,
-    catalog: &Catalog<A>,
+    format: &F,
+    volume: &F::Volume,
 ) -> Result<Listing<A>, AllocError>
-    ensures { IfOk result (Shows vtoc.now (entries_of_catalog catalog.now)) }
+    ensures { IfOk result (ShowsDirectory (F.files format.now) (F.directory format.now volume.now)) }
 {
-    let volume = StoredName::copy_of(alloc, &[vtoc.volume()])?;
-    let entries = list_entries(alloc, catalog.entries())?;
-    let free = vtoc.free_count();
+    let name = format.name(alloc, volume)?;
+    let entries = list_entries(alloc, format, volume)?;
+    let free = format.free_count(volume);
     Ok(Listing {
-        volume,
+        volume: name,
         entries,
         free,
     })
 }
 
-/// The listing of a DOS 3.3 volume.
+/// The listing of a volume: its name, its entries in directory order, those of directories among them, and how many of all places are
+/// marked free.
 ///
 /// # Errors
-/// `Check` where the VTOC has another geometry or the catalog chain is broken; `Device` where a read fails; `Memory`.
-pub fn catalog<D: Device, A: Allocator + Copy>(
+/// `Check` where the header, the directory or the map's pointer has a fault; `Device` where a read fails; `Memory`.
+pub fn catalog<D: Device, F: FileFormat, A: Allocator + Copy>(
     alloc: A,
     device: &mut D,
+    format: &F,
 ) -> Result<Listing<A>, CmdError>
-    requires unit { (D.state device.old).unit_size ≡ 256 }
-    requires places { (D.state device.old).places ≡ 560 }
+    requires unit { (D.state device.old).unit_size ≡ (F.meaning format.now).unit_size }
+    requires places { (F.meaning format.now).Takes (D.state device.old).places }
 
     ensures device { OnlyReads (told_device result) (D.state device.old) (D.state device.new) }
-    ensures listed { IsTrue (D.state device.old).honest → IfOk result (IsCatalogOf (D.state device.old).store) }
-    ensures check { IsTrue (D.state device.old).honest → result ≡ Err CmdError.Check → HasNoCatalog (D.state device.old).store }
+    ensures found { result ≢ Err CmdError.NotFound }
+    ensures listed { IsTrue (D.state device.old).honest
+        → IfOk result (IsListingOf (F.meaning format.now) (F.files format.now) (D.state device.old).store) }
+    ensures check { IsTrue (D.state device.old).honest → result ≡ Err CmdError.Check → HasHeaderFault (F.meaning format.now) (D.state device.old).store }
 {
-    let vtoc = read_vtoc(device)?;
-    let catalog = Catalog::walk(alloc, device, &vtoc)?;
-    let listing = listing_of(alloc, &vtoc, &catalog)?;
-    Ok(listing)
+    let volume = format.volume(device)?;
+    Ok(listing_of(alloc, format, &volume)?)
 }

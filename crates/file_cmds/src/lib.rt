@@ -1,20 +1,33 @@
-//! Commands on the files of a volume, over any device that has its units.
+//! Commands on the files of a volume, over any device that has its units and any format.
 //!
-//! The listing so far: what a catalog shows of a DOS 3.3 volume, as a function of the volume's store
-//! (`specs/Catalog.antt`), and its exact text (`specs/DosText.antt`). A command that reads leaves the device's store as it is.
+//! What the commands ask of a format, beside its parts, is the trait `FileFormat`; its model is the record `FileMeaning`
+//! (`specs/Files.antt`). A listing shows what a directory says (`specs/Listing.antt`), and for DOS 3.3 it has an exact text
+//! (`specs/DosText.antt`). A read gives the units of one file in order, or what is wrong with this file (`specs/Text.antt`,
+//! `specs/Read.antt`): the checker of volumes walks over the volume that has the file alone (`specs/OneFile.antt`). A command that
+//! reads leaves the device's store as it is.
 #![tactic(auto)]
 
 mod command;
+mod dos;
 mod dos_text;
 mod error;
+mod find;
+mod format;
 mod listing;
 mod name;
+mod one_file;
+mod reading;
+mod text;
 
 pub use command::catalog;
 pub use dos_text::dos_listing_text;
 pub use error::CmdError;
+pub use format::FileFormat;
 pub use listing::{ListEntry, Listing};
 pub use name::StoredName;
+pub use reading::read;
 
+#[cfg(test)]
+mod read_tests;
 #[cfg(test)]
 mod tests;

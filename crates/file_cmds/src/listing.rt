@@ -2,7 +2,7 @@
 use crate::StoredName;
 use std::alloc::{Allocator, Global};
 
-/// A file of a listing.
+/// An entry of a listing.
 #[derive(Debug, Drop)]
 pub struct ListEntry<A: Allocator = Global> {
     pub locked: bool,
@@ -10,6 +10,10 @@ pub struct ListEntry<A: Allocator = Global> {
     pub kind: u8,
     /// The length in units, as it is stored.
     pub size: u16,
+    /// The length in bytes; for DOS 0.
+    pub eof: u32,
+    /// Whether it is a directory's.
+    pub directory: bool,
     /// For DOS the 30 bytes of the name, as they are stored.
     pub path: StoredName<A>,
 }

@@ -5,15 +5,23 @@ use super::*;
 use a2_device::{Device, FaultDevice, ImageDevice};
 use a2_image::{Image, NIBBLE_BYTES, Order};
 use refusing::Refusing;
-use std::alloc::{Allocator, Global};
+use reserved_places::Reserved;
+use std::alloc::{AllocError, Allocator, Global};
 use std::test::Fail;
 use test_volumes::{FIRST_CATALOG, VTOC, dos_device, dos_volume, hello, put, put_entry};
+use vol_layout::Dos33;
+
+// DOS 3.3, with nothing reserved.
+pub fn dos_format<A: Allocator + Copy>(alloc: A) -> Result<Dos33<A>, AllocError> {
+    Dos33::new(alloc, false, Reserved::none(alloc))
+}
 
 // The text of the listing of a volume.
 fn listing_of(alloc: Global, image: Vec<u8>) -> Result<String, CmdError>
     requires { vec_len image ≡ 143360 }
 {
-    let listing = catalog(alloc, &mut dos_device(image))?;
+    let format = dos_format(alloc)?;
+    let listing = catalog(alloc, &mut dos_device(image), &format)?;
     let text = dos_listing_text(alloc, &listing)?;
     Ok(text)
 }
@@ -99,7 +107,8 @@ fn with_failing_read(alloc: Global, image: Vec<u8>, reads: u32) -> Result<bool, 
         device.read(272, &mut unit)?;
     }
     device.fail_read();
-    let failed = matches!(catalog(alloc, &mut device), Err(CmdError::Device));
+    let format = dos_format(alloc)?;
+    let failed = matches!(catalog(alloc, &mut device, &format), Err(CmdError::Device));
     Ok(failed && device.faults() == 1)
 }
 
@@ -115,7 +124,8 @@ fn a_failing_read_is_told(rt: HostRuntime) -> Result<(), Fail> {
 fn text_of_hello<A: Allocator + Copy>(alloc: A, image: Vec<u8>) -> Result<usize, CmdError>
     requires { vec_len image ≡ 143360 }
 {
-    let listing = catalog(alloc, &mut dos_device(image))?;
+    let format = dos_format(alloc)?;
+    let listing = catalog(alloc, &mut dos_device(image), &format)?;
     let text = dos_listing_text(alloc, &listing)?;
     Ok(text.len())
 }
@@ -142,7 +152,8 @@ fn listing_in(alloc: Global, image: Image) -> Result<String, CmdError>
     requires { IsOfDisk image }
 {
     let mut device = ImageDevice::dos(image);
-    let listing = catalog(alloc, &mut device)?;
+    let format = dos_format(alloc)?;
+    let listing = catalog(alloc, &mut device, &format)?;
     let text = dos_listing_text(alloc, &listing)?;
     Ok(text)
 }

@@ -11,6 +11,7 @@ pub mod PlainValues
 pub mod PlainUsed
 pub mod PlainJobs
 pub mod CatalogLine
+pub mod CheckLine
 pub mod ConvertLine
 pub mod PlainTable
 pub mod AskedLemmas

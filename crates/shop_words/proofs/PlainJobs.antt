@@ -20,7 +20,7 @@ use Rattle.shop_words.proofs.PlainValues.{Test, flag_same, leaves_off, option_sa
 
 -- the names by which a job is said, and those of its flags
 abbrev pub option_names : List Text
-option_names = codes "image" ∷ codes "fs" ∷ codes "order" ∷ codes "to" ∷ codes "out" ∷ codes "volume" ∷ []
+option_names = codes "image" ∷ codes "fs" ∷ codes "order" ∷ codes "to" ∷ codes "out" ∷ codes "volume" ∷ codes "reserve" ∷ []
 
 abbrev pub flag_names : List Text
 flag_names = codes "data-disk" ∷ []
@@ -47,6 +47,7 @@ job_by-same command s t options flags =
       options (codes "to") refl,
       options (codes "out") refl,
       options (codes "volume") refl,
+      options (codes "reserve") refl,
       flags (codes "data-disk") refl,
     ) refl
 

@@ -31,10 +31,12 @@ conversion_view c = record { image = c.image.now; order = c.order; to = c.to; ou
 -- a job as contracts see it
 pub data JobView : Type 0 where
   catalog : Text → VolumeOptions → JobView
+  check : Text → VolumeOptions → Option Text → JobView
   convert : ConversionView → JobView
 
 abbrev pub job_view : Job → JobView
 job_view (jobs.Catalog image volume) = catalog (string_bytes image) volume
+job_view (jobs.Check image volume reserve) = check (string_bytes image) volume (option_map string_bytes reserve)
 job_view (jobs.Convert image order to out volume) = convert (record {
   image = string_bytes image;
   order = order;
@@ -76,6 +78,10 @@ volume_by said = option_and_then (λ file_system. option_map (λ order. record {
 abbrev pub catalog_by : Said → Option JobView
 catalog_by said = option_and_then (λ image. option_map (catalog image) (volume_by said)) (said (codes "image"))
 
+-- the places to reserve are a word that is said or not
+abbrev pub check_by : Said → Option JobView
+check_by said = option_and_then (λ image. option_map (λ volume. check image volume (said (codes "reserve"))) (volume_by said)) (said (codes "image"))
+
 -- the volume number that is said, 254 where none is
 abbrev pub volume_number : Option Text → Option ℕ
 volume_number None = Some 254
@@ -95,6 +101,7 @@ conversion_by said = conversion_of (said (codes "image")) (option_and_then order
 abbrev pub job_by : Text → Said → Option JobView
 job_by command said =
     if bytes_eq command (codes "catalog") then catalog_by said else
+    if bytes_eq command (codes "check") then check_by said else
     if bytes_eq command (codes "convert") then option_map convert (conversion_by said) else None
 
 -- the job of the command that clap finds, by the rows that it finds

@@ -73,6 +73,16 @@ catalog_form = record {
   parameters = image ∷ file_system ∷ order ∷ data_disk ∷ [];
 }
 
+-- `--reserve LIST`
+abbrev pub reserve : ParameterView
+reserve = parameter (codes "reserve") (optional any)
+
+abbrev pub check_form : FormView
+check_form = record {
+  name = codes "check";
+  parameters = image ∷ file_system ∷ order ∷ data_disk ∷ reserve ∷ [];
+}
+
 -- `--to ORDER`, `--out FILE` and `--volume V`
 abbrev pub to : ParameterView
 to = parameter (codes "to") (needed (one_of order_words))
@@ -91,4 +101,4 @@ convert_form = record {
 
 -- the forms of all commands
 abbrev pub forms : List FormView
-forms = catalog_form ∷ convert_form ∷ []
+forms = catalog_form ∷ check_form ∷ convert_form ∷ []

@@ -36,6 +36,14 @@ pub enum Job {
         image: String,
         volume: VolumeOptions,
     },
+    /// Tells whether a volume is accepted, or what is wrong with it.
+    Check {
+        /// The path of the image's file; `-` is standard input.
+        image: String,
+        volume: VolumeOptions,
+        /// The places that are kept for the system beside its own, as the words name them.
+        reserve: Option<String>,
+    },
     /// Writes the sectors of an image in another order.
     Convert {
         /// The path of the image's file; `-` is standard input.

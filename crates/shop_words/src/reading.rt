@@ -1,5 +1,5 @@
 //! The job that clap's matches say.
-ghost use Rattle.std.specs.Prelude.{◌≡◌, codes, if◌then◌else◌, IfOk, nat_le, None, option_map, Some};
+ghost use Rattle.std.specs.Prelude.{◌≡◌, codes, if◌then◌else◌, IfOk, nat_le, None, option_map, Some, string_bytes};
 ghost use Rattle.std.specs.Char.{is_ascii_digit};
 ghost use Rattle.std.specs.List.{list_all};
 ghost use Rattle.clap.specs.Matches.{found_of};
@@ -118,6 +118,35 @@ fn catalog_in(alloc: Global, matches: &ArgMatches<'_>) -> Result<Option<Job>, Al
     }))
 }
 
+/// What the words say under a parameter's name, as a text of its own.
+fn text_said(
+    alloc: Global,
+    matches: &ArgMatches<'_>,
+    name: &str,
+) -> Result<Option<String>, AllocError>
+    ensures { IfOk result (λ text. option_map string_bytes text
+        ≡ first_of name.now (rows_of (found_of matches.now))) }
+{
+    match said(matches, name) {
+        Some(word) => Ok(Some(word.to_string(alloc)?)),
+        None => Ok(None),
+    }
+}
+
+fn check_in(alloc: Global, matches: &ArgMatches<'_>) -> Result<Option<Job>, AllocError>
+    ensures { IfOk result (λ job. option_map job_view job
+        ≡ job_by (codes "check") (λ name. first_of name (rows_of (found_of matches.now)))) }
+{
+    let (Some(image), Some(volume)) = (said(matches, "image"), volume_in(matches)) else {
+        return Ok(None);
+    };
+    Ok(Some(Job::Check {
+        image: image.to_string(alloc)?,
+        volume,
+        reserve: text_said(alloc, matches, "reserve")?,
+    }))
+}
+
 /// The words of a conversion.
 #[derive(Clone, Copy)]
 struct Conversion<'a> {
@@ -166,6 +195,7 @@ fn command_job(
 {
     match command {
         "catalog" => catalog_in(alloc, matches),
+        "check" => check_in(alloc, matches),
         "convert" => convert_in(alloc, matches),
         _ => Ok(None),
     }

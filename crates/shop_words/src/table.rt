@@ -86,11 +86,22 @@ const DATA_DISK: Parameter = Parameter {
     help: "Tracks 1 and 2 hold files, as on a disk without DOS",
 };
 
+const RESERVE: Parameter = Parameter {
+    name: "reserve",
+    kind: Kind::Optional(Values::Any),
+    help: "Places that no file may stand at beside those of the system, as 3/14,4/0",
+};
+
 const FORMS: &[Form] = &[
     Form {
         name: "catalog",
         parameters: &[IMAGE, FILE_SYSTEM, ORDER, DATA_DISK],
         help: "List the files of a volume",
+    },
+    Form {
+        name: "check",
+        parameters: &[IMAGE, FILE_SYSTEM, ORDER, DATA_DISK, RESERVE],
+        help: "Tell whether a volume is sound, or what is wrong with it",
     },
     Form {
         name: "convert",

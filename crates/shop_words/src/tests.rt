@@ -185,6 +185,52 @@ fn an_image_may_be_in_each_order(rt: HostRuntime) -> Result<(), Fail> {
     Ok(())
 }
 
+/// The words are those of a check of the DOS volume in a.dsk, in ProDOS order, with this text of the places to reserve.
+fn checks(
+    rt: &impl Abort,
+    alloc: Global,
+    words: &[&str],
+    reserve: Option<String>,
+) -> Result<(), WordsFault> {
+    let job = Job::Check {
+        image: "a.dsk".to_string(alloc)?,
+        volume: VolumeOptions {
+            file_system: FileSystem::Dos,
+            order: ImageOrder::Prodos,
+            data_disk: false,
+        },
+        reserve,
+    };
+    asks(rt, alloc, words, job)
+}
+
+#[test]
+fn a_check_may_reserve_places(rt: HostRuntime) -> Result<(), Fail> {
+    let alloc = rt.alloc();
+    checks(
+        &rt,
+        alloc,
+        &["check", "a.dsk", "--fs", "dos", "--order", "prodos"],
+        None,
+    )?;
+    checks(
+        &rt,
+        alloc,
+        &[
+            "check",
+            "a.dsk",
+            "--reserve",
+            "3/14,4/0",
+            "--order",
+            "prodos",
+            "--fs",
+            "dos",
+        ],
+        Some("3/14,4/0".to_string(alloc)?),
+    )?;
+    Ok(())
+}
+
 #[test]
 fn a_conversion_has_a_volume_number(rt: HostRuntime) -> Result<(), Fail> {
     let alloc = rt.alloc();

@@ -1,4 +1,4 @@
-use Rattle.std.proofs.Common.{map, string_bytes}
+use Rattle.std.proofs.Common.{inl, inr, map, string_bytes, ⊎_elim}
 use Rattle.shop_words.specs.Job.{job_view}
 use Rattle.a2_shop.specs.Reply.{held}
 use Rattle.a2_shop.proofs.Answered.{command_answered, command_refused, memory_told}
@@ -19,3 +19,7 @@ returns-in-Ok-clause-answer g c =
     command_answered (map string_bytes c.args.words.now) (job_view c.in-Ok.job) (g.I.Read.remaining c.args.image.now) c.run_job.result
     (held (g.T.Write.contents c.args.text.now) (g.O.Write.contents c.args.out.now))
     (held (g.T.Write.contents c.run_job.new.text) (g.O.Write.contents c.run_job.new.out)) c.in-Ok.ensures.job c.run_job.ensures.answer
+
+pub returns-in-Ok-clause-out : goal.returns-in-Ok-clause-out
+returns-in-Ok-clause-out g c =
+    ⊎_elim inl (λ made. inr (job_view c.in-Ok.job, c.in-Ok.ensures.job, made.0, made.1)) c.run_job.ensures.out

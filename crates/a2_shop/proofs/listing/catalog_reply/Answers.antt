@@ -1,4 +1,4 @@
-use Rattle.std.proofs.Common.{◌≡◌, subst, sym, ap, refl, Global}
+use Rattle.std.proofs.Common.{subst, sym, ap, refl, Global}
 use Rattle.std.specs.Prelude.{Err}
 use Rattle.a2_device.specs.Device.{DeviceState}
 use Rattle.file_cmds.specs.Catalog.{IsCatalogOf}

@@ -1,0 +1,162 @@
+-- The parts of one file, and those of the volume that has this file alone.
+use Rattle.std.specs.Prelude.{◌≡◌, ◌<◌, ℕ, true, false, List, [], ◌∷◌, length, filter, Contains}
+use Rattle.std.proofs.Common.{refl, sym, ◌∙◌, ap, subst, arith, get_or, ⊎_elim}
+use Rattle.std.proofs.lemmas.List.{get_or-map, length-map}
+use Rattle.std.proofs.lemmas.List.Kept.{AllPairs-filter}
+use Rattle.a2_device.specs.Device.{unit_at}
+use Rattle.a2_device.specs.declared.part.Part.{Part}
+use Rattle.a2_device.specs.declared.part.PartKind.{PartKind}
+use Rattle.a2_device.specs.declared.part.PartKind.TheVariants.{List as AList, Master, Index, Body}
+use Rattle.a2_device.specs.declared.fault.Fault.{Fault}
+use Rattle.a2_device.specs.declared.fault.Fault.TheVariants.{Geometry, CatalogLink, DirLink, MapPointer, StorageType, OutOfRange, InSystem, Shared, MarkedFree}
+use Rattle.vol_format.specs.declared.link.Link.TheVariants.{Null, Wild, OtherType, To}
+use Rattle.vol_format.specs.Directory.{Directory, entries, root_of, is_system}
+use Rattle.vol_format.specs.Meaning.{Meaning}
+use Rattle.vol_format.specs.Reach.{Reach, at_root, at_child, Before, IsPartsOf}
+use Rattle.vol_format.specs.Accepted.{IsAccepted, PartFaultAt, FaultAt}
+use Rattle.vol_format.specs.Laws.{IsReadable, IsDirectory}
+use Rattle.vol_check.specs.Answer.{AreFaults}
+use Rattle.file_cmds.specs.Text.{OwnFault, other_type, wild_root, wild_pointer, shared, Stored, IsStored, AreUnitsOf}
+use Rattle.file_cmds.specs.Walked.{is_body, stored_at, stored_of}
+use Rattle.file_cmds.specs.OneFile.{file_alone, of_one_file}
+use Rattle.file_cmds.specs.FileAlone.{entries-alone, root-alone, root_of-same, root_of-link, outside_system}
+use Rattle.file_cmds.proofs.Members.{element, in_filter, out_of_filter, in_map, out_of_map}
+
+is_of_body : (kind : PartKind) → is_body kind ≡ true → kind ≡ Body
+is_of_body AList is = absurd (cc)
+is_of_body Master is = absurd (cc)
+is_of_body Index is = absurd (cc)
+is_of_body Body is = refl
+
+module _ (format : Meaning) (laws : IsReadable format) (directory : Directory) (of : IsDirectory format directory) (file : ℕ) (store : List (List ℕ)) where
+  abbrev pub alone : Directory
+  alone = file_alone directory file
+
+  abbrev pub one : Meaning
+  one = of_one_file format alone
+
+  null_not_to : (part : Part) → Null ≡ To part → ⊥
+  null_not_to part e = cc
+
+  pub into_one : (part : Part) → Reach format directory store part → part.file ≡ file → Reach one alone store part
+  into_one part (at_root entry within is) in_file =
+      let same : entry ≡ file = sym (of.root_file entry part is) ∙ in_file in
+      at_root entry (omega (arith, within, entries-alone directory file)) (sym (root-alone directory file entry same within) ∙ is)
+  into_one part (at_child {parent} pointer reached link) in_file =
+      at_child pointer (into_one parent reached (sym (laws.child_file (length store) parent part (unit_at store parent.place) pointer link) ∙ in_file)) link
+
+  pub out_of_one : (part : Part) → Reach one alone store part → Reach format directory store part × (part.file ≡ file)
+  out_of_one part (at_root entry within is) =
+      let to = root_of-link directory file entry (To part) (null_not_to part) is in
+      (at_root entry (omega (arith, within, entries-alone directory file)) (ap (root_of directory) to.0 ∙ to.1), of.root_file file part to.1)
+  out_of_one part (at_child {parent} pointer reached link) =
+      let up = out_of_one parent reached in
+      (at_child pointer up.0 link, laws.child_file (length store) parent part (unit_at store parent.place) pointer link ∙ up.1)
+
+  -- its parts stand in the volume
+  place_below : format.Takes (length store) → length store ≡ directory.places → (part : Part) → Reach one alone store part → part.place < directory.places
+  place_below takes size part (at_root entry within is) =
+      let to = root_of-link directory file entry (To part) (null_not_to part) is in
+      of.root_place file part to.1
+  place_below takes size part (at_child {parent} pointer reached link) =
+      omega (arith, size, laws.child_place (length store) parent part (unit_at store parent.place) pointer takes link)
+
+  -- what the checker finds wrong with the file alone is a fault of its own
+  module _ (takes : format.Takes (length store)) (size : length store ≡ directory.places) where
+    null_not_other : Null ≡ OtherType → ⊥
+    null_not_other e = cc
+
+    null_not_wild : Null ≡ Wild → ⊥
+    null_not_wild e = cc
+
+    part_fault : (fault : Fault) → PartFaultAt one alone store fault → OwnFault format directory store file
+    part_fault (Geometry place) at = absurd at
+    part_fault (CatalogLink place) at = absurd at
+    part_fault (DirLink place) at = absurd at
+    part_fault (MapPointer place) at = absurd at
+    part_fault (StorageType place) at = other_type (root_of-link directory file at.0 OtherType null_not_other at.3).1
+    part_fault (OutOfRange place) at =
+        ⊎_elim
+        (λ root. wild_root (root_of-link directory file root.0 Wild null_not_wild root.3).1)
+        (λ part. let found = out_of_one part.0 part.1 in wild_pointer part.0 part.3.0 found.0 found.1 part.3.1) at
+    part_fault (InSystem place) at =
+        absurd (true_not_false (sym at.3 ∙ ap (is_system alone) (sym at.2) ∙ outside_system directory file at.0.place (place_below takes size at.0 at.1)))
+      where
+        true_not_false : true ≡ false → ⊥
+        true_not_false e = cc
+    part_fault (Shared place) at =
+        let first = out_of_one at.0 at.2 in
+        let second = out_of_one at.1 at.3 in
+        shared at.0 at.1 first.0 second.0 first.1 second.1 (at.4 ∙ sym at.5) at.6
+    part_fault (MarkedFree place) at = absurd (true_not_false (sym at.3))
+      where
+        true_not_false : true ≡ false → ⊥
+        true_not_false e = cc
+
+    fault_found : (fault : Fault) → FaultAt one store fault → OwnFault format directory store file
+    fault_found fault at =
+        ⊎_elim (λ header. absurd header)
+        (λ part. part_fault fault (subst (λ (d : Directory). PartFaultAt one d store fault) part.1.0 part.2)) at
+
+    pub refused_for : (faults : List Fault) → AreFaults one store faults → OwnFault format directory store file
+    refused_for [] are = absurd (omega (arith, are.some))
+    refused_for (fault ∷ faults) are = fault_found fault (are.there fault (0, omega arith, refl))
+
+  -- a file that the checker accepts has none
+  pub faultless : file < entries directory → IsAccepted one alone store → OwnFault format directory store file → ⊥
+  faultless within accepted (other_type is) = accepted.no_other_type file (omega (arith, within, entries-alone directory file)) (root_of-same directory file within ∙ is)
+  faultless within accepted (wild_root is) = accepted.no_wild file (omega (arith, within, entries-alone directory file)) (root_of-same directory file within ∙ is)
+  faultless within accepted (wild_pointer part pointer reached in_file link) = (accepted.sound part (into_one part reached in_file)).no_wild pointer link
+  faultless within accepted (shared part other reached other_reached in_file other_in_file same differ) =
+      differ (accepted.once part other (into_one part reached in_file) (into_one other other_reached other_in_file) same)
+
+  -- its units
+  module _ (parts : List Part) (are : IsPartsOf one alone store parts) where
+    abbrev pub bodies : List Part
+    bodies = filter (λ (part : Part). is_body part.kind) parts
+
+    body_at : (part : Part) → Contains bodies part → Reach format directory store part × (part.file ≡ file) × (part.kind ≡ Body)
+    body_at part has =
+        let kept = out_of_filter (λ (p : Part). is_body p.kind) parts part has in
+        let found = out_of_one part ((are.members part).0 kept.0) in
+        (found.0, found.1, is_of_body part.kind kept.1)
+
+    some_part : Part
+    some_part = record { file = 0; kind = Body; number = 0; place = 0 }
+
+    same_stored : (stored : Stored) (is : IsStored format directory store file stored) → stored_at store is.part ≡ stored
+    same_stored stored is =
+        ap (λ n. record { number = n; unit = unit_at store is.part.place }) is.numbered
+        ∙ ap (λ (u : List ℕ). record { number = stored.number; unit = u }) is.stands
+
+    pub are_units : AreUnitsOf format directory store file (stored_of store parts)
+    are_units = record {
+      members = λ stored. (
+        λ has.
+            let from = out_of_map (stored_at store) bodies stored has in
+            let body = body_at from.0 from.1 in
+            record {
+              part = from.0;
+              reached = body.0;
+              in_file = body.1;
+              of_body = body.2;
+              numbered = ap (λ (s : Stored). s.number) from.2;
+              stands = ap (λ (s : Stored). s.unit) from.2;
+            },
+        λ is.
+            let kept = in_filter (λ (p : Part). is_body p.kind) parts is.part ((are.members is.part).1 (into_one is.part is.reached is.in_file)) (ap is_body is.of_body) in
+            subst (Contains (stored_of store parts)) (same_stored stored is) (in_map (stored_at store) bodies is.part kept),
+      );
+      rising = λ i j d less within.
+          let inside : j < length bodies = omega (arith, within, length-map bodies (stored_at store)) in
+          let part = get_or bodies i some_part in
+          let later = get_or bodies j some_part in
+          let at = body_at part (element bodies i some_part (omega arith)) in
+          let later_at = body_at later (element bodies j some_part inside) in
+          let before : Before one part later = AllPairs-filter (Before one) (λ (p : Part). is_body p.kind) parts are.ordered i j some_part less inside in
+          let less_number : part.number < later.number =
+          ⊎_elim (λ files. absurd (omega (arith, files, at.1, later_at.1))) (λ ranks. laws.body_order part later at.2 later_at.2 ranks.1) before in
+          let number = ap (λ (s : Stored). s.number) (get_or-map (stored_at store) bodies i some_part d (omega arith)) in
+          let later_number = ap (λ (s : Stored). s.number) (get_or-map (stored_at store) bodies j some_part d inside) in
+          omega (arith, number, later_number, less_number);
+    }

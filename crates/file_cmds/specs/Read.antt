@@ -1,0 +1,34 @@
+-- What a read of a file answers.
+use Rattle.std.specs.Prelude.{◌≡◌, ◌⊎◌, ℕ, Bool, List}
+use Rattle.vol_format.specs.Directory.{Directory, entry_of}
+use Rattle.vol_format.specs.Meaning.{Meaning}
+use Rattle.file_cmds.specs.Files.{FileMeaning, IsFirstNamed, NamesNone}
+use Rattle.file_cmds.specs.Listing.{HasHeaderFault}
+use Rattle.file_cmds.specs.Text.{OwnFault, Stored, AreUnitsOf, text_of}
+
+-- the first file that a path names has no fault of its own, and this is its text
+pub record IsTextAt (format : Meaning) (files : FileMeaning) (store : List (List ℕ)) (path : List ℕ) (whole : Bool) (text : List ℕ) : Type 0 where
+  pub directory : Directory
+  pub described : format.Describes store directory
+  pub file : ℕ
+  pub first : IsFirstNamed files directory path file
+  pub faultless : ¬ OwnFault format directory store file
+  pub units : List Stored
+  pub are_units : AreUnitsOf format directory store file units
+  pub is : text ≡ text_of files format.unit_size whole (entry_of directory file).bytes units
+
+-- the first file that a path names has a fault of its own
+pub record IsBroken (format : Meaning) (files : FileMeaning) (store : List (List ℕ)) (path : List ℕ) : Type 0 where
+  pub directory : Directory
+  pub described : format.Describes store directory
+  pub file : ℕ
+  pub first : IsFirstNamed files directory path file
+  pub fault : OwnFault format directory store file
+
+-- the directory can't be read, or the file can't
+abbrev pub IsUnreadable : Meaning → FileMeaning → List (List ℕ) → List ℕ → Type 0
+IsUnreadable format files store path = HasHeaderFault format store ⊎ IsBroken format files store path
+
+-- the directory can be read, and has no file that the path names
+abbrev pub HasNoFile : Meaning → FileMeaning → List (List ℕ) → List ℕ → Type 0
+HasNoFile format files store path = (directory : Directory) × format.Describes store directory × NamesNone files directory path
