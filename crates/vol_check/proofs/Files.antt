@@ -13,7 +13,8 @@ use Rattle.vol_check.specs.declared.walk.Pending.TheVariants.{Visit, Tell}
 use Rattle.vol_check.specs.Walk.{Lists, IsSound, noted, after_next, next_unit}
 use Rattle.vol_check.specs.Walking.{IsWalking, None}
 use Rattle.vol_check.proofs.Pushed.{in_none, at_end}
-use Rattle.vol_check.proofs.Steps.{rooted, visited, fault_told, started}
+use Rattle.vol_check.proofs.Steps.{fault_told}
+use Rattle.vol_check.proofs.Visits.{rooted, visited, started}
 use Rattle.vol_check.proofs.Room.{noted_sound}
 
 -- a walk that has seen nothing

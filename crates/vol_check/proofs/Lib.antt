@@ -1,5 +1,6 @@
 pub mod Pushed
 pub mod Steps
+pub mod Visits
 pub mod Room
 pub mod Files
 pub mod Index

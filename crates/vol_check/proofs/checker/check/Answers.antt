@@ -5,7 +5,7 @@ use Rattle.vol_format.specs.Accepted.{IsAccepted}
 use Rattle.vol_check.specs.Answer.{AreFaults}
 use Rattle.vol_check.specs.Told.{told_of, volume_of, IsToldOf}
 use Rattle.vol_check.specs.Walk.{lists}
-use Rattle.vol_check.proofs.Steps.{accepted, parts_of}
+use Rattle.vol_check.proofs.Visits.{accepted, parts_of}
 use Rattle.vol_check.proofs.Lost.{lost_are}
 use Rattle.vol_check.proofs.Verdict.{nothing, some_faults, walked}
 use Rattle.vol_check.proofs.checker.check.Goals as goal
