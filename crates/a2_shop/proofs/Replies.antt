@@ -1,6 +1,7 @@
 -- The reply to a catalog, by what the walk over the volume said.
-use Rattle.std.proofs.Common.{◌≡◌, ◌∙◌, ◌++◌, ℕ, ◌<◌, List, [], length, take, refl, sym, subst, ap, arith, ⊎_elim}
-use Rattle.std.specs.Prelude.{◌/◌, ◌%◌, Contains, IsTrue, true, Option, Some, None, IfSome, Err, option_map}
+use Rattle.std.proofs.Common.{◌≡◌, ◌≢◌, ◌∙◌, ◌++◌, ℕ, ◌<◌, List, [], length, take, refl, sym, subst, ap, arith, ⊎_elim}
+use Rattle.std.specs.Prelude.{◌/◌, ◌%◌, Contains, IsTrue, true, replicate, unwrap_or, Option, Some, None, IfSome, Err, option_map}
+use Rattle.std.proofs.lemmas.List.{length-map}
 use Rattle.std.proofs.lemmas.List.FromFn.{length-map-range_with_len}
 use Rattle.a2_image.specs.declared.order.Order.{Order}
 use Rattle.a2_image.specs.declared.error.ImageError.{ImageError}
@@ -9,7 +10,7 @@ use Rattle.a2_image.specs.Image.{HoldsSectors}
 use Rattle.a2_image.specs.Skew.{physical_of_dos}
 use Rattle.a2_image.proofs.Skews.{physical_of_dos_fits}
 use Rattle.a2_device.specs.DosPlaces.{dos_units, sector_at, sectors_by_place}
-use Rattle.a2_device.specs.Units.{unreadable_places}
+use Rattle.a2_device.specs.Units.{stored_units, unreadable_places}
 use Rattle.a2_device.proofs.Stored.{unreadable-none, unreadable-within}
 use Rattle.a2_device.proofs.Images.{unit_in-sectors_by_place}
 use Rattle.a2_device.specs.Device.{DeviceState, OnlyReads, UsesRead}
@@ -44,6 +45,10 @@ count : (sectors : List (Option (List ℕ))) → length (sectors_by_place sector
 unfolding sectors_by_place
 count sectors = length-map-range_with_len (sector_at sectors) 0 560
 
+pub places_of_disk : (sectors : List (Option (List ℕ))) (store : List (List ℕ)) → store ≡ dos_units sectors → length store ≡ 560
+unfolding stored_units
+places_of_disk sectors store same = ap length same ∙ length-map (sectors_by_place sectors) (λ unit. unwrap_or unit (replicate 256 0)) ∙ count sectors
+
 -- a place that can't be read is a sector that the disk lacks
 lacks_one : (sectors : List (Option (List ℕ))) (place : ℕ) → Contains (unreadable_places (sectors_by_place sectors)) place → LacksOne sectors
 lacks_one sectors place lacks =
@@ -68,13 +73,14 @@ device_lacks sectors old new unreadable honest never reads =
 pub catalog_refused : (T : Type 0) (order : Order) (image : List ℕ) (sectors : List (Option (List ℕ))) (old new : DeviceState) (error : CmdError)
     → IsDiskImage order image → HoldsSectors order image sectors
     → old.store ≡ dos_units sectors → old.unreadable ≡ unreadable_places (sectors_by_place sectors) → IsTrue old.honest → old.read_failures ≡ Some 0
-    → OnlyReads (told_device {T = T} (Err error)) old new → (error ≡ commands.Check → HasNoCatalog old.store)
+    → OnlyReads (told_device {T = T} (Err error)) old new → error ≢ commands.NotFound → (error ≡ commands.Check → HasNoCatalog old.store)
     → IsCatalogReply order image (reply_to_refusal error)
-catalog_refused T order image sectors old new commands.Check long holds same unreadable honest never reads none =
+catalog_refused T order image sectors old new commands.Check long holds same unreadable honest never reads found none =
     (long, sectors, holds, subst HasNoCatalog same (none refl))
-catalog_refused T order image sectors old new commands.Device long holds same unreadable honest never reads none =
+catalog_refused T order image sectors old new commands.NotFound long holds same unreadable honest never reads found none = absurd (found refl)
+catalog_refused T order image sectors old new commands.Device long holds same unreadable honest never reads found none =
     (long, sectors, holds, device_lacks sectors old new unreadable honest never reads)
-catalog_refused T order image sectors old new commands.Memory long holds same unreadable honest never reads none = tt
+catalog_refused T order image sectors old new commands.Memory long holds same unreadable honest never reads found none = tt
 
 -- an image that is not taken
 pub catalog_not_taken : (order : Order) (image : List ℕ) (error : ImageError) → RefusesDisk order image error → IsCatalogReply order image (reply_to_image error)

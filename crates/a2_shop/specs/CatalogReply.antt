@@ -29,6 +29,7 @@ IsCatalogReply order image (Made made) = ⊥
 IsCatalogReply order image (Refused refusals.Reserve) = ⊥
 IsCatalogReply order image (Refused refusals.Length) = ¬ IsDiskImage order image
 IsCatalogReply order image (Refused refusals.Check) = OfDisk order image (λ sectors. HasNoCatalog (dos_units sectors))
+IsCatalogReply order image (Refused refusals.NotFound) = ⊥
 IsCatalogReply order image (Refused refusals.NoSector) = ⊥
 IsCatalogReply order image (Failed failures.Input) = ⊥
 IsCatalogReply order image (Failed failures.Device) = OfDisk order image LacksOne

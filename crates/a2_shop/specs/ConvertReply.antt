@@ -37,6 +37,7 @@ IsConvertReply order to volume image (Made made) = OfDisk order image (λ sector
 IsConvertReply order to volume image (Refused refusals.Reserve) = ⊥
 IsConvertReply order to volume image (Refused refusals.Length) = ¬ IsDiskImage order image
 IsConvertReply order to volume image (Refused refusals.Check) = ⊥
+IsConvertReply order to volume image (Refused refusals.NotFound) = ⊥
 IsConvertReply order to volume image (Refused refusals.NoSector) = OfDisk order image LacksOne
 IsConvertReply order to volume image (Failed failures.Input) = ⊥
 IsConvertReply order to volume image (Failed failures.Device) = ⊥

@@ -19,6 +19,7 @@ abbrev pub refusal_line : Refusal → Text
 refusal_line refusals.Reserve = codes "REFUSED Reserve\n"
 refusal_line refusals.Length = codes "REFUSED Length\n"
 refusal_line refusals.Check = codes "REFUSED Check\n"
+refusal_line refusals.NotFound = codes "REFUSED NotFound\n"
 refusal_line refusals.NoSector = codes "REFUSED NoSector\n"
 
 abbrev pub failure_line : Failure → Text
@@ -70,6 +71,7 @@ HandsOut status old new = Appends old new (codes "OK\n") × ((status ≡ 0) ⊎ 
 -- the reply to a command's refusal
 abbrev pub reply_to_refusal : CmdError → Reply
 reply_to_refusal commands.Check = Refused refusals.Check
+reply_to_refusal commands.NotFound = Refused refusals.NotFound
 reply_to_refusal commands.Device = Failed failures.Device
 reply_to_refusal commands.Memory = Failed failures.Memory
 

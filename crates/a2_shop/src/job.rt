@@ -41,8 +41,8 @@ fn reply_to(alloc: Global, job: &Job, image: Vec<u8>) -> Reply
     }
 }
 
-/// Does a job on the image of a reader, tells it and hands the image that it makes to `out`: 0 done, 1 something is wrong, 3 refused, 4 where a
-/// reader, a writer or memory fails.
+/// Does a job on the image of a reader, tells it and hands the image that it makes to `out`: 0 done, 1 where something is found
+/// wrong, 3 refused, 4 where a reader, a writer or memory fails.
 pub fn run_job<I: Read, E: Read, T: Write, O: Write>(
     alloc: Global,
     job: &Job,

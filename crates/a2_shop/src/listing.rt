@@ -8,7 +8,9 @@ use crate::reply::{Failure, Refusal, Reply};
 use a2_device::ImageDevice;
 use a2_image::Order;
 use file_cmds::{CmdError, Listing, catalog, dos_listing_text};
+use reserved_places::Reserved;
 use std::alloc::Global;
+use vol_layout::Dos33;
 
 impl From<CmdError> for Reply {
     ghost from_gives = { λ error reply. reply ≡ reply_to_refusal error };
@@ -16,6 +18,7 @@ impl From<CmdError> for Reply {
     fn from(error: CmdError) -> Reply {
         match error {
             CmdError::Check => Reply::Refused(Refusal::Check),
+            CmdError::NotFound => Reply::Refused(Refusal::NotFound),
             CmdError::Device => Reply::Failed(Failure::Device),
             CmdError::Memory => Reply::Failed(Failure::Memory),
         }
@@ -40,8 +43,11 @@ pub fn catalog_reply(alloc: Global, image: Vec<u8>, order: Order) -> Reply
         Ok(image) => image,
         Err(error) => return Reply::from(error),
     };
+    let Ok(format) = Dos33::new(alloc, false, Reserved::none(alloc)) else {
+        return Reply::Failed(Failure::Memory);
+    };
     let mut device = ImageDevice::dos(image);
-    match catalog(alloc, &mut device) {
+    match catalog(alloc, &mut device, &format) {
         Ok(listing) => listing_reply(alloc, &listing),
         Err(error) => Reply::from(error),
     }

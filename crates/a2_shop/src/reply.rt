@@ -14,6 +14,8 @@ pub enum Refusal {
     Length,
     /// The volume has a fault.
     Check,
+    /// The volume has no file of that name.
+    NotFound,
     /// A track of the image lacks a sector.
     NoSector,
 }
@@ -49,6 +51,7 @@ impl Refusal {
             Refusal::Reserve => b"REFUSED Reserve\n",
             Refusal::Length => b"REFUSED Length\n",
             Refusal::Check => b"REFUSED Check\n",
+            Refusal::NotFound => b"REFUSED NotFound\n",
             Refusal::NoSector => b"REFUSED NoSector\n",
         }
     }

@@ -3,6 +3,7 @@ pub mod Files
 pub mod Listing
 pub mod Text
 pub mod Read
+pub mod Exclusive
 pub mod Walked
 pub mod Stop
 pub mod OneFile

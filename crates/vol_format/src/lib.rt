@@ -5,7 +5,8 @@
 //! header, the directory and the map of a volume say is another, `Directory` (`specs/Directory.antt`), made of lists and
 //! numbers. Over these two stands, once for all formats, what is true of a store: the parts of its files (`specs/Reach.antt`),
 //! when it is accepted and which faults it has (`specs/Accepted.antt`), where its parts stand and what is lost
-//! (`specs/Standing.antt`). `specs/Laws.antt` has what a format must meet.
+//! (`specs/Standing.antt`), and where the pointer to a part stands (`specs/Holding.antt`). `specs/Laws.antt` has what a format must
+//! meet: `Format` is what reading asks for, `WritableFormat` what moving parts asks for besides.
 #![tactic(auto)]
 
 mod format;

@@ -8,7 +8,8 @@ use Rattle.vol_format.specs.Standing.{no_part}
 abbrev pub part_of : List Part → ℕ → Part
 part_of parts k = slice_index_or parts k no_part
 
--- the parts of a file stand together, each list before the units that its pairs name: a list of the file of part k before it, and no list between the two
+-- A list before part k, of the same file, with no list between the two. In the order of a file's parts a list comes before the units that
+-- its pairs name, and these before the list that its link names: so this is the list that names part k.
 pub record IsListBefore (parts : List Part) (k list : ℕ) : Type 0 where
   pub before : list < k
   pub kind : (part_of parts list).kind ≡ AList
