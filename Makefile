@@ -1,5 +1,5 @@
 # make            builds the proved program to ./a2shop
-# make demo       builds it, lists and checks a sample image, and lists it again from disk bytes
+# make demo       builds it, lists and checks a sample image, reads its file, and lists it again from disk bytes
 # make test       runs the gate (every proof from nothing, the must-fail edits, all tests) and the end-to-end tests
 # make install    copies the program to $(PREFIX)/bin
 # make bench      measures the program beside plain programs of the same work; no part of the tests
@@ -19,6 +19,7 @@ a2shop: FORCE
 demo: a2shop
 	./a2shop catalog samples/hello.dsk --fs dos --order dos
 	./a2shop check samples/hello.dsk --fs dos --order dos
+	./a2shop read samples/hello.dsk HELLO --fs dos --order dos | od -A n -t x1
 	./a2shop convert samples/hello.dsk --order dos --to nibble --out demo.nib
 	./a2shop catalog demo.nib --fs dos --order nibble
 	rm -f demo.nib

@@ -20,7 +20,7 @@ use Rattle.vol_check.specs.declared.error.CheckError.TheVariants as checks
 use Rattle.file_cmds.specs.DosText.{Text}
 use Rattle.a2_shop.specs.declared.reply.Failure.TheVariants as failures
 use Rattle.a2_shop.specs.declared.reply.Reply.{Reply}
-use Rattle.a2_shop.specs.declared.reply.Reply.TheVariants.{Done, Faulty, Made, Refused, Failed}
+use Rattle.a2_shop.specs.declared.reply.Reply.TheVariants.{Done, Faulty, Bytes, Made, Refused, Failed}
 use Rattle.a2_shop.specs.CheckReply.{IsAcceptedText, IsCheckReply, IsVolumeReply, NamesPlaces, ReservesNamed, TellsAccepted, TellsFaults, TellsRefusal}
 use Rattle.a2_shop.specs.CheckText.{told_line}
 use Rattle.a2_shop.specs.Disk.{IsDiskImage, RefusesDisk}
@@ -33,6 +33,7 @@ pub volume_accepted : (format : Meaning) (sectors : List (Option (List ℕ))) (s
 volume_accepted format sectors store told (Done text) same accepted tells =
     subst (λ s. IsAcceptedText format s (string_bytes text)) same (accepted (string_bytes text) tells)
 volume_accepted format sectors store told (Faulty text) same accepted tells = absurd tells
+volume_accepted format sectors store told (Bytes content) same accepted tells = absurd tells
 volume_accepted format sectors store told (Made made) same accepted tells = absurd tells
 volume_accepted format sectors store told (Refused refusal) same accepted tells = absurd tells
 volume_accepted format sectors store told (Failed failures.Input) same accepted tells = cc
@@ -44,6 +45,7 @@ faults_told : (format : Meaning) (sectors : List (Option (List ℕ))) (faults : 
     → TellsFaults faults reply → IsVolumeReply format sectors reply
 faults_told format sectors faults (Done text) are tells = absurd tells
 faults_told format sectors faults (Faulty text) are tells = record { faults = faults; are = are; is = tells }
+faults_told format sectors faults (Bytes content) are tells = absurd tells
 faults_told format sectors faults (Made made) are tells = absurd tells
 faults_told format sectors faults (Refused refusal) are tells = absurd tells
 faults_told format sectors faults (Failed failures.Input) are tells = cc
@@ -91,6 +93,7 @@ pub check_told : (order : Order) (data_disk : Bool) (reserve : Option Text) (res
     → IsCheckReply order data_disk reserve image reply
 check_told order data_disk reserve reserved image sectors (Done text) named long holds is = (reserved, named, (long, sectors, holds, is))
 check_told order data_disk reserve reserved image sectors (Faulty text) named long holds is = (reserved, named, (long, sectors, holds, is))
+check_told order data_disk reserve reserved image sectors (Bytes content) named long holds is = absurd is
 check_told order data_disk reserve reserved image sectors (Made made) named long holds is = absurd is
 check_told order data_disk reserve reserved image sectors (Refused refusal) named long holds is = absurd is
 check_told order data_disk reserve reserved image sectors (Failed failures.Input) named long holds is = absurd is

@@ -1,5 +1,6 @@
 pub mod Disks
 pub mod Replies
 pub mod Checks
+pub mod Readings
 pub mod Converted
 pub mod Answered

@@ -23,7 +23,7 @@ use Rattle.file_cmds.specs.declared.error.CmdError.TheVariants as commands
 use Rattle.file_cmds.proofs.Shown.{IsListingText-listing_text}
 use Rattle.a2_shop.specs.declared.reply.Failure.TheVariants as failures
 use Rattle.a2_shop.specs.declared.reply.Reply.{Reply}
-use Rattle.a2_shop.specs.declared.reply.Reply.TheVariants.{Done, Faulty, Made, Refused, Failed}
+use Rattle.a2_shop.specs.declared.reply.Reply.TheVariants.{Done, Faulty, Bytes, Made, Refused, Failed}
 use Rattle.a2_shop.specs.CatalogReply.{IsCatalogReply, IsListingReply}
 use Rattle.a2_shop.specs.Disk.{IsDiskImage, LacksOne, RefusesDisk}
 use Rattle.a2_shop.specs.Reply.{reply_to_image, reply_to_refusal}
@@ -35,6 +35,7 @@ pub catalog_listed : {A : Type 0} (order : Order) (image : List ℕ) (sectors : 
 catalog_listed order image sectors listing (Done text) long holds is told =
     (long, sectors, holds, subst (IsListingText (dos_units sectors)) (sym told) (IsListingText-listing_text (dos_units sectors) listing is))
 catalog_listed order image sectors listing (Faulty text) long holds is told = absurd told
+catalog_listed order image sectors listing (Bytes content) long holds is told = absurd told
 catalog_listed order image sectors listing (Made made) long holds is told = absurd told
 catalog_listed order image sectors listing (Refused refusal) long holds is told = absurd told
 catalog_listed order image sectors listing (Failed failures.Input) long holds is told = cc

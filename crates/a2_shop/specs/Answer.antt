@@ -3,7 +3,7 @@ use Rattle.std.specs.Prelude.{◌≡◌, ◌⊎◌, ℕ, List, Option, Some, Non
 use Rattle.std.specs.Io.KnownBytes.{Appends}
 use Rattle.a2_image.specs.declared.order.Order.{Order}
 use Rattle.file_cmds.specs.DosText.{Text}
-use Rattle.shop_words.specs.Job.{JobView, catalog, check, convert, asked_job}
+use Rattle.shop_words.specs.Job.{JobView, catalog, check, read, convert, asked_job}
 use Rattle.shop_words.specs.declared.fault.WordsFault.{WordsFault}
 use Rattle.shop_words.specs.declared.fault.WordsFault.TheVariants as words
 use Rattle.a2_shop.specs.declared.reply.Reply.{Reply}
@@ -11,29 +11,34 @@ use Rattle.a2_shop.specs.Disk.{disk_bytes, order_of}
 use Rattle.a2_shop.specs.Reply.{HandsOut, Held, IsDelivered}
 use Rattle.a2_shop.specs.CatalogReply.{IsCatalogReply}
 use Rattle.a2_shop.specs.CheckReply.{IsCheckReply}
+use Rattle.a2_shop.specs.ReadReply.{IsReadReply}
 use Rattle.a2_shop.specs.ConvertReply.{IsConvertReply}
 
 -- the path and the order of the image that a job names
 abbrev pub image_of : JobView → Text
 image_of (catalog path volume) = path
 image_of (check path volume reserve) = path
+image_of (read path name volume whole) = path
 image_of (convert words) = words.image
 
 -- the path of the file that a job writes
 abbrev pub out_of : JobView → Option Text
 out_of (catalog path volume) = None
 out_of (check path volume reserve) = None
+out_of (read path name volume whole) = None
 out_of (convert words) = Some words.out
 
 abbrev pub image_order_of : JobView → Order
 image_order_of (catalog path volume) = order_of volume.order
 image_order_of (check path volume reserve) = order_of volume.order
+image_order_of (read path name volume whole) = order_of volume.order
 image_order_of (convert words) = order_of words.order
 
 -- the room for the image that a job makes
 abbrev pub made_bytes_of : JobView → ℕ
 made_bytes_of (catalog path volume) = 0
 made_bytes_of (check path volume reserve) = 0
+made_bytes_of (read path name volume whole) = 0
 made_bytes_of (convert words) = disk_bytes (order_of words.to)
 
 abbrev pub IsStatus : ℕ → Type 0
@@ -43,12 +48,14 @@ IsStatus status = (status ≡ 0) ⊎ (status ≡ 1) ⊎ (status ≡ 3) ⊎ (stat
 abbrev pub IsReplyTo : JobView → List ℕ → Reply → Type 0
 IsReplyTo (catalog path volume) image reply = IsCatalogReply (order_of volume.order) image reply
 IsReplyTo (check path volume reserve) image reply = IsCheckReply (order_of volume.order) volume.data_disk reserve image reply
+IsReplyTo (read path name volume whole) image reply = IsReadReply (order_of volume.order) name whole image reply
 IsReplyTo (convert words) image reply = IsConvertReply (order_of words.order) (order_of words.to) words.volume image reply
 
 -- the job makes an image, for the output file
 abbrev pub MakesImage : JobView → Type 0
 MakesImage (catalog path volume) = ⊥
 MakesImage (check path volume reserve) = ⊥
+MakesImage (read path name volume whole) = ⊥
 MakesImage (convert words) = Unit {0}
 
 -- a job was answered: by the status of its reply, with its text and its image behind what the writers had; or something failed

@@ -8,13 +8,14 @@ use Rattle.file_cmds.specs.declared.listing.Listing.{Listing}
 use Rattle.a2_shop.specs.declared.reply.Refusal.TheVariants as refusals
 use Rattle.a2_shop.specs.declared.reply.Failure.TheVariants as failures
 use Rattle.a2_shop.specs.declared.reply.Reply.{Reply}
-use Rattle.a2_shop.specs.declared.reply.Reply.TheVariants.{Done, Faulty, Made, Refused, Failed}
+use Rattle.a2_shop.specs.declared.reply.Reply.TheVariants.{Done, Faulty, Bytes, Made, Refused, Failed}
 use Rattle.a2_shop.specs.Disk.{IsDiskImage, LacksOne, OfDisk}
 
 -- the reply with a listing's text, or for want of memory
 abbrev pub IsListingReply : {A : Type 0} → Listing A → Reply → Type 0
 IsListingReply listing (Done text) = string_bytes text ≡ listing_text listing
 IsListingReply listing (Faulty text) = ⊥
+IsListingReply listing (Bytes content) = ⊥
 IsListingReply listing (Made image) = ⊥
 IsListingReply listing (Refused refusal) = ⊥
 IsListingReply listing (Failed failure) = failure ≡ failures.Memory
@@ -25,6 +26,7 @@ IsListingReply listing (Failed failure) = failure ≡ failures.Memory
 abbrev pub IsCatalogReply : Order → List ℕ → Reply → Type 0
 IsCatalogReply order image (Done text) = OfDisk order image (λ sectors. IsListingText (dos_units sectors) (string_bytes text))
 IsCatalogReply order image (Faulty text) = ⊥
+IsCatalogReply order image (Bytes content) = ⊥
 IsCatalogReply order image (Made made) = ⊥
 IsCatalogReply order image (Refused refusals.Reserve) = ⊥
 IsCatalogReply order image (Refused refusals.Length) = ¬ IsDiskImage order image

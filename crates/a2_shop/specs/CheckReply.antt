@@ -20,7 +20,7 @@ use Rattle.a2_shop.specs.CheckText.{fault_line, told_line}
 use Rattle.a2_shop.specs.declared.reply.Refusal.TheVariants as refusals
 use Rattle.a2_shop.specs.declared.reply.Failure.TheVariants as failures
 use Rattle.a2_shop.specs.declared.reply.Reply.{Reply}
-use Rattle.a2_shop.specs.declared.reply.Reply.TheVariants.{Done, Faulty, Made, Refused, Failed}
+use Rattle.a2_shop.specs.declared.reply.Reply.TheVariants.{Done, Faulty, Bytes, Made, Refused, Failed}
 use Rattle.a2_shop.specs.Disk.{IsDiskImage, LacksOne, OfDisk}
 
 -- the words name places to reserve, or do not speak of them
@@ -53,6 +53,7 @@ pub record IsFaultsText (format : Meaning) (store : List (List ℕ)) (text : Tex
 abbrev pub TellsAccepted : Told → Reply → Type 0
 TellsAccepted told (Done text) = string_bytes text ≡ told_line told
 TellsAccepted told (Faulty text) = ⊥
+TellsAccepted told (Bytes content) = ⊥
 TellsAccepted told (Made made) = ⊥
 TellsAccepted told (Refused refusal) = ⊥
 TellsAccepted told (Failed failure) = failure ≡ failures.Memory
@@ -61,6 +62,7 @@ TellsAccepted told (Failed failure) = failure ≡ failures.Memory
 abbrev pub TellsFaults : List Fault → Reply → Type 0
 TellsFaults faults (Done text) = ⊥
 TellsFaults faults (Faulty text) = string_bytes text ≡ flat_map fault_line faults
+TellsFaults faults (Bytes content) = ⊥
 TellsFaults faults (Made made) = ⊥
 TellsFaults faults (Refused refusal) = ⊥
 TellsFaults faults (Failed failure) = failure ≡ failures.Memory
@@ -75,6 +77,7 @@ TellsRefusal checks.Memory reply = reply ≡ Failed failures.Memory
 abbrev pub IsVolumeReply : Meaning → List (Option (List ℕ)) → Reply → Type 0
 IsVolumeReply format sectors (Done text) = IsAcceptedText format (dos_units sectors) (string_bytes text)
 IsVolumeReply format sectors (Faulty text) = IsFaultsText format (dos_units sectors) (string_bytes text)
+IsVolumeReply format sectors (Bytes content) = ⊥
 IsVolumeReply format sectors (Made made) = ⊥
 IsVolumeReply format sectors (Refused refusal) = ⊥
 IsVolumeReply format sectors (Failed failures.Input) = ⊥

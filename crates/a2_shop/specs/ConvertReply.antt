@@ -10,7 +10,7 @@ use Rattle.a2_image.specs.Tracks.{track_of}
 use Rattle.a2_shop.specs.declared.reply.Refusal.TheVariants as refusals
 use Rattle.a2_shop.specs.declared.reply.Failure.TheVariants as failures
 use Rattle.a2_shop.specs.declared.reply.Reply.{Reply}
-use Rattle.a2_shop.specs.declared.reply.Reply.TheVariants.{Done, Faulty, Made, Refused, Failed}
+use Rattle.a2_shop.specs.declared.reply.Reply.TheVariants.{Done, Faulty, Bytes, Made, Refused, Failed}
 use Rattle.a2_shop.specs.Disk.{HasEvery, IsDiskImage, LacksOne, OfDisk}
 
 -- These bytes are an image in the wanted order with the same sectors, none of which is missing. In nibble order each track
@@ -33,6 +33,7 @@ RefusesConversion order image images.NoSector = OfDisk order image LacksOne
 abbrev pub IsConvertReply : Order → Order → ℕ → List ℕ → Reply → Type 0
 IsConvertReply order to volume image (Done text) = ⊥
 IsConvertReply order to volume image (Faulty text) = ⊥
+IsConvertReply order to volume image (Bytes content) = ⊥
 IsConvertReply order to volume image (Made made) = OfDisk order image (λ sectors. IsConverted sectors to volume made.items)
 IsConvertReply order to volume image (Refused refusals.Reserve) = ⊥
 IsConvertReply order to volume image (Refused refusals.Length) = ¬ IsDiskImage order image

@@ -13,7 +13,7 @@ use Rattle.a2_shop.specs.declared.reply.Refusal.TheVariants as refusals
 use Rattle.a2_shop.specs.declared.reply.Failure.{Failure}
 use Rattle.a2_shop.specs.declared.reply.Failure.TheVariants as failures
 use Rattle.a2_shop.specs.declared.reply.Reply.{Reply}
-use Rattle.a2_shop.specs.declared.reply.Reply.TheVariants.{Done, Faulty, Made, Refused, Failed}
+use Rattle.a2_shop.specs.declared.reply.Reply.TheVariants.{Done, Faulty, Bytes, Made, Refused, Failed}
 
 abbrev pub refusal_line : Refusal → Text
 refusal_line refusals.Reserve = codes "REFUSED Reserve\n"
@@ -31,13 +31,16 @@ failure_line failures.Memory = codes "FAILED Memory\n"
 abbrev pub status_of : Reply → ℕ
 status_of (Done text) = 0
 status_of (Faulty text) = 1
+status_of (Bytes content) = 0
 status_of (Made image) = 0
 status_of (Refused refusal) = 3
 status_of (Failed failure) = 4
 
+-- what is written of a reply
 abbrev pub text_of : Reply → Text
 text_of (Done text) = string_bytes text
 text_of (Faulty text) = string_bytes text
+text_of (Bytes content) = content.items
 text_of (Made image) = codes "OK\n"
 text_of (Refused refusal) = refusal_line refusal
 text_of (Failed failure) = failure_line failure

@@ -9,6 +9,7 @@ use crate::convert::convert_reply;
 use crate::disk::order_of;
 use crate::input::read_image;
 use crate::listing::catalog_reply;
+use crate::reading::read_reply;
 use crate::reply::Reply;
 use a2_image::Order;
 use shop_words::Job;
@@ -20,7 +21,9 @@ fn image_order(job: &Job) -> Order
     ensures { result ≡ image_order_of (job_view job.now) }
 {
     match job {
-        Job::Catalog { volume, .. } | Job::Check { volume, .. } => order_of(volume.order),
+        Job::Catalog { volume, .. } | Job::Check { volume, .. } | Job::Read { volume, .. } => {
+            order_of(volume.order)
+        }
         Job::Convert { order, .. } => order_of(*order),
     }
 }
@@ -37,6 +40,7 @@ fn reply_to(alloc: Global, job: &Job, image: Vec<u8>) -> Reply
             reserve,
             ..
         } => check_reply(alloc, image, order, volume.data_disk, reserve.as_deref()),
+        Job::Read { name, whole, .. } => read_reply(alloc, image, order, name.as_str(), *whole),
         Job::Convert { to, volume, .. } => convert_reply(image, order, order_of(*to), *volume),
     }
 }

@@ -13,6 +13,7 @@ mod disk;
 mod input;
 mod job;
 mod listing;
+mod reading;
 mod reply;
 mod start;
 #[cfg(test)]

@@ -37,6 +37,8 @@ pub enum Reply {
     Done(String),
     /// The text of what a job found wrong.
     Faulty(String),
+    /// The bytes that a job has read, which are told as they are.
+    Bytes(Vec<u8>),
     /// The image that a job has made, for the output file.
     Made(Vec<u8>),
     Refused(Refusal),
@@ -77,7 +79,7 @@ impl Reply {
         ensures { result ≡ status_of self.now }
     {
         match self {
-            Reply::Done(_) | Reply::Made(_) => 0,
+            Reply::Done(_) | Reply::Bytes(_) | Reply::Made(_) => 0,
             Reply::Faulty(_) => 1,
             Reply::Refused(_) => 3,
             Reply::Failed(_) => FAILED,
@@ -89,6 +91,7 @@ impl Reply {
     {
         match self {
             Reply::Done(text) | Reply::Faulty(text) => text.as_bytes(),
+            Reply::Bytes(content) => content.as_slice(),
             Reply::Made(_) => b"OK\n",
             Reply::Refused(refusal) => refusal.line(),
             Reply::Failed(failure) => failure.line(),

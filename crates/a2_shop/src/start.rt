@@ -25,9 +25,10 @@ fn image_path(job: &Job) -> &str
     ensures { result.now ≡ image_of (job_view job.now) }
 {
     match job {
-        Job::Catalog { image, .. } | Job::Check { image, .. } | Job::Convert { image, .. } => {
-            image.as_str()
-        }
+        Job::Catalog { image, .. }
+        | Job::Check { image, .. }
+        | Job::Read { image, .. }
+        | Job::Convert { image, .. } => image.as_str(),
     }
 }
 
@@ -36,7 +37,7 @@ fn out_path(job: &Job) -> Option<&str>
     ensures { option_map (λ s. s.now) result ≡ out_of (job_view job.now) }
 {
     match job {
-        Job::Catalog { .. } | Job::Check { .. } => None,
+        Job::Catalog { .. } | Job::Check { .. } | Job::Read { .. } => None,
         Job::Convert { out, .. } => Some(out.as_str()),
     }
 }
@@ -46,7 +47,7 @@ fn made_bytes(job: &Job) -> usize
     ensures { result ≡ made_bytes_of (job_view job.now) }
 {
     match job {
-        Job::Catalog { .. } | Job::Check { .. } => 0,
+        Job::Catalog { .. } | Job::Check { .. } | Job::Read { .. } => 0,
         Job::Convert { to, .. } => disk_bytes(order_of(*to)),
     }
 }

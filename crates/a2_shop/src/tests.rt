@@ -5,6 +5,9 @@ use std::process::Abort;
 use std::test::Fail;
 use test_volumes::{VTOC, hello, put};
 
+mod reads;
+mod writers;
+
 const LISTING: &str = "DISK VOLUME 254\n*B 002 HELLO\nFREE 494\n";
 
 const ACCEPTED: &str = "ACCEPTED files 1 parts 2 available 496 lost 0\n";
@@ -27,9 +30,14 @@ struct Answer {
 }
 
 impl Answer {
+    // Whether this is the status and the bytes that are told, with nothing for the output file.
+    fn has(&self, status: u8, told: &[u8]) -> bool {
+        self.status == status && self.text.as_slice() == told && self.out.is_empty()
+    }
+
     // Whether this is the status and the text, with nothing for the output file.
     fn is(&self, status: u8, text: &str) -> bool {
-        self.status == status && self.text.as_slice() == text.as_bytes() && self.out.is_empty()
+        self.has(status, text.as_bytes())
     }
 }
 
@@ -341,58 +349,5 @@ fn a_reader_that_fails(rt: HostRuntime) -> Result<(), Fail> {
     assert!(rt; answer_to(rt.alloc(), "", &mut front)?.is(4, "FAILED Input\n"));
     // All of an image was read, but not its end.
     assert!(rt; answer_to(rt.alloc(), "", &mut broken)?.is(4, "FAILED Input\n"));
-    Ok(())
-}
-
-#[test]
-fn a_writer_that_fails(rt: HostRuntime) -> Result<(), Fail> {
-    let image = hello(rt.alloc())?;
-    let mut out = Vec::new(rt.alloc());
-    let status = run_command(
-        rt.alloc(),
-        &[],
-        &mut image.as_slice(),
-        &mut io::empty(),
-        &mut Broken,
-        &mut out,
-    );
-    assert_eq!(rt; status, 4);
-    assert!(rt; out.is_empty());
-    Ok(())
-}
-
-#[test]
-fn an_output_file_that_fails(rt: HostRuntime) -> Result<(), Fail> {
-    let image = hello(rt.alloc())?;
-    let words = words_of(rt.alloc(), "convert a --order dos --to prodos --out b")?;
-    let mut text = Vec::new(rt.alloc());
-    let status = run_command(
-        rt.alloc(),
-        words.as_slice(),
-        &mut image.as_slice(),
-        &mut io::empty(),
-        &mut text,
-        &mut Broken,
-    );
-    assert_eq!(rt; status, 4);
-    assert!(rt; text.as_slice() == b"OK\n".as_slice());
-    Ok(())
-}
-
-#[test]
-fn a_conversion_that_can_not_be_told(rt: HostRuntime) -> Result<(), Fail> {
-    let image = hello(rt.alloc())?;
-    let words = words_of(rt.alloc(), "convert a --order dos --to prodos --out b")?;
-    let mut out = Vec::new(rt.alloc());
-    let status = run_command(
-        rt.alloc(),
-        words.as_slice(),
-        &mut image.as_slice(),
-        &mut io::empty(),
-        &mut Broken,
-        &mut out,
-    );
-    assert_eq!(rt; status, 4);
-    assert!(rt; out.is_empty());
     Ok(())
 }

@@ -12,6 +12,7 @@ pub mod PlainUsed
 pub mod PlainJobs
 pub mod CatalogLine
 pub mod CheckLine
+pub mod ReadLine
 pub mod ConvertLine
 pub mod PlainTable
 pub mod AskedLemmas

@@ -3,7 +3,7 @@ use Rattle.std.proofs.Common.{◌≡◌, ◌∙◌, ap, true, List, [], ◌∷�
 use Rattle.std.proofs.lemmas.List.Elements.{All-contains, All-cons}
 use Rattle.clap.specs.Simple.{is_simple, subcommand_of}
 use Rattle.clap.specs.Takes.{takes}
-use Rattle.shop_words.specs.Table.{Text, FormView, catalog_form, check_form, convert_form, forms}
+use Rattle.shop_words.specs.Table.{Text, FormView, catalog_form, check_form, read_form, convert_form, forms}
 use Rattle.shop_words.specs.Grammar.{shop}
 use Rattle.shop_words.specs.Plain.{Use, IsPlainLine, line_words}
 use Rattle.shop_words.specs.Job.{found_job, line_job}
@@ -12,6 +12,7 @@ use Rattle.shop_words.proofs.PlainTaken.{is_simple-whole, subcommand_of-line, ta
 use Rattle.shop_words.proofs.PlainJobs.{HasPlainDefaults, job_by-rows}
 use Rattle.shop_words.proofs.CatalogLine.{catalog_defaults, catalog_known, is_some-line_job-catalog}
 use Rattle.shop_words.proofs.CheckLine.{check_defaults, check_known, is_some-line_job-check}
+use Rattle.shop_words.proofs.ReadLine.{read_defaults, read_known, is_some-line_job-read}
 use Rattle.shop_words.proofs.ConvertLine.{convert_defaults, convert_known, is_some-line_job-convert}
 
 record IsServed (f : FormView) : Type 0 where
@@ -25,14 +26,18 @@ serves_catalog = record { known = catalog_known; defaults = catalog_defaults; jo
 serves_check : IsServed check_form
 serves_check = record { known = check_known; defaults = check_defaults; job = is_some-line_job-check }
 
+serves_read : IsServed read_form
+serves_read = record { known = read_known; defaults = read_defaults; job = is_some-line_job-read }
+
 serves_convert : IsServed convert_form
 serves_convert = record { known = convert_known; defaults = convert_defaults; job = is_some-line_job-convert }
 
 all_served : All IsServed forms
 all_served =
-    All-cons IsServed catalog_form (check_form ∷ convert_form ∷ []) serves_catalog
-    (All-cons IsServed check_form (convert_form ∷ []) serves_check
-    (All-cons IsServed convert_form [] serves_convert (λ k d lt. absurd (omega arith))))
+    All-cons IsServed catalog_form (check_form ∷ read_form ∷ convert_form ∷ []) serves_catalog
+    (All-cons IsServed check_form (read_form ∷ convert_form ∷ []) serves_check
+    (All-cons IsServed read_form (convert_form ∷ []) serves_read
+    (All-cons IsServed convert_form [] serves_convert (λ k d lt. absurd (omega arith)))))
 
 served : (f : FormView) → Contains forms f → IsServed f
 served f at = All-contains IsServed forms f all_served at

@@ -32,11 +32,13 @@ conversion_view c = record { image = c.image.now; order = c.order; to = c.to; ou
 pub data JobView : Type 0 where
   catalog : Text → VolumeOptions → JobView
   check : Text → VolumeOptions → Option Text → JobView
+  read : Text → Text → VolumeOptions → Bool → JobView
   convert : ConversionView → JobView
 
 abbrev pub job_view : Job → JobView
 job_view (jobs.Catalog image volume) = catalog (string_bytes image) volume
 job_view (jobs.Check image volume reserve) = check (string_bytes image) volume (option_map string_bytes reserve)
+job_view (jobs.Read image name volume whole) = read (string_bytes image) (string_bytes name) volume whole
 job_view (jobs.Convert image order to out volume) = convert (record {
   image = string_bytes image;
   order = order;
@@ -82,6 +84,11 @@ catalog_by said = option_and_then (λ image. option_map (catalog image) (volume_
 abbrev pub check_by : Said → Option JobView
 check_by said = option_and_then (λ image. option_map (λ volume. check image volume (said (codes "reserve"))) (volume_by said)) (said (codes "image"))
 
+-- the whole of a file is read where a flag says so
+abbrev pub read_by : Said → Option JobView
+read_by said = option_and_then (λ image. option_and_then (λ name. option_map (λ volume. read image name volume (is_on (said (codes "whole")))) (volume_by said))
+    (said (codes "name"))) (said (codes "image"))
+
 -- the volume number that is said, 254 where none is
 abbrev pub volume_number : Option Text → Option ℕ
 volume_number None = Some 254
@@ -102,6 +109,7 @@ abbrev pub job_by : Text → Said → Option JobView
 job_by command said =
     if bytes_eq command (codes "catalog") then catalog_by said else
     if bytes_eq command (codes "check") then check_by said else
+    if bytes_eq command (codes "read") then read_by said else
     if bytes_eq command (codes "convert") then option_map convert (conversion_by said) else None
 
 -- the job of the command that clap finds, by the rows that it finds

@@ -83,6 +83,19 @@ check_form = record {
   parameters = image ∷ file_system ∷ order ∷ data_disk ∷ reserve ∷ [];
 }
 
+-- `name` and `--whole`
+abbrev pub name_of_file : ParameterView
+name_of_file = parameter (codes "name") positional
+
+abbrev pub whole : ParameterView
+whole = parameter (codes "whole") flag
+
+abbrev pub read_form : FormView
+read_form = record {
+  name = codes "read";
+  parameters = image ∷ name_of_file ∷ file_system ∷ order ∷ whole ∷ data_disk ∷ [];
+}
+
 -- `--to ORDER`, `--out FILE` and `--volume V`
 abbrev pub to : ParameterView
 to = parameter (codes "to") (needed (one_of order_words))
@@ -101,4 +114,4 @@ convert_form = record {
 
 -- the forms of all commands
 abbrev pub forms : List FormView
-forms = catalog_form ∷ check_form ∷ convert_form ∷ []
+forms = catalog_form ∷ check_form ∷ read_form ∷ convert_form ∷ []

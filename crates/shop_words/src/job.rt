@@ -44,6 +44,16 @@ pub enum Job {
         /// The places that are kept for the system beside its own, as the words name them.
         reserve: Option<String>,
     },
+    /// Reads a file of a volume.
+    Read {
+        /// The path of the image's file; `-` is standard input.
+        image: String,
+        /// The name of the file in the volume.
+        name: String,
+        volume: VolumeOptions,
+        /// Whether all bytes of the file's units are wanted, and not its body alone.
+        whole: bool,
+    },
     /// Writes the sectors of an image in another order.
     Convert {
         /// The path of the image's file; `-` is standard input.

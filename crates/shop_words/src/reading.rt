@@ -147,6 +147,24 @@ fn check_in(alloc: Global, matches: &ArgMatches<'_>) -> Result<Option<Job>, Allo
     }))
 }
 
+fn read_in(alloc: Global, matches: &ArgMatches<'_>) -> Result<Option<Job>, AllocError>
+    ensures { IfOk result (λ job. option_map job_view job
+        ≡ job_by (codes "read") (λ name. first_of name (rows_of (found_of matches.now)))) }
+{
+    let (Some(image), Some(name)) = (said(matches, "image"), said(matches, "name")) else {
+        return Ok(None);
+    };
+    let Some(volume) = volume_in(matches) else {
+        return Ok(None);
+    };
+    Ok(Some(Job::Read {
+        image: image.to_string(alloc)?,
+        name: name.to_string(alloc)?,
+        volume,
+        whole: has_flag(matches, "whole"),
+    }))
+}
+
 /// The words of a conversion.
 #[derive(Clone, Copy)]
 struct Conversion<'a> {
@@ -196,6 +214,7 @@ fn command_job(
     match command {
         "catalog" => catalog_in(alloc, matches),
         "check" => check_in(alloc, matches),
+        "read" => read_in(alloc, matches),
         "convert" => convert_in(alloc, matches),
         _ => Ok(None),
     }

@@ -48,6 +48,12 @@ const IMAGE: Parameter = Parameter {
     help: "File of the disk image; '-' is standard input",
 };
 
+const NAME: Parameter = Parameter {
+    name: "name",
+    kind: Kind::Positional,
+    help: "Name of the file in the volume",
+};
+
 const FILE_SYSTEM: Parameter = Parameter {
     name: "fs",
     kind: Kind::Needed(Values::OneOf(&["dos"])),
@@ -92,6 +98,12 @@ const RESERVE: Parameter = Parameter {
     help: "Places that no file may stand at beside those of the system, as 3/14,4/0",
 };
 
+const WHOLE: Parameter = Parameter {
+    name: "whole",
+    kind: Kind::Flag,
+    help: "Take all bytes of the file's sectors, and not its content alone",
+};
+
 const FORMS: &[Form] = &[
     Form {
         name: "catalog",
@@ -102,6 +114,11 @@ const FORMS: &[Form] = &[
         name: "check",
         parameters: &[IMAGE, FILE_SYSTEM, ORDER, DATA_DISK, RESERVE],
         help: "Tell whether a volume is sound, or what is wrong with it",
+    },
+    Form {
+        name: "read",
+        parameters: &[IMAGE, NAME, FILE_SYSTEM, ORDER, WHOLE, DATA_DISK],
+        help: "Write the bytes of a file of a volume to standard output",
     },
     Form {
         name: "convert",

@@ -4,6 +4,7 @@ use std::process::Abort;
 use std::test::Fail;
 
 mod conversions;
+mod reads;
 
 const PROGRAM_USAGE: &str = "Usage: a2shop <COMMAND>";
 

@@ -1,0 +1,53 @@
+-- The plain lists of `read`.
+use Rattle.std.proofs.Common.{◌≡◌, refl, true, Bool, List, [], ◌∷◌, Option, Some, None, codes, is_some, option_map, arith}
+use Rattle.clap.proofs.OnLiterals.{clap_on_literals}
+use Rattle.shop_words.specs.Table.{Text, read_form, file_system, order, whole, data_disk}
+use Rattle.shop_words.specs.Plain.{Use, IsPlainLine}
+use Rattle.shop_words.specs.Job.{read, is_on, line_job, line_said, volume_by}
+use Rattle.shop_words.specs.declared.job.VolumeOptions.{VolumeOptions}
+use Rattle.shop_words.proofs.PlainForms.{IsKnown, Knows, shape_named}
+use Rattle.shop_words.proofs.PlainJobs.{HasPlainDefaults, HasVolume, volume_by-line}
+
+pub read_known : IsKnown read_form (shape_named (codes "read"))
+unfolding clap_on_literals
+read_known =
+    let s = shape_named (codes "read") in
+    let knows_fs : Knows s file_system = record { by_long = refl; by_id = refl; same = refl; long = refl; dashes = refl } in
+    let knows_order : Knows s order = record { by_long = refl; by_id = refl; same = refl; long = refl; dashes = refl } in
+    let knows_whole : Knows s whole = record { by_long = refl; long = refl; dashes = refl } in
+    let knows_data_disk : Knows s data_disk = record { by_long = refl; long = refl; dashes = refl } in
+    record {
+      named = refl;
+      met = refl;
+      first = refl;
+      parameters = (tt, (tt, (knows_fs, (knows_order, (knows_whole, (knows_data_disk, tt))))));
+      positionals = (refl, refl, refl, (refl, refl, refl, tt));
+      positional_parameters = refl;
+      apart = refl;
+      defaults = refl;
+      valid = λ rows e. e;
+    }
+
+pub read_defaults : HasPlainDefaults read_form
+read_defaults = record { name = refl; options = refl; flags = refl }
+
+read_volume : HasVolume read_form
+read_volume = record {
+  fs = record { at = (2, omega arith, refl); is = refl };
+  order = record { at = (3, omega arith, refl); is = refl };
+  fs_values = refl;
+  order_values = refl;
+}
+
+with_names : (image name : Text) (volume : Option VolumeOptions) (all : Bool) → is_some volume ≡ true
+    → is_some (option_map (λ v. read image name v all) volume) ≡ true
+with_names image name None all has = cc
+with_names image name (Some v) all has = refl
+
+pub is_some-line_job-read : (positionals : List Text) (uses : List Use) → IsPlainLine read_form positionals uses → is_some (line_job read_form positionals uses) ≡ true
+is_some-line_job-read [] uses plain = let same = plain.as_many in absurd (omega (arith, same))
+is_some-line_job-read (image ∷ []) uses plain = let same = plain.as_many in absurd (omega (arith, same))
+is_some-line_job-read (image ∷ name ∷ []) uses plain =
+    let said = line_said read_form (image ∷ name ∷ []) uses in
+    with_names image name (volume_by said) (is_on (said (codes "whole"))) (volume_by-line read_form (image ∷ name ∷ []) uses said read_volume plain refl refl)
+is_some-line_job-read (a ∷ b ∷ c ∷ rest) uses plain = let same = plain.as_many in absurd (omega (arith, same))
