@@ -1,0 +1,4 @@
+pub mod Pointers
+pub mod PointerLaws
+pub mod Reach
+pub mod ReachLaws
