@@ -8,7 +8,7 @@ use Rattle.a2_device.specs.declared.part.PartKind.TheVariants.{List as AList, Ma
 use Rattle.vol_format.specs.declared.link.Link.{Link}
 use Rattle.vol_format.specs.declared.link.Link.TheVariants.{Null, Wild, Directory as ToDirectory, OtherType, To}
 use Rattle.pro_tree.specs.Pointers.{pointer_of}
-use Rattle.pro_tree.specs.Reach.{pro_link, pro_root, link_below, pro_child, pro_pointers, pro_rank, last_rank, pro_ends, pro_depth}
+use Rattle.pro_tree.specs.Reach.{pro_link, link_below, pro_child, pro_pointers, pro_rank, last_rank, pro_ends, pro_depth}
 
 -- the three cases of a block number
 pub pro_link-cases : (P : Link → Type 0) (places file : ℕ) (kind : PartKind) (number block : ℕ)
