@@ -6,3 +6,6 @@ pub mod Roots
 pub mod Content
 pub mod Written
 pub mod ContentLaws
+pub mod File
+pub mod FileLaws
+pub mod FileReach

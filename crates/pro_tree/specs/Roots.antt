@@ -15,13 +15,13 @@ pub pro_root-cases : (P : (ℕ → Link) → Type 0) (places file storage : ℕ)
     → P (λ key. ToDirectory) → P (λ key. OtherType) → P (λ key. pro_root places file storage key)
 pro_root-cases P places file storage link directory other = by_tests (storage == 1) (storage == 2) (storage == 3) (storage == 13)
   where
-    by_tests : (seedling sapling tree subdirectory : Bool)
+    by_tests : (seedling sapling big subdirectory : Bool)
         → P (λ key. if seedling then pro_link places file Body 0 key
         else (if sapling then pro_link places file Index 0 key
-        else (if tree then pro_link places file Master 0 key
+        else (if big then pro_link places file Master 0 key
         else (if subdirectory then ToDirectory else OtherType))))
-    by_tests true sapling tree subdirectory = link Body
-    by_tests false true tree subdirectory = link Index
+    by_tests true sapling big subdirectory = link Body
+    by_tests false true big subdirectory = link Index
     by_tests false false true subdirectory = link Master
     by_tests false false false true = directory
     by_tests false false false false = other

@@ -1,5 +1,6 @@
 // What the pointers of a file name.
 ghost use Rattle.std.specs.Prelude.{◌≡◌, ◌<◌, length};
+ghost use Rattle.pro_tree.specs.Content.{pro_slot};
 ghost use Rattle.pro_tree.specs.Reach.{pro_link, pro_root, pro_child, pro_pointers, pro_depth};
 
 use crate::pointers::pointer;
@@ -73,6 +74,18 @@ pub fn child(places: u32, part: &Part, unit: &[u8], number: u32) -> Link
             place: pointer(unit, number),
         },
     )
+}
+
+/// The pointer that names a part, in the block above it.
+pub fn slot(part: &Part) -> u32
+    ensures value { result ≡ pro_slot part.now.kind part.now.number }
+    ensures within { result < 256 }
+{
+    match part.kind {
+        PartKind::Index => part.number % MASTER_POINTERS,
+        PartKind::Body => part.number % INDEX_POINTERS,
+        _ => 0,
+    }
 }
 
 // A part, if the block that names it is one of the volume.

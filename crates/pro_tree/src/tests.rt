@@ -121,5 +121,7 @@ fn pointers_of_a_tree(rt: HostRuntime) -> Result<(), Fail> {
     let link = child(PLACES, &part(PartKind::Index, 127), &unit, 128);
     assert_eq!(rt; told(rt.alloc(), link)?.as_str(), "3 Body 32640 at 10");
     assert_eq!(rt; pointer_count(&part(PartKind::Body, 257)), 0);
+    assert_eq!(rt; slot(&part(PartKind::Body, 32640)), 128);
+    assert_eq!(rt; slot(&part(PartKind::Index, 127)), 127);
     Ok(())
 }
