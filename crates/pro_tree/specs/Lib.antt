@@ -9,3 +9,4 @@ pub mod ContentLaws
 pub mod File
 pub mod FileLaws
 pub mod FileReach
+pub mod Above

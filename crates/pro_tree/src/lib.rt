@@ -14,12 +14,14 @@
 //! below the next, each part has one pointer, and a pointer that is set names its new block alone.
 #![tactic(auto)]
 
+mod above;
 mod laws;
 mod links;
 mod pointers;
 #[cfg(test)]
 mod tests;
 
+pub use above::part_above;
 pub use laws::{parts_of_a_file, set_pointer_is_read, set_pointer_keeps_others};
 pub use links::{child, pointer_count, root, slot};
 pub use pointers::{pointer, set_pointer};
