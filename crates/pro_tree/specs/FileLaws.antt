@@ -16,13 +16,13 @@ abbrev part_of : ℕ → PartKind → ℕ → ℕ → Part
 part_of file kind number place = record { file = file; kind = kind; number = number; place = place }
 
 -- which part the key pointer of a storage type names
-abbrev IsKeyPart : ℕ → ℕ → ℕ → ℕ → Part → Type 0
+abbrev pub IsKeyPart : ℕ → ℕ → ℕ → ℕ → Part → Type 0
 IsKeyPart places file storage key part =
     ((storage ≡ 1) × IsNamed places file Body 0 key part)
     ⊎ ((storage ≡ 2) × IsNamed places file Index 0 key part)
     ⊎ ((storage ≡ 3) × IsNamed places file Master 0 key part)
 
-key_part : (places file storage key : ℕ) (part : Part) → pro_root places file storage key ≡ To part → IsKeyPart places file storage key part
+pub key_part : (places file storage key : ℕ) (part : Part) → pro_root places file storage key ≡ To part → IsKeyPart places file storage key part
 key_part places file storage key part is = by_tests (storage == 1) (storage == 2) (storage == 3) (storage == 13) refl refl refl is
   where
     by_tests : (seedling sapling big subdirectory : Bool) → (storage == 1) ≡ seedling → (storage == 2) ≡ sapling → (storage == 3) ≡ big

@@ -10,3 +10,4 @@ pub mod File
 pub mod FileLaws
 pub mod FileReach
 pub mod Above
+pub mod AboveLaws

@@ -125,3 +125,28 @@ fn pointers_of_a_tree(rt: HostRuntime) -> Result<(), Fail> {
     assert_eq!(rt; slot(&part(PartKind::Index, 127)), 127);
     Ok(())
 }
+
+// A tree with a hole of 256 blocks, a seedling and a sapling.
+#[test]
+fn parts_that_name_others(rt: HostRuntime) -> Result<(), Fail> {
+    let mut parts = [part(PartKind::Body, 0); 7];
+    parts[0] = part(PartKind::Master, 0);
+    parts[1] = part(PartKind::Index, 1);
+    parts[2] = part(PartKind::Body, 256);
+    parts[3] = part(PartKind::Body, 300);
+    parts[4].file = 4;
+    parts[5] = Part {
+        file: 5,
+        ..part(PartKind::Index, 0)
+    };
+    parts[6].file = 5;
+    let mut text = String::new(rt.alloc());
+    for k in 0..7 {
+        match part_above(&parts, k) {
+            None => write!(text, " none")?,
+            Some(above) => write!(text, " {above}")?,
+        }
+    }
+    assert_eq!(rt; text.as_str(), " none 0 1 1 none none 5");
+    Ok(())
+}
