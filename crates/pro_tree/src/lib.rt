@@ -11,7 +11,8 @@
 //!
 //! `specs/Content.antt` says what a move writes into an index and what it leaves. The other files of `specs/` prove
 //! what formats are asked for: a part comes before those that it names, all parts below a pointer come before those
-//! below the next, each part has one pointer, and a pointer that is set names its new block alone.
+//! below the next, each part has one pointer, and a pointer that is set names its new block alone. Among parts in order,
+//! `part_above` finds the one that names another (`specs/Above.antt`).
 #![tactic(auto)]
 
 mod above;
