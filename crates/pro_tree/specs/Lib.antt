@@ -1,0 +1,13 @@
+pub mod Pointers
+pub mod PointerLaws
+pub mod Reach
+pub mod ReachLaws
+pub mod Roots
+pub mod Content
+pub mod Written
+pub mod ContentLaws
+pub mod File
+pub mod FileLaws
+pub mod FileReach
+pub mod Above
+pub mod AboveLaws
