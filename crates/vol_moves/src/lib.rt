@@ -1,0 +1,12 @@
+//! What the single writes of a mover do to the files of a volume, in every format that meets the laws of `vol_format`.
+//!
+//! Nothing here runs: each function is a law, with an empty body and its contract for the statement. A law says of an
+//! accepted store and its directory what they are after one write: a unit copied to a place that no part has, a pointer
+//! that then names the copy, and places marked used or free in a unit of the map. The store stays accepted, the files
+//! keep their parts and contents (`specs/Kept.antt`), and where a pointer is written one part has moved
+//! (`specs/Moved.antt`); `specs/Marked.antt` has the map's units with several places marked.
+#![tactic(auto)]
+
+mod laws;
+
+pub use laws::a_copy_keeps_the_files;
