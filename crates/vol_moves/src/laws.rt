@@ -3,8 +3,10 @@ ghost use Rattle.std.specs.Prelude.{◌≡◌, ◌<◌, ℕ, List, Contains, sli
 ghost use Rattle.vol_format.specs.Accepted.{IsAccepted};
 ghost use Rattle.vol_format.specs.Directory.{Directory};
 ghost use Rattle.vol_moves.specs.Kept.{IsKept, IsUnreached};
+ghost use Rattle.vol_moves.specs.Moved.{IsReady, HasMoved, pointed, pointed_store};
 
-use vol_format::WritableFormat;
+use a2_device::Part;
+use vol_format::{Holder, WritableFormat};
 
 /// A law: a unit written to an available place at which no part stands leaves the files.
 pub fn a_copy_keeps_the_files<F: WritableFormat>(format: &F)
@@ -12,4 +14,13 @@ pub fn a_copy_keeps_the_files<F: WritableFormat>(format: &F)
         → IsAccepted (F.meaning format.now) directory store
         → Contains directory.available place → IsUnreached (F.meaning format.now) directory store place
         → IsKept (F.meaning format.now) directory directory store (slice_set store place unit) }
+{}
+
+/// A law: a pointer that is written to name a copy of its part moves that part alone.
+pub fn a_pointer_moves_one_part<F: WritableFormat>(format: &F)
+    ensures { (directory : Directory) (store : List (List ℕ)) (part : Part) (holder : Holder) (place : ℕ)
+        → IsAccepted (F.meaning format.now) directory store
+        → IsReady (F.meaning format.now) directory store part holder place
+        → HasMoved (F.meaning format.now) directory (pointed directory part holder place) part place store
+        (pointed_store (F.meaning format.now) store holder place) }
 {}

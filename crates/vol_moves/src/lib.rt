@@ -9,4 +9,4 @@
 
 mod laws;
 
-pub use laws::a_copy_keeps_the_files;
+pub use laws::{a_copy_keeps_the_files, a_pointer_moves_one_part};
