@@ -5,3 +5,4 @@ pub mod Moving
 pub mod Pointers
 pub mod Entries
 pub mod Moves
+pub mod Standing

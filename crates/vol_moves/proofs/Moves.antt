@@ -1,5 +1,5 @@
 -- A pointer that is set to a copy of the part that it names, wherever it stands.
-use Rattle.std.specs.Prelude.{◌≡◌, ◌<◌, ℕ, Bool, true, false, if◌then◌else◌, List, length, slice_set}
+use Rattle.std.specs.Prelude.{◌≡◌, ◌<◌, ℕ, Bool, true, false, if◌then◌else◌, List, length, slice_index, slice_set}
 use Rattle.std.proofs.Common.{sym, subst, inl, inr}
 use Rattle.a2_device.specs.Device.{unit_at}
 use Rattle.a2_device.specs.declared.part.Part.{Part}
@@ -11,10 +11,11 @@ use Rattle.vol_format.specs.Holding.{IsHeldByEntry, IsHeldByUnit}
 use Rattle.vol_format.specs.Laws.{IsReadable, IsMovable, IsWritable}
 use Rattle.vol_format.specs.Meaning.{Meaning}
 use Rattle.vol_format.specs.Reach.{Reach, at_root, at_child}
-use Rattle.vol_format.specs.Standing.{at_place}
+use Rattle.vol_format.specs.Standing.{Stands, at_place, part_now}
 use Rattle.vol_moves.specs.Moved.{IsReady, HasMoved, pointed, pointed_store}
 use Rattle.vol_moves.proofs.Pointers.{pointer_moved}
 use Rattle.vol_moves.proofs.Entries.{entry_moved}
+use Rattle.vol_moves.proofs.Standing.{moved_stands}
 
 module _ (format : Meaning) (laws : IsReadable format) (movable : IsMovable format) (writable : IsWritable format) (directory : Directory) (store : List (List ℕ))
     (part : Part) (holder : Holder) (place : ℕ) (accepted : IsAccepted format directory store) (ready : IsReady format directory store part holder place) where
@@ -57,3 +58,15 @@ module _ (format : Meaning) (laws : IsReadable format) (movable : IsMovable form
     | inl entry ↦ at_root part.file entry.inside entry.root
     | inr unit ↦ at_child holder.slot unit.reached unit.link
   ]
+
+pub part_stands : (format : Meaning) → IsReadable format → IsMovable format → IsWritable format → (directory : Directory) (store : List (List ℕ)) (parts : List Part) (layout : List ℕ)
+    (k number : ℕ) (holder : Holder) → IsAccepted format directory store → Stands format directory store parts layout → k < length parts → number < length directory.available
+    → IsReady format directory store (part_now parts directory.available layout k) holder (slice_index directory.available number)
+    → Stands format (pointed directory (part_now parts directory.available layout k) holder (slice_index directory.available number))
+    (pointed_store format store holder (slice_index directory.available number)) parts (slice_set layout k number)
+part_stands format laws movable writable directory store parts layout k number holder accepted stands inside number_inside ready =
+    let part = part_now parts directory.available layout k in
+    let place = slice_index directory.available number in
+    moved_stands format directory (pointed directory part holder place) store (pointed_store format store holder place) parts layout k number
+    (movable.described store directory accepted.described).available_once inside number_inside stands ready.unreached
+    (part_moved format laws movable writable directory store part holder place accepted ready)

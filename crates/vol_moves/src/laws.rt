@@ -1,7 +1,8 @@
 // What single writes do to the files.
-ghost use Rattle.std.specs.Prelude.{◌≡◌, ◌<◌, ℕ, List, Contains, slice_set};
+ghost use Rattle.std.specs.Prelude.{◌≡◌, ◌<◌, ℕ, List, length, Contains, slice_index, slice_set};
 ghost use Rattle.vol_format.specs.Accepted.{IsAccepted};
 ghost use Rattle.vol_format.specs.Directory.{Directory};
+ghost use Rattle.vol_format.specs.Standing.{Stands, part_now};
 ghost use Rattle.vol_moves.specs.Kept.{IsKept, IsUnreached};
 ghost use Rattle.vol_moves.specs.Moved.{IsReady, HasMoved, pointed, pointed_store};
 
@@ -18,9 +19,15 @@ pub fn a_copy_keeps_the_files<F: WritableFormat>(format: &F)
 
 /// A law: a pointer that is written to name a copy of its part moves that part alone.
 pub fn a_pointer_moves_one_part<F: WritableFormat>(format: &F)
-    ensures { (directory : Directory) (store : List (List ℕ)) (part : Part) (holder : Holder) (place : ℕ)
+    ensures part { (directory : Directory) (store : List (List ℕ)) (part : Part) (holder : Holder) (place : ℕ)
         → IsAccepted (F.meaning format.now) directory store
         → IsReady (F.meaning format.now) directory store part holder place
         → HasMoved (F.meaning format.now) directory (pointed directory part holder place) part place store
         (pointed_store (F.meaning format.now) store holder place) }
+    ensures layout { (directory : Directory) (store : List (List ℕ)) (parts : List Part) (layout : List ℕ) (k number : ℕ) (holder : Holder)
+        → IsAccepted (F.meaning format.now) directory store → Stands (F.meaning format.now) directory store parts layout
+        → k < length parts → number < length directory.available
+        → IsReady (F.meaning format.now) directory store (part_now parts directory.available layout k) holder (slice_index directory.available number)
+        → Stands (F.meaning format.now) (pointed directory (part_now parts directory.available layout k) holder (slice_index directory.available number))
+        (pointed_store (F.meaning format.now) store holder (slice_index directory.available number)) parts (slice_set layout k number) }
 {}
