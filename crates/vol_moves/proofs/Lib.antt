@@ -6,3 +6,4 @@ pub mod Pointers
 pub mod Entries
 pub mod Moves
 pub mod Standing
+pub mod Marks

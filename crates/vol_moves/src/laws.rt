@@ -1,9 +1,11 @@
 // What single writes do to the files.
-ghost use Rattle.std.specs.Prelude.{◌≡◌, ◌<◌, ℕ, List, length, Contains, slice_index, slice_set};
+ghost use Rattle.std.specs.Prelude.{◌≡◌, ◌<◌, ℕ, Bool, true, List, length, All, Contains, slice_index, slice_set};
+ghost use Rattle.a2_device.specs.Device.{unit_at};
 ghost use Rattle.vol_format.specs.Accepted.{IsAccepted};
-ghost use Rattle.vol_format.specs.Directory.{Directory};
+ghost use Rattle.vol_format.specs.Directory.{Directory, map_place, remapped};
 ghost use Rattle.vol_format.specs.Standing.{Stands, part_now};
 ghost use Rattle.vol_moves.specs.Kept.{IsKept, IsUnreached};
+ghost use Rattle.vol_moves.specs.Marked.{Mark, CanMark, with_marks, marked};
 ghost use Rattle.vol_moves.specs.Moved.{IsReady, HasMoved, pointed, pointed_store};
 
 use a2_device::Part;
@@ -30,4 +32,24 @@ pub fn a_pointer_moves_one_part<F: WritableFormat>(format: &F)
         → IsReady (F.meaning format.now) directory store (part_now parts directory.available layout k) holder (slice_index directory.available number)
         → Stands (F.meaning format.now) (pointed directory (part_now parts directory.available layout k) holder (slice_index directory.available number))
         (pointed_store (F.meaning format.now) store holder (slice_index directory.available number)) parts (slice_set layout k number) }
+{}
+
+/// A law: one place marked used, or one marked free at which no part stands, leaves the files.
+pub fn a_mark_keeps_the_files<F: WritableFormat>(format: &F)
+    ensures { (directory : Directory) (store : List (List ℕ)) (place : ℕ) (free : Bool)
+        → IsAccepted (F.meaning format.now) directory store → place < directory.places
+        → length (unit_at store (map_place directory place)) ≡ (F.meaning format.now).unit_size
+        → (free ≡ true → IsUnreached (F.meaning format.now) directory store place)
+        → IsKept (F.meaning format.now) directory (remapped directory place free) store
+        (slice_set store (map_place directory place) ((F.meaning format.now).with_free (unit_at store (map_place directory place)) place free)) }
+{}
+
+/// A law: places of one unit of the map that are marked used, or marked free where no part stands, leave the files.
+pub fn many_marks_keep_the_files<F: WritableFormat>(format: &F)
+    ensures { (directory : Directory) (store : List (List ℕ)) (at : ℕ) (marks : List Mark)
+        → IsAccepted (F.meaning format.now) directory store
+        → length (unit_at store at) ≡ (F.meaning format.now).unit_size
+        → All (CanMark (F.meaning format.now) directory store at) marks
+        → IsKept (F.meaning format.now) directory (marked directory marks) store
+        (slice_set store at (with_marks (F.meaning format.now) (unit_at store at) marks)) }
 {}

@@ -9,4 +9,7 @@
 
 mod laws;
 
-pub use laws::{a_copy_keeps_the_files, a_pointer_moves_one_part};
+pub use laws::{
+    a_copy_keeps_the_files, a_mark_keeps_the_files, a_pointer_moves_one_part,
+    many_marks_keep_the_files,
+};
