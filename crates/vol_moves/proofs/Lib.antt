@@ -7,3 +7,4 @@ pub mod Entries
 pub mod Moves
 pub mod Standing
 pub mod Marks
+pub mod Losing

@@ -8,8 +8,13 @@
 #![tactic(auto)]
 
 mod laws;
+mod lost;
 
 pub use laws::{
     a_copy_keeps_the_files, a_mark_keeps_the_files, a_pointer_moves_one_part,
     many_marks_keep_the_files,
+};
+pub use lost::{
+    a_copy_loses_nothing, a_mark_loses_or_finds_one_place, a_moved_part_leaves_its_place,
+    kept_files_stand_where_they_stood,
 };
