@@ -8,3 +8,5 @@ pub mod Moves
 pub mod Standing
 pub mod Marks
 pub mod Losing
+pub mod ReadBack
+pub mod SystemUnits

@@ -9,6 +9,7 @@
 
 mod laws;
 mod lost;
+mod system;
 
 pub use laws::{
     a_copy_keeps_the_files, a_mark_keeps_the_files, a_pointer_moves_one_part,
@@ -18,3 +19,4 @@ pub use lost::{
     a_copy_loses_nothing, a_mark_loses_or_finds_one_place, a_moved_part_leaves_its_place,
     kept_files_stand_where_they_stood,
 };
+pub use system::{each_write_keeps_the_system, marks_are_read_back};
