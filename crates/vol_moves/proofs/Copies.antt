@@ -14,11 +14,11 @@ use Rattle.vol_moves.specs.Kept.{IsKept, IsUnreached}
 use Rattle.vol_moves.proofs.Kept.{is_kept}
 
 module _ (format : Meaning) (directory : Directory) (store : List (List ℕ)) (place : ℕ) (unit : List ℕ) (unreached : IsUnreached format directory store place) where
-  same_link : (part : Part) (i : ℕ) → part.place ≢ place → link_from format (slice_set store place unit) part i ≡ link_from format store part i
+  pub same_link : (part : Part) (i : ℕ) → part.place ≢ place → link_from format (slice_set store place unit) part i ≡ link_from format store part i
   same_link part i differ = ap (λ n. format.child n part (unit_at (slice_set store place unit) part.place) i) (length-set {A = List ℕ} store place unit)
       ∙ ap (λ u. format.child (length store) part u i) (get_or-set_other store place part.place unit [] differ)
 
-  copy_keeps : (part : Part) → Reach format directory store part → Reach format directory (slice_set store place unit) part
+  pub copy_keeps : (part : Part) → Reach format directory store part → Reach format directory (slice_set store place unit) part
   copy_keeps part (at_root file within is) = at_root file within is
   copy_keeps part (at_child {parent} i reach is) = at_child i (copy_keeps parent reach) (same_link parent i (unreached parent reach) ∙ is)
 

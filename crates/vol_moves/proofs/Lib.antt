@@ -10,3 +10,4 @@ pub mod Marks
 pub mod Losing
 pub mod ReadBack
 pub mod SystemUnits
+pub mod Readying

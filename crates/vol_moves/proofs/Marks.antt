@@ -101,13 +101,13 @@ module _ (format : Meaning) (laws : IsReadable format) (movable : IsMovable form
 
   -- Several places of one unit of the map.
   module _ (at : ℕ) where
-    one_kept : (before : Directory) (old : List (List ℕ)) (mark : Mark) → IsAccepted format before old → length (unit_at old at) ≡ format.unit_size → CanMark format before old at mark
+    pub one_kept : (before : Directory) (old : List (List ℕ)) (mark : Mark) → IsAccepted format before old → length (unit_at old at) ≡ format.unit_size → CanMark format before old at mark
         → IsKept format before (remapped before mark.place mark.free) old (slice_set old at (format.with_free (unit_at old at) mark.place mark.free))
     one_kept before old mark accepted full can =
         subst (λ n. IsKept format before (remapped before mark.place mark.free) old (slice_set old n (format.with_free (unit_at old n) mark.place mark.free))) can.here
         (mark_kept before old accepted mark.place mark.free can.inside (subst (λ n. length (unit_at old n) ≡ format.unit_size) (sym can.here) full) can.unreached)
 
-    still : (before after : Directory) (old new : List (List ℕ)) → IsKept format before after old new → after.places ≡ before.places
+    pub still : (before after : Directory) (old new : List (List ℕ)) → IsKept format before after old new → after.places ≡ before.places
         → ((place : ℕ) → map_place after place ≡ map_place before place) → (mark : Mark) → CanMark format before old at mark → CanMark format after new at mark
     still before after old new kept same_places same_map mark was = record {
       inside = subst (λ n. mark.place < n) (sym same_places) was.inside;
@@ -115,7 +115,7 @@ module _ (format : Meaning) (laws : IsReadable format) (movable : IsMovable form
       unreached = λ free part reach. was.unreached free part ((kept.parts part).1 reach);
     }
 
-    within : (before : Directory) (old : List (List ℕ)) (mark : Mark) → IsAccepted format before old → CanMark format before old at mark → at < length old
+    pub within : (before : Directory) (old : List (List ℕ)) (mark : Mark) → IsAccepted format before old → CanMark format before old at mark → at < length old
     within before old mark accepted can =
         subst (λ n. at < n) (laws.all_places old before accepted.described)
         (subst (λ n. n < before.places) can.here ((movable.described old before accepted.described).map_below mark.place can.inside))

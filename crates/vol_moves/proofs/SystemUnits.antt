@@ -1,8 +1,8 @@
 -- The contents of the system's units after each write.
-use Rattle.std.specs.Prelude.{◌≡◌, ◌≢◌, ◌<◌, ℕ, Bool, true, false, if◌then◌else◌, List, [], length, Contains, slice_set}
-use Rattle.std.proofs.Common.{sym, ◌∙◌, ap, subst, inl, inr}
+use Rattle.std.specs.Prelude.{◌≡◌, ◌≢◌, ◌<◌, ℕ, suc, Bool, true, false, if◌then◌else◌, List, [], ◌∷◌, length, slice_index_or, All, Contains, slice_set}
+use Rattle.std.proofs.Common.{refl, sym, ◌∙◌, ap, subst, arith, inl, inr}
 use Rattle.std.proofs.lemmas.Bool.{cases_eq}
-use Rattle.std.proofs.lemmas.List.{get_or-set_same, get_or-set_other}
+use Rattle.std.proofs.lemmas.List.{get_or-set_same, get_or-set_other, set-get_or, set-set}
 use Rattle.a2_device.specs.Device.{unit_at}
 use Rattle.a2_device.specs.declared.part.Part.{Part}
 use Rattle.vol_format.specs.declared.link.Holder.{Holder}
@@ -16,6 +16,8 @@ use Rattle.vol_format.specs.Standing.{at_place}
 use Rattle.vol_format.proofs.Frames.{turned_frame, remapped_frame}
 use Rattle.vol_moves.specs.Moved.{IsReady, pointed, pointed_store}
 use Rattle.vol_moves.specs.System.{SameSystem}
+use Rattle.vol_moves.specs.Marked.{Mark, CanMark, with_marks, marked}
+use Rattle.vol_moves.proofs.Marks.{one_kept, still, within}
 
 module _ (format : Meaning) where
   -- a unit written outside the system
@@ -86,3 +88,27 @@ module _ (format : Meaning) where
         written_inside writable directory (remapped directory place free) store (map_place directory place) (format.with_free (unit_at store (map_place directory place)) place free)
         (remapped_frame directory place free) (subst (λ n. map_place directory place < n) (laws.all_places store directory described) below)
         (writable.remap_content store directory place free (unit_at store (map_place directory place)) described available full)
+
+    -- several marks in one unit of the map
+    pub marks_system : (at : ℕ) (marks : List Mark) (before : Directory) (old : List (List ℕ)) → IsAccepted format before old → length (unit_at old at) ≡ format.unit_size
+        → All (CanMark format before old at) marks → All (λ (mark : Mark). Contains before.available mark.place) marks
+        → SameSystem format before (marked before marks) old (slice_set old at (with_marks format (unit_at old at) marks))
+    marks_system at [] before old accepted full can available place system =
+        ap (λ store. format.system_content before place (unit_at store place)) (set-get_or old at [])
+    marks_system at (mark ∷ marks) before old accepted full can available place system =
+        let first = can 0 mark (omega arith) in
+        let unit = format.with_free (unit_at old at) mark.place mark.free in
+        let mid = remapped before mark.place mark.free in
+        let store = slice_set old at unit in
+        let one = one_kept format laws movable writable at before old mark accepted full first in
+        let here : unit_at store at ≡ unit = get_or-set_same old at unit [] (within format laws movable writable at before old mark accepted first) in
+        let rest = marks_system at marks mid store one.accepted (ap length here ∙ writable.free_length (unit_at old at) mark.place mark.free ∙ full)
+        (λ i d inside. still format laws movable writable at before mid old store one refl (λ p. refl) (slice_index_or marks i d) (can (suc i) d (omega (arith, inside))))
+        (λ i d inside. available (suc i) d (omega (arith, inside))) place system in
+        let there : slice_set store at (with_marks format (unit_at store at) marks) ≡ slice_set old at (with_marks format unit marks) =
+        ap (λ v. slice_set store at (with_marks format v marks)) here ∙ set-set old at unit (with_marks format unit marks) in
+        let changed : format.system_content mid place (unit_at store place) ≡ format.system_content before place (unit_at old place) =
+        subst (λ n. format.system_content mid place (unit_at (slice_set old n (format.with_free (unit_at old n) mark.place mark.free)) place) ≡ format.system_content before place (unit_at old place)) first.here
+        (mark_system before old mark.place mark.free accepted.described (available 0 mark (omega arith))
+        (subst (λ n. length (unit_at old n) ≡ format.unit_size) (sym first.here) full) place system) in
+        ap (λ s. format.system_content (marked mid marks) place (unit_at s place)) (sym there) ∙ rest ∙ changed

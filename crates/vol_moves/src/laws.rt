@@ -3,7 +3,8 @@ ghost use Rattle.std.specs.Prelude.{◌≡◌, ◌<◌, ℕ, Bool, true, List, l
 ghost use Rattle.a2_device.specs.Device.{unit_at};
 ghost use Rattle.vol_format.specs.Accepted.{IsAccepted};
 ghost use Rattle.vol_format.specs.Directory.{Directory, map_place, remapped};
-ghost use Rattle.vol_format.specs.Standing.{Stands, part_now};
+ghost use Rattle.vol_format.specs.Holding.{IsHolder};
+ghost use Rattle.vol_format.specs.Standing.{Stands, IsLost, part_now};
 ghost use Rattle.vol_moves.specs.Kept.{IsKept, IsUnreached};
 ghost use Rattle.vol_moves.specs.Marked.{Mark, CanMark, with_marks, marked};
 ghost use Rattle.vol_moves.specs.Moved.{IsReady, HasMoved, pointed, pointed_store};
@@ -17,6 +18,15 @@ pub fn a_copy_keeps_the_files<F: WritableFormat>(format: &F)
         → IsAccepted (F.meaning format.now) directory store
         → Contains directory.available place → IsUnreached (F.meaning format.now) directory store place
         → IsKept (F.meaning format.now) directory directory store (slice_set store place unit) }
+{}
+
+/// A law: once the unit of a part is copied to a lost place, the part is ready to move there.
+pub fn a_copy_makes_a_part_ready<F: WritableFormat>(format: &F)
+    ensures { (directory : Directory) (store : List (List ℕ)) (part : Part) (holder : Holder) (place : ℕ)
+        → IsAccepted (F.meaning format.now) directory store → IsLost (F.meaning format.now) directory store place
+        → IsHolder (F.meaning format.now) directory store part holder → holder.place < length store
+        → length (unit_at store holder.place) ≡ (F.meaning format.now).unit_size
+        → IsReady (F.meaning format.now) directory (slice_set store place (unit_at store part.place)) part holder place }
 {}
 
 /// A law: a pointer that is written to name a copy of its part moves that part alone.

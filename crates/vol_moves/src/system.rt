@@ -3,7 +3,7 @@ ghost use Rattle.std.specs.Prelude.{◌≡◌, ◌≢◌, ◌<◌, ℕ, Bool, Li
 ghost use Rattle.a2_device.specs.Device.{unit_at};
 ghost use Rattle.vol_format.specs.Accepted.{IsAccepted};
 ghost use Rattle.vol_format.specs.Directory.{Directory, is_free, map_place, remapped};
-ghost use Rattle.vol_moves.specs.Marked.{Mark, marked};
+ghost use Rattle.vol_moves.specs.Marked.{Mark, CanMark, with_marks, marked};
 ghost use Rattle.vol_moves.specs.Moved.{IsReady, pointed, pointed_store};
 ghost use Rattle.vol_moves.specs.System.{SameSystem};
 
@@ -25,6 +25,13 @@ pub fn each_write_keeps_the_system<F: WritableFormat>(format: &F)
         → length (unit_at store (map_place directory place)) ≡ (F.meaning format.now).unit_size
         → SameSystem (F.meaning format.now) directory (remapped directory place free) store
         (slice_set store (map_place directory place) ((F.meaning format.now).with_free (unit_at store (map_place directory place)) place free)) }
+    ensures marks { (directory : Directory) (store : List (List ℕ)) (at : ℕ) (marks : List Mark)
+        → IsAccepted (F.meaning format.now) directory store
+        → length (unit_at store at) ≡ (F.meaning format.now).unit_size
+        → All (CanMark (F.meaning format.now) directory store at) marks
+        → All (λ (mark : Mark). Contains directory.available mark.place) marks
+        → SameSystem (F.meaning format.now) directory (marked directory marks) store
+        (slice_set store at (with_marks (F.meaning format.now) (unit_at store at) marks)) }
 {}
 
 /// A law: after several marks a place is marked as they say where they agree on it, and as before where none is its own.
