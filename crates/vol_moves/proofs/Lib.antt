@@ -1,0 +1,13 @@
+pub mod Kept
+pub mod Copies
+pub mod Identity
+pub mod Moving
+pub mod Pointers
+pub mod Entries
+pub mod Moves
+pub mod Standing
+pub mod Marks
+pub mod Losing
+pub mod ReadBack
+pub mod SystemUnits
+pub mod Readying

@@ -1,0 +1,4 @@
+pub mod Kept
+pub mod Moved
+pub mod Marked
+pub mod System
