@@ -46,6 +46,7 @@ loop-next-preserved g c =
         work-less start.places now.self.met.items c.read.new.self.met.items now.reading.entries.items c.read.new.reading.entries.items c.args.reading.now.key now.next c.read.new.unit
             now.invariant.table.size below new.2 read.met inside,
       );
+      within = λ first. read.within start.places below (now.invariant.within first);
       key = read.key ∙ named;
       following = λ honest before following.
           let still = subst IsTrue (sym now.invariant.device.same.honest) honest in
