@@ -1,5 +1,5 @@
-use Rattle.std.proofs.Common.{◌≡◌, ◌++◌, List, [], ◌∷◌, ℕ, refl, sym, ◌∙◌, ap, subst, true, false, Vec}
-use Rattle.std.specs.Prelude.{All, IsTrue, reverse}
+use Rattle.std.proofs.Common.{◌≡◌, ◌++◌, [], ◌∷◌, ℕ, sym, ◌∙◌, ap, subst, true, false, Vec}
+use Rattle.std.specs.Prelude.{All, reverse}
 use Rattle.pro_dir.specs.declared.entry.Entry.{Entry}
 use Rattle.pro_dir.specs.declared.reading.FreeSlot.{FreeSlot}
 use Rattle.pro_dir.specs.Entry.{is_directory, key_of}

@@ -1,4 +1,4 @@
-use Rattle.std.proofs.Common.{◌≡◌, ◌≤◌, ◌+◌, false, length, reverse}
+use Rattle.std.proofs.Common.{◌≤◌, ◌+◌, false, length, reverse}
 use Rattle.std.specs.Prelude.{All, IsTrue}
 use Rattle.a2_device.specs.Device.{OnlyReads}
 use Rattle.pro_dir.specs.Walk.{IsTable, IsListing, work}

@@ -1,15 +1,14 @@
-use Rattle.std.proofs.Common.{◌≡◌, ◌≢◌, ◌<◌, ◌≤◌, ◌++◌, List, [], ◌∷◌, ℕ, refl, sym, ◌∙◌, ap, subst, arith, false, true, length, inl, inr}
+use Rattle.std.proofs.Common.{◌≡◌, ◌<◌, List, ℕ, refl, sym, ◌∙◌, ap, subst, arith, length, inr}
 use Rattle.std.specs.Prelude.{All, IsTrue}
-use Rattle.std.specs.Option.{option_or}
 use Rattle.a2_device.specs.Reading.{then_reads}
 use Rattle.std.proofs.lemmas.List.Elements.{All-nil}
 use Rattle.std.proofs.lemmas.Result.{err_from_is_err_and}
 use Rattle.a2_device.specs.Device.{DeviceState, unit_at}
 use Rattle.a2_device.specs.declared.fault.Fault.{Fault}
 use Rattle.a2_device.specs.declared.fault.WalkError.TheVariants.{Fault as AFault}
-use Rattle.pro_dir.specs.Entry.{entries_of, key_of}
+use Rattle.pro_dir.specs.Entry.{key_of}
 use Rattle.pro_dir.specs.Tree.{CanLink, HasBadLink, HasKind, HasSizes, SubdirectoryFaultAt}
-use Rattle.pro_dir.specs.Walk.{IsTable, IsFollowing, IsReadOut, is_met, work, first_free_of}
+use Rattle.pro_dir.specs.Walk.{IsTable, IsFollowing, IsReadOut}
 use Rattle.pro_dir.specs.Within.{IsInSlot}
 use Rattle.pro_dir.proofs.Table.{tabled_on, work-less}
 use Rattle.pro_dir.proofs.Following.{opened, refused_so}

@@ -1,14 +1,14 @@
-use Rattle.std.proofs.Common.{◌≡◌, ◌++◌, ◌+◌, ◌*◌, ◌<◌, ◌≤◌, Bool, List, [], ◌∷◌, ℕ, None, refl, sym, ◌∙◌, ap, subst, arith, Vec, length, replicate, false}
-use Rattle.std.specs.Prelude.{All, IsTrue, reverse}
+use Rattle.std.proofs.Common.{◌≡◌, ◌++◌, ◌+◌, ◌*◌, ◌≤◌, Bool, List, [], ℕ, refl, sym, ◌∙◌, ap, subst, arith, Vec, length, replicate, false}
+use Rattle.std.specs.Prelude.{All}
 use Rattle.std.proofs.lemmas.List.Elements.{All-nil}
-use Rattle.a2_device.specs.Device.{DeviceState, unit_at}
+use Rattle.a2_device.specs.Device.{unit_at}
 use Rattle.a2_device.specs.declared.fault.Fault.{Fault}
 use Rattle.a2_device.specs.declared.fault.Fault.TheVariants.{DirLink}
 use Rattle.a2_device.specs.declared.fault.WalkError.TheVariants.{Fault as AFault}
 use Rattle.pro_dir.specs.declared.entry.Entry.{Entry}
 use Rattle.pro_dir.specs.declared.reading.FreeSlot.{FreeSlot}
 use Rattle.pro_dir.specs.Tree.{HasBadLink, HasKind, HasSizes}
-use Rattle.pro_dir.specs.Walk.{IsFollowing, IsReadOut, IsTable, IsVolumeKey, kept_slots, work}
+use Rattle.pro_dir.specs.Walk.{IsReadOut, kept_slots, work}
 use Rattle.pro_dir.specs.Within.{IsInSlot}
 use Rattle.pro_dir.proofs.Within.{first_work, waits_within}
 use Rattle.pro_dir.proofs.Table.{tabled_none, tabled_on, unmet_none}
