@@ -1,12 +1,11 @@
 -- What block 2 and the whole walk tell of a volume.
 use Rattle.std.proofs.Common.{◌≡◌, ◌≤◌, ◌<◌, ◌+◌, ℕ, Bool, true, false, List, [], length, refl, sym, ◌∙◌, ap, subst, arith}
-use Rattle.std.specs.Prelude.{Contains}
 use Rattle.a2_device.specs.Device.{unit_at}
 use Rattle.pro_dir.specs.declared.entry.Entry.{Entry}
 use Rattle.pro_dir.specs.declared.reading.FreeSlot.{FreeSlot}
 use Rattle.pro_dir.specs.Entry.{slot_bytes}
 use Rattle.pro_dir.specs.Tree.{HasKind, HasSizes, IsTree}
-use Rattle.pro_dir.specs.Volume.{Directory, Describes, HasBadMap, HasGeometry, HasMap, map_blocks, map_first, total_blocks, volume_header}
+use Rattle.pro_dir.specs.Volume.{Describes, HasBadMap, HasGeometry, HasMap, map_blocks, map_first, total_blocks}
 use Rattle.pro_dir.specs.Walk.{IsListing, IsTable, IsVolumeKey, is_met}
 
 -- block 2 has the header of a volume of so many blocks

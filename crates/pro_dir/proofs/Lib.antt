@@ -3,5 +3,6 @@ mod Table
 mod Following
 mod Listing
 mod Described
+mod Within
 mod Small
 mod Written

@@ -1,6 +1,6 @@
 -- One entry more is listed.
-use Rattle.std.proofs.Common.{◌≡◌, ◌≢◌, ℕ, ◌<◌, Bool, true, false, List, [], ◌∷◌, ◌++◌, length, refl, sym, ◌∙◌, ap, subst, arith, inl, inr, ⊎_elim, cond, append_assoc, append-nil}
-use Rattle.std.specs.Prelude.{◌⊎◌, ◌==◌, Option, Some, None, option_map, find, reverse, slice_get}
+use Rattle.std.proofs.Common.{◌≡◌, ◌≢◌, ℕ, Bool, true, false, List, [], ◌∷◌, ◌++◌, refl, sym, ◌∙◌, ap, subst, arith, inl, inr, ⊎_elim, append-nil}
+use Rattle.std.specs.Prelude.{◌⊎◌, ◌==◌, Option, Some, None, reverse, slice_get}
 use Rattle.std.specs.List.{Contains, AllPairs}
 use Rattle.std.proofs.lemmas.List.{reverse-append, reverse-reverse}
 use Rattle.std.proofs.lemmas.List.Elements.{Contains-append_left, Contains-append_right, Contains-append_cases}
@@ -9,7 +9,7 @@ use Rattle.a2_device.specs.Device.{unit_at}
 use Rattle.pro_dir.specs.declared.entry.Entry.{Entry}
 use Rattle.pro_dir.specs.declared.reading.FreeSlot.{FreeSlot}
 use Rattle.pro_dir.specs.Entry.{entries_in, free_slots_in, is_directory, key_of}
-use Rattle.pro_dir.specs.Tree.{HasBlocks, HasKind, HasSizes, IsDirectory, IsListed, IsRun}
+use Rattle.pro_dir.specs.Tree.{HasBlocks, HasKind, HasSizes, IsListed, IsRun}
 use Rattle.pro_dir.specs.TreeLaws.{listed_more, not_twice, one_run}
 use Rattle.pro_dir.specs.Walk.{IsKeyOf, IsListing, IsReadOut, IsTable, KeepsFree, kept_for, kept_slots}
 use Rattle.pro_dir.proofs.Table.{only}

@@ -1,5 +1,5 @@
 -- Small numbers in signed types.
-use Rattle.std.proofs.Common.{◌≡◌, ◌<◌, ◌≤◌, ◌+◌, ◌*◌, ◌/◌, ◌%◌, ◌^◌, [], ◌∷◌, ℕ, ℤ, pos, sym, subst, arith, FitsSigned, w8, w16}
+use Rattle.std.proofs.Common.{◌≡◌, ◌<◌, ◌+◌, ◌*◌, ◌/◌, ◌%◌, ◌^◌, [], ◌∷◌, ℕ, ℤ, pos, sym, subst, arith, FitsSigned, w8, w16}
 use Rattle.std.specs.Int.{IsInRange}
 use Rattle.std.proofs.lemmas.Int.{ints}
 use Rattle.std.proofs.lemmas.Bool.Decides.{nat_tests}

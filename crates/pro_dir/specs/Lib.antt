@@ -6,4 +6,5 @@ pub mod TreeLaws
 pub mod Volume
 pub mod VolumeLaws
 pub mod Listed
+pub mod Within
 pub mod Walk

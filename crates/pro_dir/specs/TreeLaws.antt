@@ -1,6 +1,6 @@
 -- Laws of the tree of directories.
-use Rattle.std.specs.Prelude.{◌≡◌, ◌≢◌, ◌⊎◌, ◌<◌, ◌≤◌, ℕ, ◌+◌, Bool, true, false, List, [], ◌∷◌, ◌++◌, length, AllPairs, Contains}
-use Rattle.std.proofs.Common.{refl, sym, ◌∙◌, ap, arith, subst, inl, inr, ⊎_elim, get_or, length-append, append-nil, append_assoc}
+use Rattle.std.specs.Prelude.{◌≡◌, ◌≢◌, ℕ, Bool, true, false, List, [], ◌∷◌, ◌++◌, length, AllPairs, Contains}
+use Rattle.std.proofs.Common.{refl, sym, ◌∙◌, ap, arith, subst, ⊎_elim, length-append, append-nil, append_assoc}
 use Rattle.std.proofs.lemmas.List.{get_or_append_left}
 use Rattle.std.proofs.Math.Seq.{get_or-append_seam}
 use Rattle.a2_device.specs.Device.{unit_at}
@@ -8,7 +8,7 @@ use Rattle.a2_device.specs.declared.fault.Fault.{Fault}
 use Rattle.a2_device.specs.declared.fault.Fault.TheVariants.{Geometry, DirLink}
 use Rattle.pro_dir.specs.declared.entry.Entry.{Entry}
 use Rattle.pro_dir.specs.Entry.{entries_in, is_directory, key_of}
-use Rattle.pro_dir.specs.Tree.{CanLink, HasSizes, Leads, IsRun, IsDirectory, HasBlocks, Lists, IsListed, IsTree, HasBadLink, SubdirectoryFaultAt, IsCutOff, TreeFaultAt, next_of}
+use Rattle.pro_dir.specs.Tree.{CanLink, Leads, IsRun, IsDirectory, HasBlocks, Lists, IsListed, IsTree, HasBadLink, SubdirectoryFaultAt, IsCutOff, TreeFaultAt, next_of}
 
 -- one link further
 pub leads_on : (store : List (List ℕ)) (from : ℕ) (blocks : List ℕ) (last next : ℕ) → Leads store from blocks last

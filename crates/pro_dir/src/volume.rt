@@ -1,5 +1,5 @@
 // The header, the directories and the map's pointer of a volume.
-ghost use Rattle.std.specs.Prelude.{◌≡◌, ◌≤◌, ◌<◌, ◌+◌, ◌↔◌, ℕ, List, false, slice_get, IfOk, IfErr, IsTrue};
+ghost use Rattle.std.specs.Prelude.{◌≡◌, ◌≤◌, ◌<◌, ◌+◌, ◌↔◌, ℕ, List, false, length, slice_get, IfOk, IfErr, IsTrue};
 ghost use Rattle.a2_device.specs.Device.{OnlyReads, unit_at};
 ghost use Rattle.a2_device.specs.Reading.{met_device};
 ghost use Rattle.a2_device.specs.declared.fault.Fault.{Fault};
@@ -36,7 +36,8 @@ struct Header {
 impl Header {
     // The header in block 2.
     fn of(unit: &[u8; BLOCK_BYTES]) -> Header
-        ensures { result.bytes ≡ slot_bytes unit.now 0 }
+        ensures bytes { result.bytes ≡ slot_bytes unit.now 0 }
+        ensures size { length result.bytes ≡ 39 }
     {
         let bytes = Entry::at(VOLUME_KEY, VOLUME_KEY, unit, 0).bytes;
         Header { bytes }
@@ -52,7 +53,8 @@ impl Header {
 
     // The total of blocks.
     fn total(&self) -> u32
-        ensures { result ≡ total_blocks self.now.bytes }
+        ensures value { result ≡ total_blocks self.now.bytes }
+        ensures within { result < 65536 }
     {
         LittleEndian::read_u16(&self.bytes[TOTAL..]) as u32
     }
@@ -70,7 +72,8 @@ pub struct VolumeDir<A: Allocator = Global> {
 
 // Whether block 2 has the header of a volume of so many blocks.
 fn has_geometry(unit: &[u8; BLOCK_BYTES], header: &Header, places: u32) -> bool
-    ensures { IsTrue result ↔ (HasKind 15 unit.now × HasSizes unit.now × (total_blocks header.now.bytes ≡ places)) }
+    ensures value { IsTrue result ↔ (HasKind 15 unit.now × HasSizes unit.now × (total_blocks header.now.bytes ≡ places)) }
+    ensures low { IsTrue result → places < 65536 }
 {
     has_kind(unit, VOLUME) && has_sizes(unit) && header.total() == places
 }
@@ -92,6 +95,7 @@ fn has_map<A: Allocator>(tree: &Tree<A>, first: u32, places: u32) -> bool
 
 impl<A: Allocator> VolumeDir<A> {
     ghost use Rattle.pro_dir.specs.Listed.{directory_of, free_slot_of};
+    ghost use Rattle.pro_dir.specs.Within.{IsWithin};
 
     /// Walks over the directories of a volume.
     ///
@@ -107,6 +111,7 @@ impl<A: Allocator> VolumeDir<A> {
         requires places { 16 ≤ (D.state device.old).places }
 
         ensures device { OnlyReads (met_device result) (D.state device.old) (D.state device.new) }
+        ensures within { IfOk result (λ volume. IsWithin (D.state device.old).places (directory_of volume)) }
         ensures described { IsTrue (D.state device.old).honest → IfOk result (λ volume. Describes (D.state device.old).store (directory_of volume)) }
         ensures free { IsTrue (D.state device.old).honest → IfOk result (λ volume. (key : ℕ) (own : List ℕ) → IsKeyOf (directory_of volume).entries key
             → IsRun (D.state device.old).store key own → free_slot_of volume key ≡ slice_get (free_slots_in (D.state device.old).store key own) 0) }

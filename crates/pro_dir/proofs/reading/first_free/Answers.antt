@@ -1,4 +1,4 @@
-use Rattle.std.proofs.Common.{◌≡◌, ◌∙◌, ℕ, Bool, ap, sym}
+use Rattle.std.proofs.Common.{◌∙◌, ℕ, Bool, ap, sym}
 use Rattle.std.specs.Prelude.{option_map}
 use Rattle.pro_dir.specs.Entry.{entry_at, is_inactive}
 use Rattle.pro_dir.specs.Walk.{first_free_of}

@@ -1,4 +1,4 @@
-use Rattle.std.proofs.Common.{◌≡◌, ◌≤◌, ◌+◌, refl, arith}
+use Rattle.std.proofs.Common.{◌≤◌, ◌+◌, refl, arith}
 use Rattle.pro_dir.specs.Volume.{map_blocks}
 use Rattle.pro_dir.proofs.volume.has_map.Goals as goal
 

@@ -1,4 +1,4 @@
-use Rattle.std.proofs.Common.{◌≡◌, ◌∙◌, ◌*◌, ◌+◌, List, ℕ, ap, arith, FitsSigned, w16, get_or}
+use Rattle.std.proofs.Common.{◌*◌, ◌+◌, List, ℕ, ap, arith, FitsSigned, w16, get_or}
 use Rattle.std.proofs.lemmas.Int.{ints, to_z-of_z}
 use Rattle.pro_dir.proofs.Small.{moment_of}
 use Rattle.pro_dir.proofs.date.ProDate.from_civil.Goals as goal

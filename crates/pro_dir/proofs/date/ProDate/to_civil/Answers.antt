@@ -1,7 +1,6 @@
-use Rattle.std.proofs.Common.{◌≡◌, ◌∙◌, ◌<◌, ◌/◌, ◌%◌, ℕ, pos, sym, ap, refl, true, false, arith, rules, is_some, FitsSigned, w8, w16, slice_index}
+use Rattle.std.proofs.Common.{◌≡◌, ◌∙◌, ◌<◌, ◌/◌, ◌%◌, ℕ, pos, sym, ap, arith, rules, FitsSigned, w8, w16, slice_index}
 use Rattle.std.proofs.lemmas.Int.{to_z-of_z}
-use Rattle.jiff.specs.Words.{IsDate, IsTime}
-use Rattle.pro_dir.specs.Dates.{IsMoment, year_bits, month_bits, day_bits, full_year}
+use Rattle.pro_dir.specs.Dates.{year_bits, full_year}
 use Rattle.pro_dir.specs.Entry.{word}
 use Rattle.pro_dir.proofs.Small.{fits8, fits16, full_year_low}
 use Rattle.pro_dir.proofs.date.ProDate.to_civil.Goals as goal

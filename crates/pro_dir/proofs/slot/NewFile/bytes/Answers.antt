@@ -1,5 +1,5 @@
-use Rattle.std.proofs.Common.{◌≡◌, ◌+◌, ◌*◌, ◌++◌, ◌/◌, List, [], ◌∷◌, ℕ, refl, sym, ◌∙◌, ap, arith, append_assoc, append-nil}
-use Rattle.pro_dir.specs.Writes.{entry_bytes, word_bytes, long_bytes, padded}
+use Rattle.std.proofs.Common.{◌+◌, ◌*◌, ◌++◌, List, [], ◌∷◌, ℕ, refl, ◌∙◌, ap, arith, append-nil}
+use Rattle.pro_dir.specs.Writes.{word_bytes, long_bytes}
 use Rattle.pro_dir.proofs.Written.{IsFilled, put_next, set_next, zeros_next, joined}
 use Rattle.pro_dir.proofs.slot.NewFile.bytes.Goals as goal
 

@@ -1,4 +1,4 @@
-use Rattle.std.proofs.Common.{◌≡◌, ◌≢◌, ◌<◌, ◌≤◌, ◌++◌, List, [], ◌∷◌, ℕ, refl, sym, ◌∙◌, ap, subst, arith, false, true}
+use Rattle.std.proofs.Common.{◌≡◌, ◌<◌, ◌++◌, ℕ, refl, sym, ◌∙◌, ap, subst, arith, false, true}
 use Rattle.std.specs.Prelude.{IsTrue}
 use Rattle.std.specs.Option.{option_or}
 use Rattle.std.proofs.lemmas.Result.{err_from_is_err_and}
@@ -6,9 +6,9 @@ use Rattle.a2_device.specs.Device.{DeviceState, unit_at}
 use Rattle.a2_device.specs.Reading.{then_reads}
 use Rattle.a2_device.specs.declared.fault.Fault.TheVariants.{DirLink}
 use Rattle.pro_dir.specs.Entry.{entries_of}
-use Rattle.pro_dir.specs.Tree.{HasBadLink, next_of}
-use Rattle.pro_dir.specs.Walk.{IsTable, IsFollowing, is_met, work, first_free_of}
-use Rattle.pro_dir.proofs.Table.{tabled_on, work-less, count_by-set}
+use Rattle.pro_dir.specs.Tree.{HasBadLink}
+use Rattle.pro_dir.specs.Walk.{first_free_of}
+use Rattle.pro_dir.proofs.Table.{tabled_on, work-less}
 use Rattle.pro_dir.proofs.Following.{followed_on, bad_link, read_out}
 use Rattle.pro_dir.proofs.tree.Tree.follow.Goals as goal
 
@@ -46,6 +46,7 @@ loop-next-preserved g c =
         work-less start.places now.self.met.items c.read.new.self.met.items now.reading.entries.items c.read.new.reading.entries.items c.args.reading.now.key now.next c.read.new.unit
             now.invariant.table.size below new.2 read.met inside,
       );
+      within = λ first. read.within start.places below (now.invariant.within first);
       key = read.key ∙ named;
       following = λ honest before following.
           let still = subst IsTrue (sym now.invariant.device.same.honest) honest in

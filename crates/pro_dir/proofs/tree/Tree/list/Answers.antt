@@ -1,9 +1,11 @@
-use Rattle.std.proofs.Common.{◌≡◌, ◌++◌, List, [], ◌∷◌, ℕ, refl, sym, ◌∙◌, ap, subst, true, false, Vec}
-use Rattle.std.specs.Prelude.{IsTrue, reverse}
+use Rattle.std.proofs.Common.{◌≡◌, ◌++◌, [], ◌∷◌, ℕ, sym, ◌∙◌, ap, subst, true, false, Vec}
+use Rattle.std.specs.Prelude.{All, reverse}
 use Rattle.pro_dir.specs.declared.entry.Entry.{Entry}
 use Rattle.pro_dir.specs.declared.reading.FreeSlot.{FreeSlot}
 use Rattle.pro_dir.specs.Entry.{is_directory, key_of}
 use Rattle.pro_dir.specs.Walk.{IsReadOut, IsTable, kept_slots}
+use Rattle.pro_dir.specs.Within.{IsInSlot}
+use Rattle.pro_dir.proofs.Within.{waits_within}
 use Rattle.pro_dir.proofs.Listing.{file_listed, directory_listed}
 use Rattle.pro_dir.proofs.tree.Tree.list.Goals as goal
 
@@ -41,3 +43,19 @@ returns-clause-listed g c = λ honest so.
     ∙ ap (λ (key : ℕ). old.free.items ++ kept_slots key reading.free) opened.key in
     directory_listed start.store start.places c.open.new.self.met.items old.blocks.items new.blocks.items old.entries.items new.entries.items old.pending.items new.pending.items reading.entries.items
     c.args.entry old.free.items new.free.items reading.free so directory table out found.1 found.2 entries pending free
+
+pub returns-clause-entries : goal.returns-clause-entries
+returns-clause-entries g c =
+    ap (λ (v : Vec Entry _). v.items) c.in_ok-wait.ensures.same.2 ∙ ap (λ (v : Vec Entry _). v.items) c.in_ok-reading.ensures.same.0 ∙ c.in_ok-add.ensures.entries
+
+pub returns-then-not-is_directory-clause-within : goal.returns-then-not-is_directory-clause-within
+returns-then-not-is_directory-clause-within g c = λ old.
+    subst (λ (v : Vec Entry _). All (IsInSlot (g.D.Device.state c.args.device.now).places) v.items) (sym c.in_ok-add.ensures.same.2) old
+
+pub returns-clause-within : goal.returns-clause-within
+returns-clause-within g c = λ old.
+    let reading = c.in_ok-reading.reading in
+    let opened = c.in_ok-reading.ensures in
+    let pending : c.wait.new.self.pending.items ≡ c.args.self.now.pending.items ++ reverse reading.entries.items =
+    c.in_ok-wait.ensures.pending ∙ ap (λ (v : Vec Entry _). v.items ++ reverse reading.entries.items) (opened.same.1 ∙ c.in_ok-add.ensures.same.2) in
+    waits_within (g.D.Device.state c.args.device.now).places c.args.self.now.pending.items c.wait.new.self.pending.items reading.entries.items pending old opened.within

@@ -1,5 +1,5 @@
-use Rattle.std.proofs.Common.{◌≡◌, ◌++◌, [], ◌∷◌, refl, sym, ◌∙◌, subst, false}
-use Rattle.std.specs.Prelude.{IsTrue, reverse}
+use Rattle.std.proofs.Common.{◌≡◌, ◌∷◌, refl, sym, subst, arith, false}
+use Rattle.std.specs.Prelude.{All, IsTrue, reverse}
 use Rattle.std.proofs.lemmas.Result.{err_from_is_err_and}
 use Rattle.a2_device.specs.Device.{DeviceState}
 use Rattle.a2_device.specs.Reading.{then_reads}
@@ -7,6 +7,8 @@ use Rattle.a2_device.specs.declared.fault.Fault.{Fault}
 use Rattle.a2_device.specs.declared.fault.WalkError.TheVariants.{Fault as AFault}
 use Rattle.pro_dir.specs.Tree.{IsCutOff}
 use Rattle.pro_dir.specs.Walk.{IsTable, IsListing}
+use Rattle.pro_dir.specs.Within.{IsInSlot}
+use Rattle.pro_dir.proofs.Within.{last_within, listed_within, one_listed}
 use Rattle.pro_dir.proofs.Listing.{next_listed}
 use Rattle.pro_dir.proofs.Following.{refused_so}
 use Rattle.pro_dir.proofs.tree.Tree.list_all.Goals as goal
@@ -21,6 +23,19 @@ loop-entry-preserved g c =
     record {
       device = then_reads false start mid (g.D.Device.state c.list.new.device) before.device next.device;
       table = subst (λ n. IsTable n c.list.new.self.met.items c.list.new.self.blocks.items) before.device.same.places next.table;
+      within = λ listed waiting.
+          let old = before.within listed waiting in
+          let split = last_within start.places now.pending.items c.pop.new.self.items c.in-Some.entry c.in-Some.ensures.items old.1 in
+          let more = next.within (subst (λ n. All (IsInSlot n) c.pop.new.self.items) (sym before.device.same.places) split.0) in (
+            listed_within start.places now.entries.items c.list.new.self.entries.items c.in-Some.entry next.entries old.0 split.1,
+            subst (λ n. All (IsInSlot n) c.list.new.self.pending.items) before.device.same.places more,
+          );
+      few = omega (
+        arith,
+        before.few,
+        one_listed now.met.items c.list.new.self.met.items now.entries.items c.list.new.self.entries.items now.pending.items c.pop.new.self.items c.list.new.self.pending.items c.in-Some.entry
+            next.entries c.in-Some.ensures.items next.work,
+      );
       listed = λ honest first.
           let still : IsTrue mid.honest = subst IsTrue (sym before.device.same.honest) honest in
           let same : mid ≡ start = before.device.kept honest refl in

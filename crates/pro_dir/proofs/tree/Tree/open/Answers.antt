@@ -1,14 +1,15 @@
-use Rattle.std.proofs.Common.{◌≡◌, ◌≢◌, ◌<◌, ◌≤◌, ◌++◌, List, [], ◌∷◌, ℕ, refl, sym, ◌∙◌, ap, subst, arith, false, true, length, inl, inr}
-use Rattle.std.specs.Prelude.{IsTrue}
-use Rattle.std.specs.Option.{option_or}
+use Rattle.std.proofs.Common.{◌≡◌, ◌<◌, List, ℕ, refl, sym, ◌∙◌, ap, subst, arith, length, inr}
+use Rattle.std.specs.Prelude.{All, IsTrue}
 use Rattle.a2_device.specs.Reading.{then_reads}
+use Rattle.std.proofs.lemmas.List.Elements.{All-nil}
 use Rattle.std.proofs.lemmas.Result.{err_from_is_err_and}
 use Rattle.a2_device.specs.Device.{DeviceState, unit_at}
 use Rattle.a2_device.specs.declared.fault.Fault.{Fault}
 use Rattle.a2_device.specs.declared.fault.WalkError.TheVariants.{Fault as AFault}
-use Rattle.pro_dir.specs.Entry.{entries_of, key_of}
+use Rattle.pro_dir.specs.Entry.{key_of}
 use Rattle.pro_dir.specs.Tree.{CanLink, HasBadLink, HasKind, HasSizes, SubdirectoryFaultAt}
-use Rattle.pro_dir.specs.Walk.{IsTable, IsFollowing, IsReadOut, is_met, work, first_free_of}
+use Rattle.pro_dir.specs.Walk.{IsTable, IsFollowing, IsReadOut}
+use Rattle.pro_dir.specs.Within.{IsInSlot}
 use Rattle.pro_dir.proofs.Table.{tabled_on, work-less}
 use Rattle.pro_dir.proofs.Following.{opened, refused_so}
 use Rattle.pro_dir.proofs.tree.Tree.open.Goals as goal
@@ -96,3 +97,14 @@ pub returns-in_err-follow-clause-device : goal.returns-in_err-follow-clause-devi
 returns-in_err-follow-clause-device g c =
     let given = err_from_is_err_and c.from_residual-in_err-follow.result c.from_residual-in_err-follow.ensures.1 in
     rw (given.1, given.2) (then_reads _ (g.D.Device.state c.args.device.now) (g.D.Device.state c.read.new.device) (g.D.Device.state c.follow.new.device) c.in_ok-read.ensures.device c.in_err-follow.ensures.device)
+
+pub returns-clause-within : goal.returns-clause-within
+returns-clause-within g c =
+    let start = g.D.Device.state c.args.device.now in
+    let read = c.in_ok-read.ensures in
+    let new = c.if-not-is_new.ensures.0 refl in
+    let below : c.key-key.result < start.places = omega (arith, new.1, c.places.ensures) in
+    let none : All (IsInSlot start.places) c.new-reading.result.entries.items =
+    subst (All (IsInSlot start.places)) (sym c.new-reading.ensures.entries) (All-nil (IsInSlot start.places)) in
+    subst (λ n. All (IsInSlot n) c.follow.new.reading.entries.items) read.device.same.places
+    (c.in_ok-follow.ensures.within (subst (λ n. All (IsInSlot n) c.read.new.reading.entries.items) (sym read.device.same.places) (read.within start.places below none)))

@@ -1,13 +1,16 @@
-use Rattle.std.proofs.Common.{◌≡◌, ◌++◌, ◌<◌, List, [], ◌∷◌, ℕ, None, refl, sym, ◌∙◌, ap, subst, arith, Vec, length, replicate, false}
-use Rattle.std.specs.Prelude.{IsTrue, reverse}
-use Rattle.a2_device.specs.Device.{DeviceState, unit_at}
+use Rattle.std.proofs.Common.{◌≡◌, ◌++◌, ◌+◌, ◌*◌, ◌≤◌, Bool, List, [], ℕ, refl, sym, ◌∙◌, ap, subst, arith, Vec, length, replicate, false}
+use Rattle.std.specs.Prelude.{All}
+use Rattle.std.proofs.lemmas.List.Elements.{All-nil}
+use Rattle.a2_device.specs.Device.{unit_at}
 use Rattle.a2_device.specs.declared.fault.Fault.{Fault}
 use Rattle.a2_device.specs.declared.fault.Fault.TheVariants.{DirLink}
 use Rattle.a2_device.specs.declared.fault.WalkError.TheVariants.{Fault as AFault}
 use Rattle.pro_dir.specs.declared.entry.Entry.{Entry}
 use Rattle.pro_dir.specs.declared.reading.FreeSlot.{FreeSlot}
 use Rattle.pro_dir.specs.Tree.{HasBadLink, HasKind, HasSizes}
-use Rattle.pro_dir.specs.Walk.{IsFollowing, IsReadOut, IsTable, IsVolumeKey, kept_slots}
+use Rattle.pro_dir.specs.Walk.{IsReadOut, kept_slots, work}
+use Rattle.pro_dir.specs.Within.{IsInSlot}
+use Rattle.pro_dir.proofs.Within.{first_work, waits_within}
 use Rattle.pro_dir.proofs.Table.{tabled_none, tabled_on, unmet_none}
 use Rattle.pro_dir.proofs.Following.{volume_opened, refused_so}
 use Rattle.pro_dir.proofs.Listing.{volume_listed}
@@ -62,3 +65,38 @@ returns-clause-listed g c = λ honest key.
     wait.free ∙ ap (λ (k : ℕ). c.follow.new.self.free.items ++ kept_slots k reading.free) (follow.key ∙ named) in
     volume_listed store new.blocks.items [] new.entries.items c.follow.new.self.pending.items new.pending.items reading.entries.items c.follow.new.self.free.items new.free.items reading.free
     (there (HasKind 15) key.kind_is) (there HasSizes key.sizes) out refl entries pending free wait.pending kept
+
+pub returns-clause-within : goal.returns-clause-within
+returns-clause-within g c =
+    let places = (g.D.Device.state c.args.device.now).places in
+    let lists = c.in_ok-tree.ensures.lists in
+    let take = c.in_ok-take.ensures in
+    let follow = c.in_ok-follow.ensures in
+    let wait = c.in_ok-wait.ensures in
+    let new = c.wait.new.self in
+    let none = All-nil (IsInSlot places) in
+    let entries : new.entries.items ≡ [] =
+    ap (λ (v : Vec Entry _). v.items) wait.same.2 ∙ ap (λ (v : Vec Entry _). v.items) follow.same.0 ∙ ap (λ (v : Vec Entry _). v.items) take.same.0 ∙ lists.1 in
+    let pending : c.follow.new.self.pending.items ≡ [] = ap (λ (v : Vec Entry _). v.items) follow.same.1 ∙ ap (λ (v : Vec Entry _). v.items) take.same.1 ∙ lists.2 in
+    let inside = follow.within (take.within places c.requires.places (subst (All (IsInSlot places)) (sym c.new-reading.ensures.entries) none)) in (
+      subst (All (IsInSlot places)) (sym entries) none,
+      waits_within places c.follow.new.self.pending.items new.pending.items c.follow.new.reading.entries.items wait.pending (subst (All (IsInSlot places)) (sym pending) none) inside,
+    )
+
+pub returns-clause-few : goal.returns-clause-few
+returns-clause-few g c =
+    let places = (g.D.Device.state c.args.device.now).places in
+    let tree = c.in_ok-tree.tree in
+    let lists = c.in_ok-tree.ensures.lists in
+    let take = c.in_ok-take.ensures in
+    let follow = c.in_ok-follow.ensures in
+    let wait = c.in_ok-wait.ensures in
+    let new = c.wait.new.self in
+    let met = subst (λ n. tree.met.items ≡ replicate n false) c.places.ensures c.in_ok-tree.ensures.met in
+    let entries : new.entries.items ≡ [] =
+    ap (λ (v : Vec Entry _). v.items) wait.same.2 ∙ ap (λ (v : Vec Entry _). v.items) follow.same.0 ∙ ap (λ (v : Vec Entry _). v.items) take.same.0 ∙ lists.1 in
+    let pending : c.follow.new.self.pending.items ≡ [] = ap (λ (v : Vec Entry _). v.items) follow.same.1 ∙ ap (λ (v : Vec Entry _). v.items) take.same.1 ∙ lists.2 in
+    let marks : new.met.items ≡ c.follow.new.self.met.items = ap (λ (v : Vec Bool _). v.items) wait.same.1 in
+    subst (λ ms. length new.entries.items + work ms new.pending.items ≤ 14 * places) (sym marks)
+    (first_work places tree.met.items c.take.new.self.met.items c.follow.new.self.met.items c.new-reading.result.entries.items c.take.new.reading.entries.items c.follow.new.reading.entries.items
+    c.follow.new.self.pending.items new.pending.items new.entries.items c.new-reading.result.key c.args.unit.now met c.requires.places c.new-reading.ensures.entries take.met take.inside follow.work pending wait.pending entries)

@@ -1,4 +1,3 @@
-use Rattle.std.proofs.Common.{rules}
 use Rattle.std.proofs.lemmas.Result.{err_from_is_err_and}
 use Rattle.a2_device.specs.Reading.{then_reads}
 use Rattle.pro_dir.proofs.tree.Tree.walk.Goals as goal

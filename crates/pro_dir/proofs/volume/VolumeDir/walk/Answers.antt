@@ -1,18 +1,20 @@
-use Rattle.std.proofs.Common.{◌≡◌, ◌<◌, List, [], ℕ, refl, sym, ◌∙◌, ap, subst, arith, true, false, inl, inr, length}
-use Rattle.std.specs.Prelude.{IsTrue, is_err}
+use Rattle.std.proofs.Common.{◌≡◌, [], refl, sym, ◌∙◌, subst, true, false, inl, inr, length}
+use Rattle.std.specs.Prelude.{IsTrue, is_err, All, ◌*◌, ◌≤◌}
 use Rattle.std.proofs.lemmas.Result.{err_from_is_err_and}
-use Rattle.a2_device.specs.Device.{DeviceState, OnlyReads, unit_at}
+use Rattle.a2_device.specs.Device.{DeviceState, OnlyReads}
 use Rattle.a2_device.specs.declared.fault.Fault.{Fault}
 use Rattle.a2_device.specs.declared.fault.Fault.TheVariants.{Geometry, MapPointer}
 use Rattle.a2_device.specs.declared.fault.WalkError.TheVariants.{Fault as AFault}
 use Rattle.a2_device.specs.Reading.{then_reads}
 use Rattle.a2_device.proofs.Results.{at_ok}
 use Rattle.pro_dir.specs.Tree.{TreeFaultAt}
-use Rattle.pro_dir.specs.Volume.{Directory, Describes, HasBadMap, HasGeometry, VolumeFaultAt}
+use Rattle.pro_dir.specs.Volume.{Directory, Describes, VolumeFaultAt}
 use Rattle.pro_dir.specs.VolumeLaws.{no_directory}
 use Rattle.pro_dir.specs.Walk.{IsListing, IsTable, IsVolumeKey}
-use Rattle.pro_dir.proofs.Described.{volume_key, has_geometry, no_geometry, bad_map, described, AreNew}
+use Rattle.pro_dir.specs.Within.{IsInSlot, IsWithin}
+use Rattle.pro_dir.proofs.Described.{volume_key, has_geometry, no_geometry, bad_map, described}
 use Rattle.pro_dir.proofs.Following.{refused_so}
+use Rattle.pro_dir.proofs.Within.{volume_within}
 use Rattle.pro_dir.proofs.volume.VolumeDir.walk.Goals as goal
 
 pub returns-in_err-tree-clause-refused : goal.returns-in_err-tree-clause-refused
@@ -24,13 +26,13 @@ returns-in_err-tree-clause-refused g c = λ honest.
     let went : is_err c.read.result ≡ false = sym c.is_err.ensures.value ∙ c.if-is_err.false in
     let same : mid ≡ start = only.kept honest went in
     let still : IsTrue mid.honest = subst IsTrue (sym only.same.honest) honest in
-    let has = c.if-not-has_geometry.ensures.0 refl in
+    let has = c.if-not-has_geometry.ensures.value.0 refl in
     let places : c.places-places.result ≡ length start.store = c.places-places.ensures ∙ only.same.places ∙ sym whole.all in
     let key = volume_key start.store c.read.new.unit (at_ok c.read.result went (c.read.ensures.read honest)) has.0 has.1 in
     let mid_key = subst (λ (d : DeviceState). IsVolumeKey d.store c.read.new.unit) (sym same) key in
     let told : (fault : Fault) → c.in_err-tree.field-0.0 ≡ AFault fault → VolumeFaultAt start.store fault × ((directory : Directory) → ¬ Describes start.store directory) = λ fault is.
     let tree : TreeFaultAt start.store fault = subst (λ (d : DeviceState). TreeFaultAt d.store fault) same (c.in_err-tree.ensures.refused still mid_key fault is) in
-    let bad = inr (inl (has_geometry start.store c.read.new.unit c.of-header.result.bytes c.places-places.result key c.of-header.ensures has.2 places, tree)) in
+    let bad = inr (inl (has_geometry start.store c.read.new.unit c.of-header.result.bytes c.places-places.result key c.of-header.ensures.bytes has.2 places, tree)) in
     (bad, λ directory. no_directory start.store fault directory bad) in
     refused_so c.from_residual.result c.in_err-tree.field-0.0 _ c.from_residual.ensures.1 told
 
@@ -43,7 +45,7 @@ returns-then-not-has_map-clause-refused g c = λ honest fault told.
     let went : is_err c.read.result ≡ false = sym c.is_err.ensures.value ∙ c.if-is_err.false in
     let same : mid ≡ start = only.kept honest went in
     let still : IsTrue mid.honest = subst IsTrue (sym only.same.honest) honest in
-    let has = c.if-not-has_geometry.ensures.0 refl in
+    let has = c.if-not-has_geometry.ensures.value.0 refl in
     let places : c.places-places.result ≡ length start.store = c.places-places.ensures ∙ only.same.places ∙ sym whole.all in
     let key = volume_key start.store c.read.new.unit (at_ok c.read.result went (c.read.ensures.read honest)) has.0 has.1 in
     let mid_key = subst (λ (d : DeviceState). IsVolumeKey d.store c.read.new.unit) (sym same) key in
@@ -51,9 +53,9 @@ returns-then-not-has_map-clause-refused g c = λ honest fault told.
     let listing = subst (λ (d : DeviceState). IsListing d.store tree.blocks.items tree.entries.items [] tree.free.items) same (c.in_ok-tree.ensures.listed still mid_key) in
     let table = subst (λ n. IsTable n tree.met.items tree.blocks.items) (sym c.places-places.ensures) c.in_ok-tree.ensures.table in
     let map = bad_map start.store c.places-places.result c.bitmap.result c.read.new.unit c.of-header.result.bytes tree.met.items tree.blocks.items tree.entries.items tree.free.items
-    places key c.of-header.ensures c.bitmap.ensures.value table listing (λ new. let no_way : false ≡ true = c.if-not-has_map.ensures.1 new in cc) in
+    places key c.of-header.ensures.bytes c.bitmap.ensures.value table listing (λ new. let no_way : false ≡ true = c.if-not-has_map.ensures.1 new in cc) in
     let is : fault ≡ MapPointer 2 = cc in
-    let bad = inr (inr (is, has_geometry start.store c.read.new.unit c.of-header.result.bytes c.places-places.result key c.of-header.ensures has.2 places, map)) in
+    let bad = inr (inr (is, has_geometry start.store c.read.new.unit c.of-header.result.bytes c.places-places.result key c.of-header.ensures.bytes has.2 places, map)) in
     (bad, λ directory. no_directory start.store fault directory bad)
 
 pub returns-clause-described : goal.returns-clause-described
@@ -65,7 +67,7 @@ returns-clause-described g c = λ honest.
     let went : is_err c.read.result ≡ false = sym c.is_err.ensures.value ∙ c.if-is_err.false in
     let same : mid ≡ start = only.kept honest went in
     let still : IsTrue mid.honest = subst IsTrue (sym only.same.honest) honest in
-    let has = c.if-not-has_geometry.ensures.0 refl in
+    let has = c.if-not-has_geometry.ensures.value.0 refl in
     let places : c.places-places.result ≡ length start.store = c.places-places.ensures ∙ only.same.places ∙ sym whole.all in
     let key = volume_key start.store c.read.new.unit (at_ok c.read.result went (c.read.ensures.read honest)) has.0 has.1 in
     let mid_key = subst (λ (d : DeviceState). IsVolumeKey d.store c.read.new.unit) (sym same) key in
@@ -73,7 +75,7 @@ returns-clause-described g c = λ honest.
     let listing = subst (λ (d : DeviceState). IsListing d.store tree.blocks.items tree.entries.items [] tree.free.items) same (c.in_ok-tree.ensures.listed still mid_key) in
     let table = subst (λ n. IsTable n tree.met.items tree.blocks.items) (sym c.places-places.ensures) c.in_ok-tree.ensures.table in
     described start.store c.places-places.result c.bitmap.result c.read.new.unit c.of-header.result.bytes tree.met.items tree.blocks.items tree.entries.items tree.free.items
-    places key c.of-header.ensures has.2 c.bitmap.ensures.value table listing (c.if-not-has_map.ensures.0 refl)
+    places key c.of-header.ensures.bytes has.2 c.bitmap.ensures.value table listing (c.if-not-has_map.ensures.0 refl)
 
 pub returns-then-not-has_geometry-clause-refused : goal.returns-then-not-has_geometry-clause-refused
 returns-then-not-has_geometry-clause-refused g c = λ honest fault told.
@@ -82,8 +84,8 @@ returns-then-not-has_geometry-clause-refused g c = λ honest fault told.
     let whole = g.met.D.Device.whole c.args.device.now honest in
     let went : is_err c.read.result ≡ false = sym c.is_err.ensures.value ∙ c.if-is_err.false in
     let places : c.places-places.result ≡ length start.store = c.places-places.ensures ∙ only.same.places ∙ sym whole.all in
-    let none = no_geometry start.store c.read.new.unit c.of-header.result.bytes c.places-places.result (at_ok c.read.result went (c.read.ensures.read honest)) c.of-header.ensures places
-    (λ has. let no_way : false ≡ true = c.if-not-has_geometry.ensures.1 has in cc) in
+    let none = no_geometry start.store c.read.new.unit c.of-header.result.bytes c.places-places.result (at_ok c.read.result went (c.read.ensures.read honest)) c.of-header.ensures.bytes places
+    (λ has. let no_way : false ≡ true = c.if-not-has_geometry.ensures.value.1 has in cc) in
     let is : fault ≡ Geometry 2 = cc in
     let bad = inl (is, none) in
     (bad, λ directory. no_directory start.store fault directory bad)
@@ -97,7 +99,7 @@ returns-clause-free g c = λ honest key_block own is run.
     let went : is_err c.read.result ≡ false = sym c.is_err.ensures.value ∙ c.if-is_err.false in
     let same : mid ≡ start = only.kept honest went in
     let still : IsTrue mid.honest = subst IsTrue (sym only.same.honest) honest in
-    let has = c.if-not-has_geometry.ensures.0 refl in
+    let has = c.if-not-has_geometry.ensures.value.0 refl in
     let places : c.places-places.result ≡ length start.store = c.places-places.ensures ∙ only.same.places ∙ sym whole.all in
     let key = volume_key start.store c.read.new.unit (at_ok c.read.result went (c.read.ensures.read honest)) has.0 has.1 in
     let mid_key = subst (λ (d : DeviceState). IsVolumeKey d.store c.read.new.unit) (sym same) key in
@@ -111,3 +113,16 @@ returns-in_err-tree-clause-device g c =
     let first = subst (λ failed. OnlyReads failed (g.D.Device.state c.args.device.now) (g.D.Device.state c.read.new.self)) went c.read.ensures.device in
     let given = err_from_is_err_and c.from_residual.result c.from_residual.ensures.1 in
     rw (given.1, given.2) (then_reads _ (g.D.Device.state c.args.device.now) (g.D.Device.state c.read.new.self) (g.D.Device.state c.walk.new.device) first c.in_err-tree.ensures.device)
+
+pub returns-clause-within : goal.returns-clause-within
+returns-clause-within g c =
+    let start = g.D.Device.state c.args.device.now in
+    let all : c.places-places.result ≡ start.places = c.places-places.ensures ∙ c.read.ensures.device.same.places in
+    let has = c.if-not-has_geometry.ensures.value.0 refl in
+    let tree = c.in_ok-tree.tree in
+    let told = c.in_ok-tree.ensures in
+    let back = sym c.places-places.ensures in
+    subst (λ n. IsWithin n (record { header = c.of-header.result.bytes; blocks = tree.blocks.items; entries = tree.entries.items })) all
+    (volume_within c.places-places.result c.bitmap.result c.of-header.result.bytes tree.met.items tree.blocks.items tree.entries.items c.of-header.ensures.size has.2
+    (c.if-not-has_geometry.ensures.low refl) (subst (λ n. IsTable n tree.met.items tree.blocks.items) back told.table) (subst (λ n. All (IsInSlot n) tree.entries.items) back told.within)
+    (subst (λ n. length tree.entries.items ≤ 14 * n) back told.few) c.bitmap.ensures.value (c.if-not-has_map.ensures.0 refl))
