@@ -16,6 +16,7 @@
 #![tactic(auto)]
 
 mod above;
+mod file_walk;
 mod laws;
 mod links;
 mod pointers;
@@ -23,6 +24,7 @@ mod pointers;
 mod tests;
 
 pub use above::part_above;
+pub use file_walk::walk;
 pub use laws::{parts_of_a_file, set_pointer_is_read, set_pointer_keeps_others};
 pub use links::{child, pointer_count, root, slot};
 pub use pointers::{pointer, set_pointer};
