@@ -1,5 +1,5 @@
 // The parts of one file.
-ghost use Rattle.std.specs.Prelude.{◌≡◌, ◌≢◌, ◌⊎◌, ◌<◌, ◌+◌, ◌*◌, ◌++◌, [], ◌∷◌, ℕ, List, Option, Some, true, false, length, OnOk, IfOk, IfErr, IfSome, IsTrue, AllPairs, Contains, slice_set, vec_items, replicate};
+ghost use Rattle.std.specs.Prelude.{◌≡◌, ◌≢◌, ◌<◌, ◌+◌, ◌*◌, ◌++◌, [], ◌∷◌, ℕ, List, true, false, length, OnOk, IfOk, IfErr, IsTrue, AllPairs, Contains, slice_set, vec_items, replicate};
 ghost use Rattle.a2_device.specs.Device.{OnlyReads, unit_at};
 ghost use Rattle.a2_device.specs.Reading.{met_device};
 ghost use Rattle.a2_device.specs.declared.part.Part.{Part};

@@ -13,6 +13,9 @@
 //! what formats are asked for: a part comes before those that it names, all parts below a pointer come before those
 //! below the next, each part has one pointer, and a pointer that is set names its new block alone. Among parts in order,
 //! `part_above` finds the one that names another (`specs/Above.antt`).
+//!
+//! A walk answers exactly the parts of one file, in order, or names what is wrong with it (`specs/Parts.antt`). It reads
+//! alone, each index once and no unit of the body, and keeps a table of the places that it met.
 #![tactic(auto)]
 
 mod above;
@@ -22,6 +25,8 @@ mod links;
 mod pointers;
 #[cfg(test)]
 mod tests;
+#[cfg(test)]
+mod walk_tests;
 
 pub use above::part_above;
 pub use file_walk::walk;
