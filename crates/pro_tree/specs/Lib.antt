@@ -9,5 +9,7 @@ pub mod ContentLaws
 pub mod File
 pub mod FileLaws
 pub mod FileReach
+pub mod Parts
+pub mod Walk
 pub mod Above
 pub mod AboveLaws

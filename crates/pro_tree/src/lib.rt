@@ -13,16 +13,23 @@
 //! what formats are asked for: a part comes before those that it names, all parts below a pointer come before those
 //! below the next, each part has one pointer, and a pointer that is set names its new block alone. Among parts in order,
 //! `part_above` finds the one that names another (`specs/Above.antt`).
+//!
+//! A walk answers exactly the parts of one file, in order, or names what is wrong with it (`specs/Parts.antt`). It reads
+//! alone, each index once and no unit of the body, and keeps a table of the places that it met.
 #![tactic(auto)]
 
 mod above;
+mod file_walk;
 mod laws;
 mod links;
 mod pointers;
 #[cfg(test)]
 mod tests;
+#[cfg(test)]
+mod walk_tests;
 
 pub use above::part_above;
+pub use file_walk::walk;
 pub use laws::{parts_of_a_file, set_pointer_is_read, set_pointer_keeps_others};
 pub use links::{child, pointer_count, root, slot};
 pub use pointers::{pointer, set_pointer};
