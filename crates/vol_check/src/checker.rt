@@ -67,7 +67,7 @@ fn checked<F: Format, A: Allocator + Copy>(
     })
 }
 
-/// Accepts a volume, or tells what is wrong with it. It makes no write, reads the header, the directory and the units of lists and indexes, and
+/// Accepts a volume, or tells what is wrong with it. It makes no write, reads the header, the directory and the unit of each part, and
 /// each of them once.
 ///
 /// # Errors

@@ -1,5 +1,5 @@
 -- What a format must meet.
-use Rattle.std.specs.Prelude.{◌≡◌, ◌≢◌, ◌↔◌, ◌<◌, ◌≤◌, ◌+◌, ℕ, Bool, true, false, List, length, slice_set, AllPairs, Contains}
+use Rattle.std.specs.Prelude.{◌≡◌, ◌≢◌, ◌↔◌, ◌<◌, ◌≤◌, ◌+◌, ◌/◌, ℕ, Bool, true, false, List, length, slice_set, AllPairs, Contains}
 use Rattle.a2_device.specs.Device.{unit_at}
 use Rattle.a2_device.specs.declared.part.Part.{Part}
 use Rattle.a2_device.specs.declared.part.PartKind.TheVariants.{Body}
@@ -31,7 +31,7 @@ pub record IsReadable (format : Meaning) : Type 0 where
   pub all_places : (store : List (List ℕ)) (directory : Directory) → format.Describes store directory → directory.places ≡ length store
 
 -- What is true of a directory that a format reads, of whatever device. An entry that names a part begins a file of its own number; the
--- available places are those that are not the system's, each once, and pointers can name them.
+-- available places are those that are not the system's, each once and in the order of the map's units, and pointers can name them.
 pub record IsDirectory (format : Meaning) (directory : Directory) : Type 0 where
   pub root_place : (file : ℕ) (part : Part) → root_of directory file ≡ To part → part.place < directory.places
   pub root_file : (file : ℕ) (part : Part) → root_of directory file ≡ To part → part.file ≡ file
@@ -43,6 +43,8 @@ pub record IsDirectory (format : Meaning) (directory : Directory) : Type 0 where
   pub available_once : AllPairs (λ place later. place ≢ later) directory.available
   pub available_named : (place : ℕ) → Contains directory.available place → format.CanName directory.places place
   pub few_available : length directory.available ≤ 65536
+  pub available_by_unit : AllPairs (λ place later. place / directory.map_size ≤ later / directory.map_size) directory.available
+  pub map_counted : (place : ℕ) → place < directory.places → place / directory.map_size < length directory.map_units
   pub map_below : (place : ℕ) → place < directory.places → map_place directory place < directory.places
 
 -- What moves ask of a format: a pointer has one slot, names a part whatever the place of its holder, and can be set
@@ -67,11 +69,12 @@ pub record IsMovable (format : Meaning) : Type 0 where
   pub outside : (store : List (List ℕ)) (directory : Directory) (place : ℕ) (unit : List ℕ) → format.Describes store directory → is_system directory place ≡ false
       → format.Describes (slice_set store place unit) directory
 
--- What writes to the system's units ask of a format: the entries and the map stand there, and an entry's pointer and a place's
+-- What writes to the system's units ask of a format: the entries and the map stand there, the map has a mark for each place, and an entry's pointer and a place's
 -- mark can be set alone.
 pub record IsWritable (format : Meaning) : Type 0 where
   pub entry_inside : (store : List (List ℕ)) (directory : Directory) (file : ℕ) → format.Describes store directory → file < entries directory
       → is_system directory (entry_of directory file).place ≡ true
+  pub marks : (store : List (List ℕ)) (directory : Directory) → format.Describes store directory → length directory.free ≡ directory.places
   pub map_inside : (store : List (List ℕ)) (directory : Directory) (place : ℕ) → format.Describes store directory → place < directory.places
       → is_system directory (map_place directory place) ≡ true
   pub turn : (store : List (List ℕ)) (directory : Directory) (file place : ℕ) (part : Part) → format.Describes store directory

@@ -3,6 +3,7 @@ use Rattle.std.specs.Prelude.{◌≡◌, ◌≢◌, ◌↔◌, ◌<◌, ◌≤�
 use Rattle.std.specs.List.{range_with_len}
 use Rattle.std.proofs.Common.{refl, sym, ◌∙◌, ap, arith, subst, get_or, add-zero}
 use Rattle.std.proofs.lemmas.Bool.Decides.{nat_tests}
+use Rattle.std.proofs.lemmas.List.Elements.{Contains-get_or}
 use Rattle.std.proofs.lemmas.List.Kept.{AllPairs-filter}
 use Rattle.std.proofs.lemmas.List.Filters.{length-filter_both}
 use Rattle.std.proofs.lemmas.List.FromFn.{length-map-range_with_len, get_or-map-range_with_len}
@@ -159,9 +160,16 @@ module _ (data_disk : Bool) (reserved : List Bool) where
         available_once = available_once;
         available_named = λ place has. let is = (available_of place).0 has in can_name place is.0 is.1;
         few_available = omega (arith, few_available);
+        available_by_unit = λ i j d less within. omega (arith, first_unit i d (omega (arith, less, within)), first_unit j d within);
+        map_counted = λ place within. omega (arith, within);
         map_below = λ place within. map_here place within;
       }
     where
+      first_unit : (k d : ℕ) → k < length (dos_available data_disk reserved) → get_or (dos_available data_disk reserved) k d / 560 ≡ 0
+      first_unit k d within =
+          let is = (available_of (get_or (dos_available data_disk reserved) k d)).0 (Contains-get_or (dos_available data_disk reserved) k d within) in
+          omega (arith, is.0)
+
       map_here : (place : ℕ) → place < 560 → get_or (272 ∷ []) (place / 560) 0 < 560
       map_here place within =
           let first : place / 560 ≡ 0 = omega arith in

@@ -27,6 +27,10 @@ before_map unit place true byte before =
 before_map unit place false byte before =
     get_or-set_other unit (byte_of_place place) byte (bit_and (slice_index unit (byte_of_place place)) (255 - 2 ^ (place % 8))) 0 (λ e. omega (arith, e, before))
 
+pub length-dos_free : (vtoc : List ℕ) → length (dos_free vtoc) ≡ 560
+unfolding dos_free
+length-dos_free vtoc = length-map-range_with_len (is_free vtoc) 0 560
+
 module _ (vtoc : List ℕ) (place : ℕ) (whole : length vtoc ≡ 256) (within : place < 560) where
   marked_there : (free : Bool) → is_free (dos_with_free vtoc place free) place ≡ free
   marked_there true = is_free-released_same vtoc place whole within

@@ -10,7 +10,7 @@ use Rattle.vol_layout.specs.Dos.{DescribesDos, dos_meaning}
 use Rattle.vol_layout.specs.DosBytes.{length-with_place}
 use Rattle.vol_layout.specs.DosDirectory.{length-numbered, entry_of-dos, no_list}
 use Rattle.vol_layout.specs.DosEntries.{on_track}
-use Rattle.vol_layout.specs.DosMarks.{length-with_free, map_place-dos, track_inside, remap_dos}
+use Rattle.vol_layout.specs.DosMarks.{length-dos_free, length-with_free, map_place-dos, track_inside, remap_dos}
 use Rattle.vol_layout.specs.DosRoots.{turn_dos}
 use Rattle.vol_layout.specs.DosSystemContents.{root_content, mark_content, frame_content-dos}
 
@@ -33,6 +33,8 @@ dos_is_writable data_disk reserved = record {
   entry_inside = λ store directory file described inside.
       let on = entry_on_track data_disk reserved store directory described file inside in
       track_inside data_disk reserved store directory described (entry_of directory file).place (omega (arith, on.0), on.1);
+  marks = λ store directory described.
+      ap (λ (d : Directory). length d.free) described.says ∙ length-dos_free (unit_at store 272) ∙ sym (places_is data_disk reserved store directory described);
   map_inside = λ store directory place described inside.
       subst (λ p. is_system directory p ≡ true) (sym (map_place_is data_disk reserved store directory described place inside))
       (track_inside data_disk reserved store directory described 272 (omega arith, omega arith));

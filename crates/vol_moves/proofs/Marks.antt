@@ -13,7 +13,8 @@ use Rattle.vol_format.specs.Meaning.{Meaning, link_from}
 use Rattle.vol_format.specs.Reach.{Reach, at_root, at_child}
 use Rattle.vol_format.proofs.Frames.{remapped_frame}
 use Rattle.vol_moves.specs.Kept.{IsKept, IsUnreached}
-use Rattle.vol_moves.specs.Marked.{Mark, CanMark, with_marks, marked}
+use Rattle.vol_moves.specs.Marked.{CanMark, with_marks, marked}
+use Rattle.vol_moves.specs.declared.mark.Mark.{Mark}
 use Rattle.vol_moves.proofs.Kept.{is_kept, kept_same, kept_then}
 
 -- a mark of another place

@@ -5,7 +5,8 @@ use Rattle.std.proofs.lemmas.Bool.{cases_eq}
 use Rattle.std.proofs.lemmas.List.{get_or-set_same}
 use Rattle.std.proofs.Math.ListN.{length-set}
 use Rattle.vol_format.specs.Directory.{Directory, is_free, remapped}
-use Rattle.vol_moves.specs.Marked.{Mark, marked}
+use Rattle.vol_moves.specs.Marked.{marked}
+use Rattle.vol_moves.specs.declared.mark.Mark.{Mark}
 use Rattle.vol_moves.proofs.Marks.{other_mark}
 
 pub others_stay : (marks : List Mark) (directory : Directory) (place : ℕ) → All (λ (mark : Mark). mark.place ≢ place) marks

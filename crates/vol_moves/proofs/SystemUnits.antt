@@ -16,7 +16,8 @@ use Rattle.vol_format.specs.Standing.{at_place}
 use Rattle.vol_format.proofs.Frames.{turned_frame, remapped_frame}
 use Rattle.vol_moves.specs.Moved.{IsReady, pointed, pointed_store}
 use Rattle.vol_moves.specs.System.{SameSystem}
-use Rattle.vol_moves.specs.Marked.{Mark, CanMark, with_marks, marked}
+use Rattle.vol_moves.specs.Marked.{CanMark, with_marks, marked}
+use Rattle.vol_moves.specs.declared.mark.Mark.{Mark}
 use Rattle.vol_moves.proofs.Marks.{one_kept, still, within}
 
 module _ (format : Meaning) where

@@ -1,13 +1,9 @@
 -- Places marked used or free in a unit of the map.
-use Rattle.std.specs.Prelude.{◌≡◌, ◌<◌, ℕ, Bool, true, List, [], ◌∷◌}
+use Rattle.std.specs.Prelude.{◌≡◌, ◌<◌, ℕ, true, List, [], ◌∷◌}
 use Rattle.vol_format.specs.Directory.{Directory, map_place, remapped}
 use Rattle.vol_format.specs.Meaning.{Meaning}
 use Rattle.vol_moves.specs.Kept.{IsUnreached}
-
--- a place, and whether it is marked free
-pub record Mark : Type 0 where
-  pub place : ℕ
-  pub free : Bool
+use Rattle.vol_moves.specs.declared.mark.Mark.{Mark}
 
 -- The unit of the map at `at` has the mark of the place, and no part stands there if it is to be marked free.
 pub record CanMark (format : Meaning) (directory : Directory) (store : List (List ℕ)) (at : ℕ) (mark : Mark) : Type 0 where

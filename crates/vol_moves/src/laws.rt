@@ -6,7 +6,8 @@ ghost use Rattle.vol_format.specs.Directory.{Directory, map_place, remapped};
 ghost use Rattle.vol_format.specs.Holding.{IsHolder};
 ghost use Rattle.vol_format.specs.Standing.{Stands, IsLost, part_now};
 ghost use Rattle.vol_moves.specs.Kept.{IsKept, IsUnreached};
-ghost use Rattle.vol_moves.specs.Marked.{Mark, CanMark, with_marks, marked};
+ghost use Rattle.vol_moves.specs.Marked.{CanMark, with_marks, marked};
+ghost use Rattle.vol_moves.specs.declared.mark.Mark.{Mark};
 ghost use Rattle.vol_moves.specs.Moved.{IsReady, HasMoved, pointed, pointed_store};
 
 use a2_device::Part;

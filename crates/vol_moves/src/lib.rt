@@ -1,6 +1,6 @@
 //! What the single writes of a mover do to the files of a volume, in every format that can be written.
 //!
-//! Nothing here runs: each function is a law, with an empty body and its contract for the statement. A mover makes three
+//! Nothing here runs but the marks that a mover makes (`Mark`): each function is a law, with an empty body and its contract for the statement. A mover makes three
 //! kinds of writes: a copy of a part's unit to a place that no part has, a pointer that then names the copy, and places
 //! marked used or free in a unit of the map. The laws say of an accepted store and its directory what they are after
 //! one such write:
@@ -16,6 +16,7 @@
 
 mod laws;
 mod lost;
+mod mark;
 mod system;
 
 pub use laws::{
@@ -26,4 +27,5 @@ pub use lost::{
     a_copy_loses_nothing, a_mark_loses_or_finds_one_place, a_moved_part_leaves_its_place,
     kept_files_stand_where_they_stood,
 };
+pub use mark::Mark;
 pub use system::{each_write_keeps_the_system, marks_are_read_back};

@@ -3,7 +3,8 @@ ghost use Rattle.std.specs.Prelude.{◌≡◌, ◌≢◌, ◌<◌, ℕ, Bool, Li
 ghost use Rattle.a2_device.specs.Device.{unit_at};
 ghost use Rattle.vol_format.specs.Accepted.{IsAccepted};
 ghost use Rattle.vol_format.specs.Directory.{Directory, is_free, map_place, remapped};
-ghost use Rattle.vol_moves.specs.Marked.{Mark, CanMark, with_marks, marked};
+ghost use Rattle.vol_moves.specs.Marked.{CanMark, with_marks, marked};
+ghost use Rattle.vol_moves.specs.declared.mark.Mark.{Mark};
 ghost use Rattle.vol_moves.specs.Moved.{IsReady, pointed, pointed_store};
 ghost use Rattle.vol_moves.specs.System.{SameSystem};
 
