@@ -1,12 +1,18 @@
 //! The volumes that tests are run on, made in memory from the formats. No program uses it.
 //!
-//! Each is the bytes of an image: in DOS order, 35 tracks of 16 sectors of 256 bytes. What is not named is 0.
+//! Each is the bytes of an image: in DOS order, 35 tracks of 16 sectors of 256 bytes; in ProDOS order, blocks of 512
+//! bytes. What is not named is 0.
 #![tactic(auto)]
+
+mod blocks;
 
 ghost use Rattle.std.specs.Prelude.{◌≡◌, ◌+◌, ◌*◌, ◌<◌, ◌≤◌, length, take, drop, slice_range, vec_len, IfOk, IsTrue};
 
 use a2_device::{Device, ImageDevice};
 use a2_image::{Image, Order};
+pub use blocks::{
+    LARGE_BYTES, block_device, put_in_block, seedlings_far_out, tree, tree_and_subdirectory,
+};
 use std::alloc::{AllocError, Allocator, Global};
 
 /// The bytes of a disk's image.

@@ -1,5 +1,5 @@
-use Rattle.std.proofs.Common.{◌≡◌, length, sym, ◌∙◌}
-use Rattle.a2_image.proofs.Opened.{IsOfDisk-Dos, IsImageLength-Dos}
+use Rattle.std.proofs.Common.{length, sym, ◌∙◌}
+use Rattle.a2_image.proofs.Opened.{IsOfDisk-Dos}
 use Rattle.test_volumes.proofs.Opening.{never_refused}
 use Rattle.test_volumes.proofs.dos_device.Goals as goal
 
