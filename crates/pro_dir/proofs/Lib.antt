@@ -4,5 +4,8 @@ mod Following
 mod Listing
 mod Described
 mod Within
+mod Paths
+mod Folding
+mod Noted
 mod Small
 mod Written

@@ -7,4 +7,6 @@ pub mod Volume
 pub mod VolumeLaws
 pub mod Listed
 pub mod Within
+pub mod Paths
+pub mod Parents
 pub mod Walk

@@ -10,6 +10,8 @@
 mod access;
 mod date;
 mod entry;
+mod parents;
+mod path;
 mod reading;
 mod slot;
 #[cfg(test)]

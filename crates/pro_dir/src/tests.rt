@@ -229,6 +229,24 @@ fn nested(alloc: Global) -> Result<Vec<u8>, AllocError> {
 }
 
 #[test]
+fn entries_have_paths(rt: HostRuntime) -> Result<(), Fail> {
+    let volume = walked(rt.alloc(), work_with_subdirectory(rt.alloc())?)?;
+    for (entry, path) in [(0, "BIG"), (1, "SUB"), (2, "SUB/A")] {
+        assert_eq!(rt; volume.path(rt.alloc(), entry)?.as_slice(), path.as_bytes());
+        for given in [
+            "BIG", "SUB", "SUB/A", "sub/a", "A", "/SUB/A", "SUB/", "SUB/A/", "",
+        ] {
+            let same = given.to_ascii_uppercase(rt.alloc())?;
+            assert_eq!(rt;
+                volume.has_path(entry, given.as_bytes()),
+                same.as_str() == path
+            );
+        }
+    }
+    Ok(())
+}
+
+#[test]
 fn walks_into_deep_nesting(rt: HostRuntime) -> Result<(), Fail> {
     let volume = walked(rt.alloc(), nested(rt.alloc())?)?;
     assert_eq!(rt; volume.entries().len(), 273);

@@ -5,11 +5,13 @@ ghost use Rattle.a2_device.specs.Reading.{met_device};
 ghost use Rattle.a2_device.specs.declared.fault.Fault.{Fault};
 ghost use Rattle.a2_device.specs.declared.fault.WalkError.TheVariants.{Fault as AFault};
 ghost use Rattle.pro_dir.specs.Entry.{name_of, slot_bytes, free_slots_in};
+ghost use Rattle.pro_dir.specs.Parents.{AreParents};
 ghost use Rattle.pro_dir.specs.Tree.{HasKind, HasSizes, IsRun};
 ghost use Rattle.pro_dir.specs.Volume.{Directory, Describes, VolumeFaultAt, map_blocks, map_first, total_blocks};
 ghost use Rattle.pro_dir.specs.Walk.{IsKeyOf, IsTable, is_met};
 
 use crate::entry::{BLOCK_BYTES, ENTRY_BYTES, Entry, NAME};
+use crate::parents::parents_of;
 use crate::reading::FreeSlot;
 use crate::tree::{Tree, VOLUME_KEY, has_kind, has_sizes};
 use a2_device::{Device, Fault, WalkError};
@@ -61,13 +63,17 @@ impl Header {
 }
 
 /// The header of a volume, its directory blocks, all entries in directory order, those inside a subdirectory after its
-/// own entry, and the first slot without an entry of each directory that has one.
+/// own entry, for each the entry of the directory in which it stands, and the first slot without an entry of each
+/// directory that has one.
 #[derive(Debug, Drop)]
 pub struct VolumeDir<A: Allocator = Global> {
     header: Header,
     blocks: Vec<u32, A>,
-    entries: Vec<Entry, A>,
+    pub(crate) entries: Vec<Entry, A>,
+    pub(crate) parents: Vec<Option<u32>, A>,
     free: Vec<FreeSlot, A>,
+    ghost related: { AreParents entries.items parents.items },
+    ghost few: { length entries.items < 4294967296 },
 }
 
 // Whether block 2 has the header of a volume of so many blocks.
@@ -137,10 +143,12 @@ impl<A: Allocator> VolumeDir<A> {
             free,
             ..
         } = tree;
+        let parents = parents_of(alloc, entries.as_slice())?;
         Ok(VolumeDir {
             header,
             blocks,
             entries,
+            parents,
             free,
         })
     }

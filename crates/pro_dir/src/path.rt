@@ -1,0 +1,113 @@
+// The paths of entries.
+ghost use Rattle.std.specs.Prelude.{◌≡◌, ◌≢◌, ◌<◌, ◌↔◌, ◌++◌, ◌∷◌, ℕ, List, IsTrue, length, reverse, OnOk, IfOk, IfSome, IfNone};
+ghost use Rattle.std.specs.Str.{bytes_eq};
+ghost use Rattle.pro_dir.specs.Entry.{name_of};
+ghost use Rattle.pro_dir.specs.Listed.{directory_of};
+ghost use Rattle.pro_dir.specs.Parents.{entry_in, parent_of};
+ghost use Rattle.pro_dir.specs.Paths.{folded, path_of};
+
+use crate::VolumeDir;
+use crate::parents::{entry_at, known_at};
+use std::alloc::{AllocError, Allocator};
+
+// Puts a name, its last byte first, behind a text.
+fn push_backward<A: Allocator>(text: &mut Vec<u8, A>, name: &[u8]) -> Result<(), AllocError>
+    ensures { OnOk result (text.new.items ≡ text.old.items ++ reverse name.now) }
+{
+    for at in 0..name.len() {
+        text.push(name[name.len() - 1 - at])?;
+    }
+    Ok(())
+}
+
+// Whether a name as it is given is the stored one.
+fn is_name(given: &[u8], stored: &[u8]) -> bool
+    ensures { IsTrue result ↔ (folded given.now ≡ stored.now) }
+{
+    if given.len() != stored.len() {
+        return false;
+    }
+    for at in 0..given.len() {
+        if given[at].to_ascii_uppercase() != stored[at] {
+            return false;
+        }
+    }
+    true
+}
+
+// Whether the last bytes of a path as it is given are a slash and the stored name.
+fn is_last_name(last: &[u8], name: &[u8]) -> bool
+    requires { 0 < length last.now }
+    ensures { IsTrue result ↔ (folded last.now ≡ 0x2f ∷ name.now) }
+{
+    last[0] == b'/' && is_name(&last[1..], name)
+}
+
+// A path as it is given without its last name, where that is the stored one, and the slash before it.
+fn without_name<'a>(path: &'a [u8], name: &[u8]) -> Option<&'a [u8]>
+    ensures some { IfSome result (λ above. folded path.now ≡ folded above.now ++ 0x2f ∷ name.now) }
+    ensures none { IfNone result ((above : List ℕ) → folded path.now ≢ above ++ 0x2f ∷ name.now) }
+{
+    let at = path.len().checked_sub(name.len() + 1)?;
+    let (above, last) = path.split_at(at);
+    if !is_last_name(last, name) {
+        return None;
+    }
+    Some(above)
+}
+
+impl<A: Allocator> VolumeDir<A> {
+    // The entry of the directory in which an entry stands, if that is not the volume's.
+    fn parent(&self, entry: u32) -> Option<u32>
+        requires { entry < length (directory_of self.now).entries }
+        ensures value { result ≡ parent_of (directory_of self.now).entries entry }
+        ensures before { IfSome result (λ parent. parent < entry) }
+    {
+        known_at(self.parents.as_slice(), entry)
+    }
+
+    // The name of an entry.
+    fn name_at(&self, entry: u32) -> &[u8]
+        requires { entry < length (directory_of self.now).entries }
+        ensures { result.now ≡ name_of (entry_in (directory_of self.now).entries entry).bytes }
+    {
+        entry_at(self.entries.as_slice(), entry as usize).name()
+    }
+
+    /// The path of an entry: the names of the directories that lead to it from the volume's and its own, joined by slashes.
+    ///
+    /// # Errors
+    /// Want of memory alone.
+    pub fn path<B: Allocator>(&self, alloc: B, entry: u32) -> Result<Vec<u8, B>, AllocError>
+        requires { entry < length (directory_of self.now).entries }
+        ensures { IfOk result (λ path. path.items ≡ path_of (directory_of self.now).entries entry) }
+    {
+        let mut path = Vec::new(alloc);
+        push_backward(&mut path, self.name_at(entry))?;
+        let mut number = entry;
+        while let Some(parent) = self.parent(number) {
+            path.push(b'/')?;
+            push_backward(&mut path, self.name_at(parent))?;
+            number = parent;
+        }
+        path.reverse();
+        Ok(path)
+    }
+
+    /// Whether a path as it is given, with its letters as capitals, is that of an entry.
+    pub fn has_path(&self, entry: u32, path: &[u8]) -> bool
+        requires { entry < length (directory_of self.now).entries }
+        ensures { result ≡ bytes_eq (folded path.now) (path_of (directory_of self.now).entries entry) }
+    {
+        let mut rest = path;
+        let mut number = entry;
+        while let Some(parent) = self.parent(number) {
+            let Some(above) = without_name(rest, self.name_at(number)) else {
+                return false;
+            };
+            rest = above;
+            number = parent;
+        }
+        is_name(rest, self.name_at(number))
+    }
+}
