@@ -1,0 +1,34 @@
+-- A unit that is ready to be written.
+use Rattle.std.specs.Prelude.{◌≡◌, ◌<◌, ℕ, false, List, ◌∷◌, length, All, Ok, IsTrue, slice_index_or}
+use Rattle.std.proofs.Common.{refl}
+use Rattle.a2_device.specs.Device.{DeviceState, OnlyReads}
+use Rattle.vol_format.specs.Laws.{IsDirectory}
+use Rattle.vol_format.specs.Meaning.{Meaning}
+use Rattle.vol_moves.specs.declared.mark.Mark.{Mark}
+use Rattle.move_agenda.specs.Tasks.{Course, Task, Map}
+use Rattle.vol_mover.specs.Present.{Present, IsSession}
+use Rattle.vol_mover.specs.Steps.{IsNextWrite, Prepares}
+use Rattle.vol_mover.proofs.NextWrites.{first_fits}
+
+module _ (format : Meaning) (old : Present) (device : DeviceState) (unit : List ℕ) (size : length unit ≡ length old.unit) where
+  pub prepared : (place : ℕ) → OnlyReads false old.device device → place < old.device.places
+      → (IsTrue old.device.honest → old.closed ≡ false → (course : Course) → IsSession format old course → IsNextWrite format old course place unit)
+      → Prepares format old (record old { device = device; unit = unit }) (Ok place)
+  prepared place reads inside write = record {
+    only = refl;
+    size = size;
+    reads = reads;
+    error = λ err. absurd (cc (err));
+    inside = inside;
+    write = write;
+  }
+
+-- the marks of a write of the map are of places that a format takes
+pub marks_inside : (format : Meaning) (old : Present) (course : Course) → IsDirectory format old.opening → IsSession format old course → (at : ℕ) (marks : List Mark) (rest : List Task)
+    → old.tasks ≡ Map at marks ∷ rest → (places : ℕ) × format.Takes places × All (λ (mark : Mark). mark.place < places) marks
+marks_inside format old course is session at marks rest next =
+    let fits = (first_fits format old course session (Map at marks) rest next).0 in (
+      old.opening.places,
+      session.takes,
+      λ i d within. ((is.available_of (slice_index_or marks i d).place).0 (fits.2 i d within).available).0,
+    )

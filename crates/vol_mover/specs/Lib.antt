@@ -1,0 +1,10 @@
+pub mod Volume
+pub mod Open
+pub mod Present
+pub mod Steps
+pub mod Resuming
+pub mod Runs
+pub mod Shown
+pub mod Begun
+pub mod Report
+pub mod Optimizing
