@@ -2,6 +2,9 @@ pub mod Names
 pub mod Lines
 pub mod Shown
 pub mod DosEntries
+pub mod ProEntries
+pub mod ProLines
+pub mod Moments
 pub mod Told
 pub mod Members
 pub mod Texts

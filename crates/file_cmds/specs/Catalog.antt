@@ -7,6 +7,7 @@ use Rattle.dos_catalog.specs.Entry.{entries_in}
 use Rattle.dos_catalog.specs.Catalog.{IsCatalog}
 use Rattle.file_cmds.specs.declared.listing.ListEntry.{ListEntry}
 use Rattle.file_cmds.specs.declared.listing.Listing.{Listing}
+use Rattle.file_cmds.specs.DosFiles.{no_date}
 
 -- what is shown of an entry
 abbrev pub list_entry : {A : Type 0} → Entry → ListEntry A
@@ -15,6 +16,7 @@ list_entry entry = record {
   kind = slice_index entry.bytes 2 % 0x80;
   size = slice_index entry.bytes 0x21 + 256 * slice_index entry.bytes 0x22;
   eof = 0;
+  date = no_date;
   directory = false;
   path = slice_range entry.bytes 0x03 0x21;
 }

@@ -1,6 +1,7 @@
 -- What DOS 3.3 is to the commands on files (Beneath Apple DOS, chapter 4).
 use Rattle.std.specs.Prelude.{ℕ, ◌+◌, ◌-◌, ◌*◌, ◌%◌, ◌==◌, ◌||◌, ◌&&◌, nat_le, Bool, false, if◌then◌else◌, List, ◌++◌, length, map, take, drop, replicate, slice_index, bit_or}
 use Rattle.std.specs.Str.{bytes_eq}
+use Rattle.pro_dir.specs.declared.date.ProDate.{ProDate}
 use Rattle.vol_format.specs.Directory.{Listed}
 use Rattle.file_cmds.specs.declared.listing.ListEntry.{ListEntry}
 use Rattle.file_cmds.specs.Files.{FileMeaning}
@@ -12,6 +13,10 @@ dos_name path = map (λ byte. bit_or byte 0x80) path ++ replicate (30 - length p
 abbrev pub dos_matches : List ℕ → List ℕ → Bool
 dos_matches path stored = nat_le (length path) 30 && bytes_eq (dos_name path) stored
 
+-- DOS 3.3 keeps no dates
+abbrev pub no_date : ProDate
+no_date = record { 0 = replicate 4 0 }
+
 -- what is shown of an entry: its bytes begin with the kind, and end with the length in sectors
 abbrev pub dos_shown : {A : Type 0} → Listed → ListEntry A
 dos_shown entry = record {
@@ -19,6 +24,7 @@ dos_shown entry = record {
   kind = slice_index entry.bytes 0 % 0x80;
   size = slice_index entry.bytes 0x1f + 256 * slice_index entry.bytes 0x20;
   eof = 0;
+  date = no_date;
   directory = false;
   path = entry.path;
 }

@@ -14,7 +14,7 @@ use Rattle.vol_layout.specs.DosLaws.{dos_is_readable}
 use Rattle.file_cmds.specs.declared.listing.ListEntry.{ListEntry}
 use Rattle.file_cmds.specs.declared.listing.Listing.{Listing}
 use Rattle.file_cmds.specs.Catalog.{list_entry, IsCatalogOf, HasNoCatalog}
-use Rattle.file_cmds.specs.DosFiles.{dos_files, dos_shown}
+use Rattle.file_cmds.specs.DosFiles.{dos_files, dos_shown, no_date}
 use Rattle.file_cmds.specs.Listing.{free_count, ShowsDirectory, IsListingOf, HasHeaderFault}
 
 -- what is shown of an entry
@@ -30,6 +30,7 @@ list_entry-dos {A} file entry =
       kind = kind % 0x80;
       size = low + 256 * high;
       eof = 0;
+      date = no_date;
       directory = false;
       path = take 30 (drop 3 entry.bytes);
     }

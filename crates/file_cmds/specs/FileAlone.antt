@@ -1,10 +1,12 @@
 -- What is true of one file of a volume, as if no other were there.
-use Rattle.std.specs.Prelude.{◌≡◌, ◌≢◌, ◌<◌, ◌≤◌, ◌==◌, nat_lt, ℕ, Bool, true, false, if◌then◌else◌, List, [], ◌∷◌, Some, None, slice_get, length, AllPairs, Contains}
+use Rattle.std.specs.Prelude.{◌≡◌, ◌≢◌, ◌<◌, ◌≤◌, ◌/◌, ◌==◌, nat_lt, ℕ, Bool, true, false, if◌then◌else◌, List, [], ◌∷◌, Some, None, slice_get, length, AllPairs, Contains}
 use Rattle.std.specs.List.{range_with_len}
 use Rattle.std.proofs.Common.{refl, sym, ◌∙◌, ap, subst, arith, get_or, zero, suc}
 use Rattle.std.proofs.lemmas.Bool.Decides.{nat_tests}
 use Rattle.std.proofs.lemmas.List.FromFn.{get_or-range_with_len, get_or-map-range_with_len, length-map-range_with_len, length-range_with_len}
 use Rattle.std.proofs.lemmas.List.{get_or-replicate}
+use Rattle.std.proofs.lemmas.Nat.{le-div}
+use Rattle.std.proofs.Math.Nat.{div-mul-le_self}
 use Rattle.std.proofs.lemmas.Option.{slice_get-get_or, slice_get_past}
 use Rattle.a2_device.specs.declared.part.Part.{Part}
 use Rattle.vol_format.specs.declared.link.Link.{Link}
@@ -144,6 +146,17 @@ module _ (directory : Directory) (file : ℕ) where
       let inside : j < directory.places = omega (arith, within, length-range_with_len 0 directory.places) in
       omega (arith, get_or-range_with_len 0 directory.places i d (omega arith), get_or-range_with_len 0 directory.places j d inside, same, less)
 
+  by_unit : AllPairs (λ place later. place / directory.map_size ≤ later / directory.map_size) (range_with_len 0 directory.places)
+  by_unit i j d less within =
+      let inside : j < directory.places = omega (arith, within, length-range_with_len 0 directory.places) in
+      let low = get_or-range_with_len 0 directory.places i d (omega arith) in
+      let high = get_or-range_with_len 0 directory.places j d inside in
+      div_mono (get_or (range_with_len 0 directory.places) i d) (get_or (range_with_len 0 directory.places) j d) directory.map_size (omega (arith, low, high, less))
+    where
+      div_mono : (a b size : ℕ) → a ≤ b → a / size ≤ b / size
+      div_mono a b zero h = omega arith
+      div_mono a b (suc size) h = le-div (a / suc size) b (suc size) (omega arith) (omega (arith, h, div-mul-le_self a (suc size)))
+
   pub alone_is_directory : (format : Meaning) → IsDirectory format directory → directory.places ≤ 65536
       → IsDirectory (of_one_file format (file_alone directory file)) (file_alone directory file)
   alone_is_directory format of few = record {
@@ -164,5 +177,7 @@ module _ (directory : Directory) (file : ℕ) where
     available_once = once;
     available_named = λ place has. tt;
     few_available = omega (arith, few, length-range_with_len 0 directory.places);
+    available_by_unit = by_unit;
+    map_counted = of.map_counted;
     map_below = of.map_below;
   }

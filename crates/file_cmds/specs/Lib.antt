@@ -12,3 +12,8 @@ pub mod DosFiles
 pub mod Catalog
 pub mod DosText
 pub mod DosListing
+pub mod ProFiles
+pub mod ProListing
+pub mod ProMoment
+pub mod ProMomentLaw
+pub mod ProText

@@ -5,6 +5,7 @@ ghost use Rattle.file_cmds.specs.DosFiles.{dos_matches, dos_name, number_at, dos
 
 use crate::{FileFormat, ListEntry, StoredName};
 use dos_catalog::Entry;
+use pro_dir::ProDate;
 use std::alloc::{AllocError, Allocator};
 use vol_layout::{Dos33, DosVolume};
 
@@ -40,6 +41,7 @@ fn list_entry<A: Allocator>(alloc: A, entry: &Entry) -> Result<ListEntry<A>, All
         kind: entry.kind(),
         size: entry.sectors(),
         eof: 0,
+        date: ProDate([0; 4]),
         directory: false,
         path,
     })

@@ -24,7 +24,7 @@ fn kind_letter(kind: u8) -> char
 }
 
 // A byte of a name as it is shown.
-fn shown_byte(byte: u8) -> u8
+pub(crate) fn shown_byte(byte: u8) -> u8
     ensures value { result ≡ shown byte }
     ensures ascii { result ≤ 126 }
 {

@@ -1,8 +1,8 @@
 //! Commands on the files of a volume, over any device that has its units and any format.
 //!
 //! What the commands ask of a format, beside its parts, is the trait `FileFormat`; its model is the record `FileMeaning`
-//! (`specs/Files.antt`). A listing shows what a directory says (`specs/Listing.antt`), and for DOS 3.3 it has an exact text
-//! (`specs/DosText.antt`). A read gives the units of one file in order, or what is wrong with this file (`specs/Text.antt`,
+//! (`specs/Files.antt`); DOS 3.3 and ProDOS have it (`specs/DosFiles.antt`, `specs/ProFiles.antt`). A listing shows what a directory says (`specs/Listing.antt`), and it has an exact text
+//! (`specs/DosText.antt`, `specs/ProText.antt`). A read gives the units of one file in order, or what is wrong with this file (`specs/Text.antt`,
 //! `specs/Read.antt`): the checker of volumes walks over the volume that has the file alone (`specs/OneFile.antt`). A command that
 //! reads leaves the device's store as it is.
 #![tactic(auto)]
@@ -17,6 +17,9 @@ mod law;
 mod listing;
 mod name;
 mod one_file;
+mod pro;
+mod pro_date;
+mod pro_text;
 mod reading;
 mod text;
 
@@ -27,8 +30,11 @@ pub use format::FileFormat;
 pub use law::answers_exclude_one_another;
 pub use listing::{ListEntry, Listing};
 pub use name::StoredName;
+pub use pro_text::pro_listing_text;
 pub use reading::read;
 
+#[cfg(test)]
+mod pro_tests;
 #[cfg(test)]
 mod read_tests;
 #[cfg(test)]

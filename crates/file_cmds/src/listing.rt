@@ -1,5 +1,6 @@
 // What a catalog shows of a volume.
 use crate::StoredName;
+use pro_dir::ProDate;
 use std::alloc::{Allocator, Global};
 
 /// An entry of a listing.
@@ -12,6 +13,8 @@ pub struct ListEntry<A: Allocator = Global> {
     pub size: u16,
     /// The length in bytes; for DOS 0.
     pub eof: u32,
+    /// The last modification, as it is stored; for DOS the four bytes 0, which name no moment.
+    pub date: ProDate,
     /// Whether it is a directory's.
     pub directory: bool,
     /// For DOS the 30 bytes of the name, as they are stored.

@@ -19,6 +19,13 @@ impl<A: Allocator> Model for StoredName<A> {
 }
 
 impl<A: Allocator> StoredName<A> {
+    // These bytes.
+    pub(crate) fn of(bytes: Vec<u8, A>) -> StoredName<A>
+        ensures { result ≡ bytes.items }
+    {
+        StoredName { bytes }
+    }
+
     /// A copy of these bytes.
     ///
     /// # Errors

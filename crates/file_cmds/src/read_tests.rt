@@ -11,7 +11,7 @@ use std::test::Fail;
 use test_volumes::{FIRST_CATALOG, VTOC, dos_device, dos_volume, hello, put, put_entry};
 
 // How often each byte stands, one run after the other.
-fn runs(alloc: Global, bytes: &[u8]) -> Result<String, AllocError> {
+pub fn runs(alloc: Global, bytes: &[u8]) -> Result<String, AllocError> {
     let mut text = String::new(alloc);
     for run in bytes.chunk_by(|byte, next| byte == next) {
         if let [byte, ..] = run {

@@ -1,0 +1,33 @@
+-- The text of a listing of a ProDOS volume.
+use Rattle.std.specs.Prelude.{ℕ, ◌+◌, ◌-◌, ◌/◌, ◌%◌, ◌^◌, nat_lt, Bool, false, List, [], ◌∷◌, ◌++◌, map, flat_map, codes, decimal, if◌then◌else◌}
+use Rattle.std.specs.Fmt.{padded_integral, format_spec}
+use Rattle.file_cmds.specs.declared.listing.ListEntry.{ListEntry}
+use Rattle.file_cmds.specs.declared.listing.Listing.{Listing}
+use Rattle.file_cmds.specs.DosText.{Text, line, shown}
+use Rattle.file_cmds.specs.ProMoment.{date_text}
+
+-- a hexadecimal digit: 0 to 9, a to f
+abbrev pub hex_digit : ℕ → ℕ
+hex_digit n = if nat_lt n 10 then 48 + n else 87 + n
+
+-- a number right in so many places
+abbrev pub right_in : ℕ → ℕ → Text
+right_in places n = padded_integral (format_spec 32 0 0 places (2 ^ 64 - 1)) false [] (decimal n)
+
+-- a path, with a slash behind a directory's; each byte is shown as those of DOS names are
+abbrev pub path_text : Bool → List ℕ → Text
+path_text directory path = if directory then map shown path ++ 47 ∷ [] else map shown path
+
+-- an entry: * where it is locked, $ and its type, blocks used, its length in bytes, its modification, its path
+abbrev pub pro_file_line : {A : Type 0} → ListEntry A → Text
+pro_file_line file =
+    (if file.locked then 42 else 32) ∷ 36 ∷ hex_digit (file.kind / 16) ∷ hex_digit (file.kind % 16) ∷ 32 ∷ right_in 5 file.size
+    ++ 32 ∷ right_in 8 file.eof ++ 32 ∷ date_text file.date.0 ++ 32 ∷ path_text file.directory file.path
+
+-- the volume's name, a line for each entry, and how many blocks are free
+abbrev pub pro_lines : {A : Type 0} → List ℕ → List (ListEntry A) → ℕ → Text
+pro_lines volume files free = line (codes "VOLUME /" ++ map shown volume) ++ flat_map (λ file. line (pro_file_line file)) files
+    ++ line (codes "FREE " ++ decimal free)
+
+abbrev pub pro_text : {A : Type 0} → Listing A → Text
+pro_text listing = pro_lines listing.volume listing.entries.items listing.free
