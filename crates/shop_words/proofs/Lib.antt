@@ -16,3 +16,6 @@ pub mod ReadLine
 pub mod ConvertLine
 pub mod PlainTable
 pub mod AskedLemmas
+pub mod PlanLine
+pub mod OptimizeLine
+pub mod VerifyLine

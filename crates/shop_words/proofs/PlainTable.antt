@@ -3,7 +3,7 @@ use Rattle.std.proofs.Common.{◌≡◌, ◌∙◌, ap, true, List, [], ◌∷�
 use Rattle.std.proofs.lemmas.List.Elements.{All-contains, All-cons}
 use Rattle.clap.specs.Simple.{is_simple, subcommand_of}
 use Rattle.clap.specs.Takes.{takes}
-use Rattle.shop_words.specs.Table.{Text, FormView, catalog_form, check_form, read_form, convert_form, forms}
+use Rattle.shop_words.specs.Table.{Text, FormView, catalog_form, check_form, read_form, convert_form, plan_form, optimize_form, verify_form, forms}
 use Rattle.shop_words.specs.Grammar.{shop}
 use Rattle.shop_words.specs.Plain.{Use, IsPlainLine, line_words}
 use Rattle.shop_words.specs.Job.{found_job, line_job}
@@ -14,6 +14,9 @@ use Rattle.shop_words.proofs.CatalogLine.{catalog_defaults, catalog_known, is_so
 use Rattle.shop_words.proofs.CheckLine.{check_defaults, check_known, is_some-line_job-check}
 use Rattle.shop_words.proofs.ReadLine.{read_defaults, read_known, is_some-line_job-read}
 use Rattle.shop_words.proofs.ConvertLine.{convert_defaults, convert_known, is_some-line_job-convert}
+use Rattle.shop_words.proofs.PlanLine.{plan_defaults, plan_known, is_some-line_job-plan}
+use Rattle.shop_words.proofs.OptimizeLine.{optimize_defaults, optimize_known, is_some-line_job-optimize}
+use Rattle.shop_words.proofs.VerifyLine.{verify_defaults, verify_known, is_some-line_job-verify}
 
 record IsServed (f : FormView) : Type 0 where
   known : IsKnown f (shape_named f.name)
@@ -32,12 +35,24 @@ serves_read = record { known = read_known; defaults = read_defaults; job = is_so
 serves_convert : IsServed convert_form
 serves_convert = record { known = convert_known; defaults = convert_defaults; job = is_some-line_job-convert }
 
+serves_plan : IsServed plan_form
+serves_plan = record { known = plan_known; defaults = plan_defaults; job = is_some-line_job-plan }
+
+serves_optimize : IsServed optimize_form
+serves_optimize = record { known = optimize_known; defaults = optimize_defaults; job = is_some-line_job-optimize }
+
+serves_verify : IsServed verify_form
+serves_verify = record { known = verify_known; defaults = verify_defaults; job = is_some-line_job-verify }
+
 all_served : All IsServed forms
 all_served =
-    All-cons IsServed catalog_form (check_form ∷ read_form ∷ convert_form ∷ []) serves_catalog
-    (All-cons IsServed check_form (read_form ∷ convert_form ∷ []) serves_check
-    (All-cons IsServed read_form (convert_form ∷ []) serves_read
-    (All-cons IsServed convert_form [] serves_convert (λ k d lt. absurd (omega arith)))))
+    All-cons IsServed catalog_form (check_form ∷ read_form ∷ convert_form ∷ plan_form ∷ optimize_form ∷ verify_form ∷ []) serves_catalog
+    (All-cons IsServed check_form (read_form ∷ convert_form ∷ plan_form ∷ optimize_form ∷ verify_form ∷ []) serves_check
+    (All-cons IsServed read_form (convert_form ∷ plan_form ∷ optimize_form ∷ verify_form ∷ []) serves_read
+    (All-cons IsServed convert_form (plan_form ∷ optimize_form ∷ verify_form ∷ []) serves_convert
+    (All-cons IsServed plan_form (optimize_form ∷ verify_form ∷ []) serves_plan
+    (All-cons IsServed optimize_form (verify_form ∷ []) serves_optimize
+    (All-cons IsServed verify_form [] serves_verify (λ k d lt. absurd (omega arith))))))))
 
 served : (f : FormView) → Contains forms f → IsServed f
 served f at = All-contains IsServed forms f all_served at

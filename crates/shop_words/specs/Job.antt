@@ -6,13 +6,14 @@ use Rattle.clap.specs.Simple.{subcommand_of}
 use Rattle.clap.specs.Takes.{takes}
 use Rattle.clap.specs.Walk.{Row, first_of}
 use Rattle.shop_words.specs.Grammar.{shop}
-use Rattle.shop_words.specs.Table.{Text, FormView}
+use Rattle.shop_words.specs.Table.{Text, FormView, most_writes}
 use Rattle.shop_words.specs.Plain.{Use, alone, valued, use_name, positional_names, is_number}
 use Rattle.shop_words.specs.declared.job.FileSystem.{FileSystem}
 use Rattle.shop_words.specs.declared.job.FileSystem.TheVariants as file_systems
 use Rattle.shop_words.specs.declared.job.ImageOrder.{ImageOrder}
 use Rattle.shop_words.specs.declared.job.ImageOrder.TheVariants as orders
 use Rattle.shop_words.specs.declared.job.VolumeOptions.{VolumeOptions}
+use Rattle.shop_words.specs.declared.optimizing.Optimization.{Optimization}
 use Rattle.shop_words.specs.declared.reading.Conversion.{Conversion}
 use Rattle.shop_words.specs.declared.job.Job.{Job}
 use Rattle.shop_words.specs.declared.job.Job.TheVariants as jobs
@@ -28,12 +29,25 @@ pub record ConversionView : Type 0 where
 abbrev pub conversion_view : Conversion → ConversionView
 conversion_view c = record { image = c.image.now; order = c.order; to = c.to; out = c.out.now; volume = c.volume }
 
+-- an optimization as contracts see it, but for its reserved places and whether it reclaims
+pub record OptimizationView : Type 0 where
+  pub image : Text
+  pub volume : VolumeOptions
+  pub out : Text
+  pub stop_after : Option ℕ
+
+abbrev pub optimization_view : Optimization → OptimizationView
+optimization_view o = record { image = o.image.now; volume = o.volume; out = o.out.now; stop_after = o.stop_after }
+
 -- a job as contracts see it
 pub data JobView : Type 0 where
   catalog : Text → VolumeOptions → JobView
   check : Text → VolumeOptions → Option Text → JobView
   read : Text → Text → VolumeOptions → Bool → JobView
   convert : ConversionView → JobView
+  plan : Text → VolumeOptions → Option Text → Bool → JobView
+  optimize : OptimizationView → Option Text → Bool → JobView
+  verify : Text → VolumeOptions → Text → Option Text → Bool → JobView
 
 abbrev pub job_view : Job → JobView
 job_view (jobs.Catalog image volume) = catalog (string_bytes image) volume
@@ -46,9 +60,15 @@ job_view (jobs.Convert image order to out volume) = convert (record {
   out = string_bytes out;
   volume = volume;
 })
+job_view (jobs.Plan image volume reserve reclaim) = plan (string_bytes image) volume (option_map string_bytes reserve) reclaim
+job_view (jobs.Optimize image volume out reserve reclaim stop_after) =
+    optimize (record { image = string_bytes image; volume = volume; out = string_bytes out; stop_after = stop_after }) (option_map string_bytes reserve) reclaim
+job_view (jobs.Verify image volume from reserve reclaim) = verify (string_bytes image) volume (string_bytes from) (option_map string_bytes reserve) reclaim
 
 abbrev pub file_system_named : Text → Option FileSystem
-file_system_named word = if bytes_eq word (codes "dos") then Some file_systems.Dos else None
+file_system_named word =
+    if bytes_eq word (codes "dos") then Some file_systems.Dos else
+    if bytes_eq word (codes "prodos") then Some file_systems.Prodos else None
 
 abbrev pub order_named : Text → Option ImageOrder
 order_named word =
@@ -104,13 +124,40 @@ abbrev pub conversion_by : Said → Option ConversionView
 conversion_by said = conversion_of (said (codes "image")) (option_and_then order_named (said (codes "order")))
     (option_and_then order_named (said (codes "to"))) (said (codes "out")) (volume_number (said (codes "volume")))
 
+-- the certificate of a volume's plan
+abbrev pub plan_by : Said → Option JobView
+plan_by said = option_and_then (λ image. option_map (λ volume. plan image volume (said (codes "reserve")) (is_on (said (codes "reclaim")))) (volume_by said)) (said (codes "image"))
+
+-- the limit of writes that is said, or that none is
+abbrev pub limit_named : Option Text → Option (Option ℕ)
+limit_named None = Some None
+limit_named (Some word) = option_map Some (number_named most_writes word)
+
+-- an optimization, where each part of it is there
+abbrev pub optimization_of : Option Text → Option VolumeOptions → Option Text → Option (Option ℕ) → Option OptimizationView
+optimization_of (Some image) (Some volume) (Some out) (Some stop_after) = Some (record { image = image; volume = volume; out = out; stop_after = stop_after })
+optimization_of _ _ _ _ = None
+
+abbrev pub optimization_by : Said → Option OptimizationView
+optimization_by said = optimization_of (said (codes "image")) (volume_by said) (said (codes "out")) (limit_named (said (codes "stop-after")))
+
+abbrev pub optimize_by : Said → Option JobView
+optimize_by said = option_map (λ optimization. optimize optimization (said (codes "reserve")) (is_on (said (codes "reclaim")))) (optimization_by said)
+
+abbrev pub verify_by : Said → Option JobView
+verify_by said = option_and_then (λ image. option_and_then (λ from. option_map (λ volume.
+    verify image volume from (said (codes "reserve")) (is_on (said (codes "reclaim")))) (volume_by said)) (said (codes "from"))) (said (codes "image"))
+
 -- the job of a command, by what is said under each name
 abbrev pub job_by : Text → Said → Option JobView
 job_by command said =
     if bytes_eq command (codes "catalog") then catalog_by said else
     if bytes_eq command (codes "check") then check_by said else
     if bytes_eq command (codes "read") then read_by said else
-    if bytes_eq command (codes "convert") then option_map convert (conversion_by said) else None
+    if bytes_eq command (codes "convert") then option_map convert (conversion_by said) else
+    if bytes_eq command (codes "plan") then plan_by said else
+    if bytes_eq command (codes "optimize") then optimize_by said else
+    if bytes_eq command (codes "verify") then verify_by said else None
 
 -- the job of the command that clap finds, by the rows that it finds
 abbrev pub found_job : Option (Text × List Row) → Option JobView

@@ -48,18 +48,22 @@ parameter_view p = record { name = p.name.now; kind = kind_view p.kind }
 abbrev pub form_view : Form → FormView
 form_view f = record { name = f.name.now; parameters = map parameter_view f.parameters.now }
 
+-- the greatest limit of writes
+abbrev pub most_writes : ℕ
+most_writes = 18446744073709551615
+
 abbrev pub parameter : Text → KindView → ParameterView
 parameter name kind = record { name = name; kind = kind }
 
 abbrev pub order_words : List Text
 order_words = codes "dos" ∷ codes "prodos" ∷ codes "nibble" ∷ []
 
--- `image`, `--fs dos`, `--order ORDER` and `--data-disk`
+-- `image`, `--fs FS`, `--order ORDER` and `--data-disk`
 abbrev pub image : ParameterView
 image = parameter (codes "image") positional
 
 abbrev pub file_system : ParameterView
-file_system = parameter (codes "fs") (needed (one_of (codes "dos" ∷ [])))
+file_system = parameter (codes "fs") (needed (one_of (codes "dos" ∷ codes "prodos" ∷ [])))
 
 abbrev pub order : ParameterView
 order = parameter (codes "order") (needed (one_of order_words))
@@ -112,6 +116,34 @@ convert_form = record {
   parameters = image ∷ order ∷ to ∷ out ∷ volume ∷ data_disk ∷ [];
 }
 
+-- `--reclaim`, `--stop-after K` and `--from FILE`
+abbrev pub reclaim : ParameterView
+reclaim = parameter (codes "reclaim") flag
+
+abbrev pub stop_after : ParameterView
+stop_after = parameter (codes "stop-after") (optional (number most_writes))
+
+abbrev pub from : ParameterView
+from = parameter (codes "from") (needed any)
+
+abbrev pub plan_form : FormView
+plan_form = record {
+  name = codes "plan";
+  parameters = image ∷ file_system ∷ order ∷ data_disk ∷ reserve ∷ reclaim ∷ [];
+}
+
+abbrev pub optimize_form : FormView
+optimize_form = record {
+  name = codes "optimize";
+  parameters = image ∷ file_system ∷ order ∷ out ∷ data_disk ∷ reserve ∷ reclaim ∷ stop_after ∷ [];
+}
+
+abbrev pub verify_form : FormView
+verify_form = record {
+  name = codes "verify";
+  parameters = image ∷ file_system ∷ order ∷ from ∷ data_disk ∷ reserve ∷ reclaim ∷ [];
+}
+
 -- the forms of all commands
 abbrev pub forms : List FormView
-forms = catalog_form ∷ check_form ∷ read_form ∷ convert_form ∷ []
+forms = catalog_form ∷ check_form ∷ read_form ∷ convert_form ∷ plan_form ∷ optimize_form ∷ verify_form ∷ []

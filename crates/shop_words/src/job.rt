@@ -5,6 +5,8 @@
 pub enum FileSystem {
     /// DOS 3.3.
     Dos,
+    /// ProDOS.
+    Prodos,
 }
 
 /// The order in which an image has its sectors, `--order`.
@@ -65,5 +67,41 @@ pub enum Job {
         out: String,
         /// The volume number of tracks that are made.
         volume: u8,
+    },
+    /// Tells the fewest moves that bring the files of a volume into order.
+    Plan {
+        /// The path of the image's file; `-` is standard input.
+        image: String,
+        volume: VolumeOptions,
+        /// The places that are kept for the system beside its own, as the words name them.
+        reserve: Option<String>,
+        /// Whether lost places are marked free.
+        reclaim: bool,
+    },
+    /// Brings the files of a volume into order.
+    Optimize {
+        /// The path of the image's file; `-` is standard input.
+        image: String,
+        volume: VolumeOptions,
+        /// The path of the file that is written.
+        out: String,
+        /// The places that are kept for the system beside its own, as the words name them.
+        reserve: Option<String>,
+        /// Whether lost places are marked free.
+        reclaim: bool,
+        /// After how many writes to stop; `None` is when all is done.
+        stop_after: Option<u64>,
+    },
+    /// Tells whether a certificate shows that no plan is shorter.
+    Verify {
+        /// The path of the image's file; `-` is standard input.
+        image: String,
+        volume: VolumeOptions,
+        /// The path of the certificate's file.
+        from: String,
+        /// The places that are kept for the system beside its own, as the words name them.
+        reserve: Option<String>,
+        /// Whether lost places are marked free.
+        reclaim: bool,
     },
 }

@@ -15,6 +15,7 @@
 mod fault;
 mod grammar;
 mod job;
+mod optimizing;
 mod reading;
 mod refusal;
 mod table;

@@ -9,6 +9,7 @@ ghost use Rattle.shop_words.specs.Job.{conversion_by, conversion_view, file_syst
 ghost use Rattle.shop_words.specs.Job.{job_by, job_view, number_named, order_named, volume_by, volume_number};
 
 use crate::job::{FileSystem, ImageOrder, Job, VolumeOptions};
+use crate::optimizing::optimize_in;
 use clap::ArgMatches;
 use std::alloc::{AllocError, Global};
 
@@ -22,10 +23,10 @@ pub fn said<'a>(matches: &ArgMatches<'a>, name: &str) -> Option<&'a str>
 fn file_system_named(word: &str) -> Option<FileSystem>
     ensures { result ≡ file_system_named word.now }
 {
-    if word == "dos" {
-        Some(FileSystem::Dos)
-    } else {
-        None
+    match word {
+        "dos" => Some(FileSystem::Dos),
+        "prodos" => Some(FileSystem::Prodos),
+        _ => None,
     }
 }
 
@@ -81,7 +82,7 @@ fn volume_number(matches: &ArgMatches<'_>) -> Option<u8>
     }
 }
 
-fn has_flag(matches: &ArgMatches<'_>, name: &str) -> bool
+pub fn has_flag(matches: &ArgMatches<'_>, name: &str) -> bool
     ensures { result ≡ is_on (first_of name.now (rows_of (found_of matches.now))) }
 {
     match said(matches, name) {
@@ -90,7 +91,7 @@ fn has_flag(matches: &ArgMatches<'_>, name: &str) -> bool
     }
 }
 
-fn volume_in(matches: &ArgMatches<'_>) -> Option<VolumeOptions>
+pub fn volume_in(matches: &ArgMatches<'_>) -> Option<VolumeOptions>
     ensures { result ≡ volume_by (λ name. first_of name (rows_of (found_of matches.now))) }
 {
     let file_system = file_system_named(said(matches, "fs")?)?;
@@ -119,7 +120,7 @@ fn catalog_in(alloc: Global, matches: &ArgMatches<'_>) -> Result<Option<Job>, Al
 }
 
 /// What the words say under a parameter's name, as a text of its own.
-fn text_said(
+pub fn text_said(
     alloc: Global,
     matches: &ArgMatches<'_>,
     name: &str,
@@ -203,6 +204,40 @@ fn convert_in(alloc: Global, matches: &ArgMatches<'_>) -> Result<Option<Job>, Al
     }))
 }
 
+fn plan_in(alloc: Global, matches: &ArgMatches<'_>) -> Result<Option<Job>, AllocError>
+    ensures { IfOk result (λ job. option_map job_view job
+        ≡ job_by (codes "plan") (λ name. first_of name (rows_of (found_of matches.now)))) }
+{
+    let (Some(image), Some(volume)) = (said(matches, "image"), volume_in(matches)) else {
+        return Ok(None);
+    };
+    Ok(Some(Job::Plan {
+        image: image.to_string(alloc)?,
+        volume,
+        reserve: text_said(alloc, matches, "reserve")?,
+        reclaim: has_flag(matches, "reclaim"),
+    }))
+}
+
+fn verify_in(alloc: Global, matches: &ArgMatches<'_>) -> Result<Option<Job>, AllocError>
+    ensures { IfOk result (λ job. option_map job_view job
+        ≡ job_by (codes "verify") (λ name. first_of name (rows_of (found_of matches.now)))) }
+{
+    let (Some(image), Some(from)) = (said(matches, "image"), said(matches, "from")) else {
+        return Ok(None);
+    };
+    let Some(volume) = volume_in(matches) else {
+        return Ok(None);
+    };
+    Ok(Some(Job::Verify {
+        image: image.to_string(alloc)?,
+        volume,
+        from: from.to_string(alloc)?,
+        reserve: text_said(alloc, matches, "reserve")?,
+        reclaim: has_flag(matches, "reclaim"),
+    }))
+}
+
 fn command_job(
     alloc: Global,
     command: &str,
@@ -216,6 +251,9 @@ fn command_job(
         "check" => check_in(alloc, matches),
         "read" => read_in(alloc, matches),
         "convert" => convert_in(alloc, matches),
+        "plan" => plan_in(alloc, matches),
+        "optimize" => optimize_in(alloc, matches),
+        "verify" => verify_in(alloc, matches),
         _ => Ok(None),
     }
 }

@@ -56,8 +56,8 @@ const NAME: Parameter = Parameter {
 
 const FILE_SYSTEM: Parameter = Parameter {
     name: "fs",
-    kind: Kind::Needed(Values::OneOf(&["dos"])),
-    help: "File system of the volume: dos",
+    kind: Kind::Needed(Values::OneOf(&["dos", "prodos"])),
+    help: "File system of the volume: dos or prodos",
 };
 
 const ORDERS: Values = Values::OneOf(&["dos", "prodos", "nibble"]);
@@ -95,7 +95,25 @@ const DATA_DISK: Parameter = Parameter {
 const RESERVE: Parameter = Parameter {
     name: "reserve",
     kind: Kind::Optional(Values::Any),
-    help: "Places that no file may stand at beside those of the system, as 3/14,4/0",
+    help: "Places that no file may stand at beside those of the system, as 3/14,4/0 or 7,280",
+};
+
+const RECLAIM: Parameter = Parameter {
+    name: "reclaim",
+    kind: Kind::Flag,
+    help: "Mark the places free that are marked used and belong to no file",
+};
+
+const STOP_AFTER: Parameter = Parameter {
+    name: "stop-after",
+    kind: Kind::Optional(Values::Number { greatest: u64::MAX }),
+    help: "Stop after so many writes; without it, when all is done",
+};
+
+const FROM: Parameter = Parameter {
+    name: "from",
+    kind: Kind::Needed(Values::Any),
+    help: "File that is read beside the image",
 };
 
 const WHOLE: Parameter = Parameter {
@@ -124,6 +142,30 @@ const FORMS: &[Form] = &[
         name: "convert",
         parameters: &[IMAGE, ORDER, TO, OUT, VOLUME, DATA_DISK],
         help: "Write the sectors of an image in another order",
+    },
+    Form {
+        name: "plan",
+        parameters: &[IMAGE, FILE_SYSTEM, ORDER, DATA_DISK, RESERVE, RECLAIM],
+        help: "Tell the fewest moves that bring the files of a volume into order, as a certificate",
+    },
+    Form {
+        name: "optimize",
+        parameters: &[
+            IMAGE,
+            FILE_SYSTEM,
+            ORDER,
+            OUT,
+            DATA_DISK,
+            RESERVE,
+            RECLAIM,
+            STOP_AFTER,
+        ],
+        help: "Bring the files of a volume into order, by the fewest moves",
+    },
+    Form {
+        name: "verify",
+        parameters: &[IMAGE, FILE_SYSTEM, ORDER, FROM, DATA_DISK, RESERVE, RECLAIM],
+        help: "Tell whether a certificate shows that no shorter plan brings a volume into order",
     },
 ];
 

@@ -4,6 +4,7 @@ use std::process::Abort;
 use std::test::Fail;
 
 mod conversions;
+mod moves;
 mod reads;
 
 const PROGRAM_USAGE: &str = "Usage: a2shop <COMMAND>";
@@ -273,7 +274,7 @@ fn words_out_of_their_set_are_refused(rt: HostRuntime) {
         &rt,
         alloc,
         &["catalog", "a.dsk", "--fs", "cpm", "--order", "dos"],
-        "invalid value 'cpm' for '--fs <fs>'\n  [possible values: dos]",
+        "invalid value 'cpm' for '--fs <fs>'\n  [possible values: dos, prodos]",
         CATALOG_USAGE,
     );
     refuses(
