@@ -3,4 +3,7 @@ pub mod Replies
 pub mod Checks
 pub mod Readings
 pub mod Converted
+pub mod Unopened
+pub mod Optimized
+pub mod NotMade
 pub mod Answered

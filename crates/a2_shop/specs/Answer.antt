@@ -1,17 +1,18 @@
 -- What the program answers to a job on an image, and to words.
-use Rattle.std.specs.Prelude.{◌≡◌, ◌⊎◌, ℕ, List, Option, Some, None, string_bytes}
+use Rattle.std.specs.Prelude.{◌≡◌, ◌⊎◌, ℕ, List, Option, Some, None, IfSome, string_bytes}
 use Rattle.std.specs.Io.KnownBytes.{Appends}
 use Rattle.a2_image.specs.declared.order.Order.{Order}
 use Rattle.file_cmds.specs.DosText.{Text}
-use Rattle.shop_words.specs.Job.{JobView, catalog, check, read, convert, asked_job}
+use Rattle.shop_words.specs.Job.{JobView, catalog, check, read, convert, plan, optimize, verify, asked_job}
+use Rattle.shop_words.specs.declared.job.VolumeOptions.{VolumeOptions}
 use Rattle.shop_words.specs.declared.fault.WordsFault.{WordsFault}
 use Rattle.shop_words.specs.declared.fault.WordsFault.TheVariants as words
 use Rattle.a2_shop.specs.declared.reply.Reply.{Reply}
 use Rattle.a2_shop.specs.Disk.{disk_bytes, order_of}
-use Rattle.a2_shop.specs.Reply.{HandsOut, Held, IsDelivered}
-use Rattle.a2_shop.specs.CatalogReply.{IsCatalogReply}
-use Rattle.a2_shop.specs.CheckReply.{IsCheckReply}
-use Rattle.a2_shop.specs.ReadReply.{IsReadReply}
+use Rattle.a2_shop.specs.Reply.{HandsImage, Held, IsDelivered}
+use Rattle.a2_shop.specs.Volume.{files_of, form_of}
+use Rattle.a2_shop.specs.VolumeReply.{IsVolumeReply}
+use Rattle.a2_shop.specs.Work.{IsWorkReply, WorkView, Catalog, Read, Check, Plan, Optimize, Verify}
 use Rattle.a2_shop.specs.ConvertReply.{IsConvertReply}
 
 -- the path and the order of the image that a job names
@@ -19,19 +20,33 @@ abbrev pub image_of : JobView → Text
 image_of (catalog path volume) = path
 image_of (check path volume reserve) = path
 image_of (read path name volume whole) = path
+image_of (plan path volume reserve reclaim) = path
+image_of (optimize words reserve reclaim) = words.image
+image_of (verify path volume from reserve reclaim) = path
 image_of (convert words) = words.image
+
+-- the path of the file that a job reads beside the image
+abbrev pub from_of : JobView → Option Text
+from_of (verify path volume from reserve reclaim) = Some from
+from_of job = None
 
 -- the path of the file that a job writes
 abbrev pub out_of : JobView → Option Text
 out_of (catalog path volume) = None
 out_of (check path volume reserve) = None
 out_of (read path name volume whole) = None
+out_of (plan path volume reserve reclaim) = None
+out_of (optimize words reserve reclaim) = Some words.out
+out_of (verify path volume from reserve reclaim) = None
 out_of (convert words) = Some words.out
 
 abbrev pub image_order_of : JobView → Order
 image_order_of (catalog path volume) = order_of volume.order
 image_order_of (check path volume reserve) = order_of volume.order
 image_order_of (read path name volume whole) = order_of volume.order
+image_order_of (plan path volume reserve reclaim) = order_of volume.order
+image_order_of (optimize words reserve reclaim) = order_of words.volume.order
+image_order_of (verify path volume from reserve reclaim) = order_of volume.order
 image_order_of (convert words) = order_of words.order
 
 -- the room for the image that a job makes
@@ -39,28 +54,59 @@ abbrev pub made_bytes_of : JobView → ℕ
 made_bytes_of (catalog path volume) = 0
 made_bytes_of (check path volume reserve) = 0
 made_bytes_of (read path name volume whole) = 0
+made_bytes_of (plan path volume reserve reclaim) = 0
+made_bytes_of (optimize words reserve reclaim) = 0
+made_bytes_of (verify path volume from reserve reclaim) = 0
 made_bytes_of (convert words) = disk_bytes (order_of words.to)
+
+-- after how many writes to stop; without a limit there are never so many
+abbrev pub limit_of : Option ℕ → ℕ
+limit_of None = 18446744073709551615
+limit_of (Some limit) = limit
 
 abbrev pub IsStatus : ℕ → Type 0
 IsStatus status = (status ≡ 0) ⊎ (status ≡ 1) ⊎ (status ≡ 3) ⊎ (status ≡ 4)
 
--- the reply to a job on these bytes
-abbrev pub IsReplyTo : JobView → List ℕ → Reply → Type 0
-IsReplyTo (catalog path volume) image reply = IsCatalogReply (order_of volume.order) image reply
-IsReplyTo (check path volume reserve) image reply = IsCheckReply (order_of volume.order) volume.data_disk reserve image reply
-IsReplyTo (read path name volume whole) image reply = IsReadReply (order_of volume.order) name whole image reply
-IsReplyTo (convert words) image reply = IsConvertReply (order_of words.order) (order_of words.to) words.volume image reply
+-- what is told of the volume in an image, where the words reserve places or not
+abbrev pub IsToldOf : VolumeOptions → Option Text → List ℕ → WorkView → Reply → Type 0
+IsToldOf volume reserve image work reply =
+    IsVolumeReply volume.file_system (order_of volume.order) volume.data_disk reserve image (IsWorkReply work (form_of volume.file_system) (files_of volume.file_system)) reply
+
+-- the reply to a job on these bytes of an image, and on those of a file beside it where they are known
+abbrev pub IsReplyTo : JobView → List ℕ → Option (List ℕ) → Reply → Type 0
+IsReplyTo (catalog path volume) image extra reply = IsToldOf volume None image Catalog reply
+IsReplyTo (check path volume reserve) image extra reply = IsToldOf volume reserve image Check reply
+IsReplyTo (read path name volume whole) image extra reply = IsToldOf volume None image (Read name whole) reply
+IsReplyTo (plan path volume reserve reclaim) image extra reply = IsToldOf volume reserve image (Plan reclaim) reply
+IsReplyTo (optimize words reserve reclaim) image extra reply = IsToldOf words.volume reserve image (Optimize reclaim (limit_of words.stop_after)) reply
+IsReplyTo (verify path volume from reserve reclaim) image extra reply = IfSome extra (λ bytes. IsToldOf volume reserve image (Verify reclaim bytes) reply)
+IsReplyTo (convert words) image extra reply = IsConvertReply (order_of words.order) (order_of words.to) words.volume image reply
+
+-- the job reads a file beside the image
+abbrev pub ReadsExtra : JobView → Type 0
+ReadsExtra (verify path volume from reserve reclaim) = Unit {0}
+ReadsExtra job = ⊥
+
+-- the job asks where the parts of files belong
+abbrev pub AsksForMoves : JobView → Type 0
+AsksForMoves (plan path volume reserve reclaim) = Unit {0}
+AsksForMoves (optimize words reserve reclaim) = Unit {0}
+AsksForMoves (verify path volume from reserve reclaim) = Unit {0}
+AsksForMoves job = ⊥
 
 -- the job makes an image, for the output file
 abbrev pub MakesImage : JobView → Type 0
 MakesImage (catalog path volume) = ⊥
 MakesImage (check path volume reserve) = ⊥
 MakesImage (read path name volume whole) = ⊥
+MakesImage (plan path volume reserve reclaim) = ⊥
+MakesImage (optimize words reserve reclaim) = Unit {0}
+MakesImage (verify path volume from reserve reclaim) = ⊥
 MakesImage (convert words) = Unit {0}
 
 -- a job was answered: by the status of its reply, with its text and its image behind what the writers had; or something failed
-abbrev pub IsAnswer : JobView → List ℕ → ℕ → Held → Held → Type 0
-IsAnswer job image status old new = (status ≡ 4) ⊎ ((reply : Reply) × IsReplyTo job image reply × IsDelivered reply status old new)
+abbrev pub IsAnswer : JobView → List ℕ → Option (List ℕ) → ℕ → Held → Held → Type 0
+IsAnswer job image extra status old new = (status ≡ 4) ⊎ ((reply : Reply) × IsReplyTo job image extra reply × IsDelivered reply status old new)
 
 -- words that are no job were told: refused with the text for the user, or for want of memory
 abbrev pub IsWordsAnswer : WordsFault → ℕ → Option (List ℕ) → Option (List ℕ) → Type 0
@@ -68,11 +114,15 @@ IsWordsAnswer (words.Refused text) status old new = (status ≡ 4) ⊎ ((status 
 IsWordsAnswer words.Memory status old new = status ≡ 4
 
 -- words were answered: refused, or as the job that they ask for
-abbrev pub IsCommandAnswer : List Text → List ℕ → ℕ → Held → Held → Type 0
-IsCommandAnswer list image status old new =
-    (status ≡ 2) ⊎ ((status ≡ 4) ⊎ ((job : JobView) × (asked_job list ≡ Some job) × IsAnswer job image status old new))
+abbrev pub IsCommandAnswer : List Text → List ℕ → Option (List ℕ) → ℕ → Held → Held → Type 0
+IsCommandAnswer list image extra status old new =
+    (status ≡ 2) ⊎ ((status ≡ 4) ⊎ ((job : JobView) × (asked_job list ≡ Some job) × IsAnswer job image extra status old new))
+
+-- a file beside the image is read for the job that the words ask for
+abbrev pub CommandReads : List Text → Type 0
+CommandReads list = (job : JobView) × (asked_job list ≡ Some job) × ReadsExtra job
 
 -- an image was handed out for the job that the words ask for
 abbrev pub CommandHandsOut : List Text → ℕ → Option (List ℕ) → Option (List ℕ) → Type 0
 CommandHandsOut list status old new =
-    (job : JobView) × (asked_job list ≡ Some job) × MakesImage job × HandsOut status old new
+    (job : JobView) × (asked_job list ≡ Some job) × MakesImage job × HandsImage status old new

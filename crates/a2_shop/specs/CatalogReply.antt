@@ -1,38 +1,40 @@
--- The reply to `catalog`.
-use Rattle.std.specs.Prelude.{◌≡◌, ℕ, List, string_bytes}
-use Rattle.a2_image.specs.declared.order.Order.{Order}
-use Rattle.a2_device.specs.DosPlaces.{dos_units}
-use Rattle.file_cmds.specs.Catalog.{HasNoCatalog}
-use Rattle.file_cmds.specs.DosText.{IsListingText, listing_text}
+-- What is told of a volume that is listed.
+use Rattle.std.specs.Prelude.{◌≡◌, ◌⊎◌}
+use Rattle.std.specs.declared.alloc.Global.{Global}
+use Rattle.a2_device.specs.Device.{DeviceState}
+use Rattle.reserved_places.specs.declared.form.PlaceForm.{PlaceForm}
+use Rattle.reserved_places.specs.declared.form.PlaceForm.TheVariants.{Sector, Block}
+use Rattle.vol_format.specs.Meaning.{Meaning}
+use Rattle.file_cmds.specs.DosText.{Text, listing_text}
+use Rattle.file_cmds.specs.Files.{FileMeaning}
+use Rattle.file_cmds.specs.Listing.{HasHeaderFault, IsListingOf}
+use Rattle.file_cmds.specs.ProText.{pro_text}
 use Rattle.file_cmds.specs.declared.listing.Listing.{Listing}
 use Rattle.a2_shop.specs.declared.reply.Refusal.TheVariants as refusals
 use Rattle.a2_shop.specs.declared.reply.Failure.TheVariants as failures
 use Rattle.a2_shop.specs.declared.reply.Reply.{Reply}
-use Rattle.a2_shop.specs.declared.reply.Reply.TheVariants.{Done, Faulty, Bytes, Made, Refused, Failed}
-use Rattle.a2_shop.specs.Disk.{IsDiskImage, LacksOne, OfDisk}
+use Rattle.a2_shop.specs.declared.reply.Reply.TheVariants.{Refused, Failed}
+use Rattle.a2_shop.specs.Reply.{IsDone, text_of}
+use Rattle.a2_shop.specs.Volume.{LacksUnit}
 
--- the reply with a listing's text, or for want of memory
-abbrev pub IsListingReply : {A : Type 0} → Listing A → Reply → Type 0
-IsListingReply listing (Done text) = string_bytes text ≡ listing_text listing
-IsListingReply listing (Faulty text) = ⊥
-IsListingReply listing (Bytes content) = ⊥
-IsListingReply listing (Made image) = ⊥
-IsListingReply listing (Refused refusal) = ⊥
-IsListingReply listing (Failed failure) = failure ≡ failures.Memory
+-- the text of a listing: of DOS 3.3, whose places are sectors, or of ProDOS
+abbrev pub text_by : {A : Type 0} → PlaceForm → Listing A → Text
+text_by Sector listing = listing_text listing
+text_by Block listing = pro_text listing
 
--- The reply to `catalog` on an image in this order: the listing of the volume; `Length` for other than a disk's number of
--- bytes; `Check` for a VTOC of another geometry or a broken catalog chain; a failure where the disk lacks a sector; and
--- want of memory.
-abbrev pub IsCatalogReply : Order → List ℕ → Reply → Type 0
-IsCatalogReply order image (Done text) = OfDisk order image (λ sectors. IsListingText (dos_units sectors) (string_bytes text))
-IsCatalogReply order image (Faulty text) = ⊥
-IsCatalogReply order image (Bytes content) = ⊥
-IsCatalogReply order image (Made made) = ⊥
-IsCatalogReply order image (Refused refusals.Reserve) = ⊥
-IsCatalogReply order image (Refused refusals.Length) = ¬ IsDiskImage order image
-IsCatalogReply order image (Refused refusals.Check) = OfDisk order image (λ sectors. HasNoCatalog (dos_units sectors))
-IsCatalogReply order image (Refused refusals.NotFound) = ⊥
-IsCatalogReply order image (Refused refusals.NoSector) = ⊥
-IsCatalogReply order image (Failed failures.Input) = ⊥
-IsCatalogReply order image (Failed failures.Device) = OfDisk order image LacksOne
-IsCatalogReply order image (Failed failures.Memory) = Unit {0}
+abbrev pub TellsListing : {A : Type 0} → PlaceForm → Listing A → Reply → Type 0
+TellsListing form listing reply = (IsDone reply × (text_of reply ≡ text_by form listing)) ⊎ (reply ≡ Failed failures.Memory)
+
+-- the text of what the header, the directory and the map of the volume say
+pub record IsListingReply (form : PlaceForm) (files : FileMeaning) (format : Meaning) (device : DeviceState) (reply : Reply) : Type 0 where
+  pub listing : Listing Global
+  pub is_listing : IsListingOf format files device.store listing
+  pub told : TellsListing form listing reply
+
+-- The reply to `catalog`: the listing; `Check` where the header, the directory or the map's pointer has a fault; a failure where a unit can't be read; or want of memory.
+abbrev pub IsListed : PlaceForm → FileMeaning → Meaning → DeviceState → Reply → Type 0
+IsListed form files format device reply =
+    IsListingReply form files format device reply
+    ⊎ ((reply ≡ Refused refusals.Check) × HasHeaderFault format device.store)
+    ⊎ ((reply ≡ Failed failures.Device) × LacksUnit device)
+    ⊎ (reply ≡ Failed failures.Memory)

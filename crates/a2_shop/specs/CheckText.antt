@@ -1,9 +1,10 @@
--- What `check` prints of a DOS 3.3 volume.
+-- What `check` prints of a volume.
 use Rattle.std.specs.Prelude.{ℕ, ◌∷◌, ◌++◌, length, codes, decimal}
 use Rattle.a2_device.specs.declared.fault.Fault.{Fault}
 use Rattle.a2_device.specs.declared.fault.Fault.TheVariants.{Geometry, CatalogLink, DirLink, MapPointer, StorageType, OutOfRange, InSystem, Shared, MarkedFree}
 use Rattle.reserved_places.specs.Reserved.{place_word}
-use Rattle.reserved_places.specs.declared.form.PlaceForm.TheVariants.{Sector}
+use Rattle.reserved_places.specs.declared.form.PlaceForm.{PlaceForm}
+use Rattle.reserved_places.specs.declared.form.PlaceForm.TheVariants.{Sector, Block}
 use Rattle.vol_check.specs.Told.{Told}
 use Rattle.file_cmds.specs.DosText.{Text, line}
 
@@ -29,12 +30,17 @@ fault_place (InSystem place) = place
 fault_place (Shared place) = place
 fault_place (MarkedFree place) = place
 
--- a fault by its name, and its place by track and sector
-abbrev pub fault_text : Fault → Text
-fault_text fault = codes "FAULT " ++ fault_name fault ++ 32 ∷ place_word Sector (fault_place fault)
+-- the word for a place: track, `/` and sector, or `block` and the block
+abbrev pub told_place : PlaceForm → ℕ → Text
+told_place Sector place = place_word Sector place
+told_place Block place = codes "block " ++ place_word Block place
 
-abbrev pub fault_line : Fault → Text
-fault_line fault = line (fault_text fault)
+-- a fault by its name and its place
+abbrev pub fault_text : PlaceForm → Fault → Text
+fault_text form fault = codes "FAULT " ++ fault_name fault ++ 32 ∷ told_place form (fault_place fault)
+
+abbrev pub fault_line : PlaceForm → Fault → Text
+fault_line form fault = line (fault_text form fault)
 
 -- how many files and parts an accepted volume has, and how many of its places are available and how many lost
 abbrev pub accepted_text : ℕ → ℕ → ℕ → ℕ → Text

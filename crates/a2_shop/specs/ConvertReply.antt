@@ -10,7 +10,7 @@ use Rattle.a2_image.specs.Tracks.{track_of}
 use Rattle.a2_shop.specs.declared.reply.Refusal.TheVariants as refusals
 use Rattle.a2_shop.specs.declared.reply.Failure.TheVariants as failures
 use Rattle.a2_shop.specs.declared.reply.Reply.{Reply}
-use Rattle.a2_shop.specs.declared.reply.Reply.TheVariants.{Done, Faulty, Bytes, Made, Refused, Failed}
+use Rattle.a2_shop.specs.declared.reply.Reply.TheVariants.{Done, Faulty, Bytes, Made, Optimized, Interrupted, Refused, Unopened, Failed}
 use Rattle.a2_shop.specs.Disk.{HasEvery, IsDiskImage, LacksOne, OfDisk}
 
 -- These bytes are an image in the wanted order with the same sectors, none of which is missing. In nibble order each track
@@ -40,6 +40,11 @@ IsConvertReply order to volume image (Refused refusals.Length) = ¬ IsDiskImage 
 IsConvertReply order to volume image (Refused refusals.Check) = ⊥
 IsConvertReply order to volume image (Refused refusals.NotFound) = ⊥
 IsConvertReply order to volume image (Refused refusals.NoSector) = OfDisk order image LacksOne
+IsConvertReply order to volume image (Refused refusals.NoFreePlace) = ⊥
+IsConvertReply order to volume image (Refused refusals.InputTooLong) = ⊥
+IsConvertReply order to volume image (Unopened text) = ⊥
+IsConvertReply order to volume image (Optimized text made) = ⊥
+IsConvertReply order to volume image (Interrupted made) = ⊥
 IsConvertReply order to volume image (Failed failures.Input) = ⊥
 IsConvertReply order to volume image (Failed failures.Device) = ⊥
 IsConvertReply order to volume image (Failed failures.Memory) = Unit {0}

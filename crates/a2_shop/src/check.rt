@@ -1,46 +1,19 @@
 // The job that tells whether a volume is accepted.
-ghost use Rattle.std.specs.Prelude.{◌≡◌, IfOk, IfErr, option_map};
-ghost use Rattle.a2_image.specs.Image.{IsOfDisk};
-ghost use Rattle.reserved_places.specs.declared.error.ReserveError.TheVariants.{Syntax};
-ghost use Rattle.vol_layout.specs.Dos.{dos_meaning};
+ghost use Rattle.std.specs.Prelude.{◌≡◌, Some, IsTrue};
+ghost use Rattle.a2_device.specs.Device.{OnlyReads};
 ghost use Rattle.vol_check.specs.Told.{told_of};
-ghost use Rattle.a2_shop.specs.CheckReply.{IsCheckReply, IsVolumeReply, NamesPlaces, ReservesNamed, TellsAccepted, TellsRefusal};
-ghost use Rattle.a2_shop.specs.Reply.{reply_to_reserve};
+ghost use Rattle.a2_shop.specs.CheckReply.{IsChecked, TellsAccepted, TellsRefusal};
 
 use crate::check_text::{accepted_line, fault_lines};
-use crate::disk::open_disk;
-use crate::reply::{Failure, Refusal, Reply};
-use a2_device::ImageDevice;
-use a2_image::{Image, Order};
-use reserved_places::{PlaceForm, ReserveError, Reserved};
+use crate::reply::{Failure, Reply};
+use a2_device::Device;
+use reserved_places::PlaceForm;
 use std::alloc::Global;
 use vol_check::{CheckError, Checked, check};
-use vol_layout::{Dos33, DosVolume};
-
-impl From<ReserveError> for Reply {
-    ghost from_gives = { λ error reply. reply ≡ reply_to_reserve error };
-
-    fn from(error: ReserveError) -> Reply {
-        match error {
-            ReserveError::Syntax => Reply::Refused(Refusal::Reserve),
-            ReserveError::Memory => Reply::Failed(Failure::Memory),
-        }
-    }
-}
-
-// The places that the words reserve.
-fn reserved_by(alloc: Global, reserve: Option<&str>) -> Result<Reserved, ReserveError>
-    ensures read { IfOk result (ReservesNamed (option_map (λ s. s.now) reserve.entry)) }
-    ensures syntax { IfErr result (λ e. e ≡ Syntax → ¬ NamesPlaces (option_map (λ s. s.now) reserve.entry)) }
-{
-    match reserve {
-        Some(text) => Reserved::read(alloc, text, PlaceForm::Sector),
-        None => Ok(Reserved::none(alloc)),
-    }
-}
+use vol_format::Format;
 
 // The reply to an accepted volume.
-fn accepted_reply(alloc: Global, checked: &Checked<DosVolume>) -> Reply
+fn accepted_reply<V: Drop>(alloc: Global, checked: &Checked<V>) -> Reply
     ensures { TellsAccepted (told_of checked.now) result }
 {
     match accepted_line(alloc, checked) {
@@ -50,11 +23,11 @@ fn accepted_reply(alloc: Global, checked: &Checked<DosVolume>) -> Reply
 }
 
 // The reply to a volume that is not accepted, or that could not be checked.
-fn refused_reply(alloc: Global, error: &CheckError) -> Reply
-    ensures { TellsRefusal error.now result }
+fn refused_reply(alloc: Global, form: PlaceForm, error: &CheckError) -> Reply
+    ensures { TellsRefusal form error.now result }
 {
     match error {
-        CheckError::Faults(faults) => match fault_lines(alloc, faults.as_slice()) {
+        CheckError::Faults(faults) => match fault_lines(alloc, form, faults.as_slice()) {
             Ok(text) => Reply::Faulty(text),
             Err(_) => Reply::Failed(Failure::Memory),
         },
@@ -63,37 +36,20 @@ fn refused_reply(alloc: Global, error: &CheckError) -> Reply
     }
 }
 
-// The reply to a check of the volume on a disk.
-fn volume_reply(alloc: Global, disk: Image, data_disk: bool, reserved: Reserved) -> Reply
-    requires { IsOfDisk disk }
-    ensures { IsVolumeReply (dos_meaning data_disk reserved) disk.sectors result }
-{
-    let Ok(format) = Dos33::new(alloc, data_disk, reserved) else {
-        return Reply::Failed(Failure::Memory);
-    };
-    let mut device = ImageDevice::dos(disk);
-    match check(alloc, &mut device, &format) {
-        Ok(checked) => accepted_reply(alloc, &checked),
-        Err(error) => refused_reply(alloc, &error),
-    }
-}
-
-/// Whether the DOS 3.3 volume in an image in this order is accepted, or what is wrong with it. The words may reserve places.
-pub fn check_reply(
+/// Whether the volume on a device is accepted, or what is wrong with it.
+pub fn check_reply<D: Device, F: Format>(
     alloc: Global,
-    image: Vec<u8>,
-    order: Order,
-    data_disk: bool,
-    reserve: Option<&str>,
+    device: &mut D,
+    format: &F,
+    form: PlaceForm,
 ) -> Reply
-    ensures { IsCheckReply order data_disk (option_map (λ s. s.now) reserve.entry) image.items result }
+    requires unit { (D.state device.old).unit_size ≡ (F.meaning format.now).unit_size }
+    requires places { (F.meaning format.now).Takes (D.state device.old).places }
+    ensures { IsTrue (D.state device.old).honest → (D.state device.old).read_failures ≡ Some 0
+        → IsChecked form (F.meaning format.now) (D.state device.old) result }
 {
-    let reserved = match reserved_by(alloc, reserve) {
-        Ok(reserved) => reserved,
-        Err(error) => return Reply::from(error),
-    };
-    match open_disk(image, order) {
-        Ok(disk) => volume_reply(alloc, disk, data_disk, reserved),
-        Err(error) => Reply::from(error),
+    match check(alloc, device, format) {
+        Ok(checked) => accepted_reply(alloc, &checked),
+        Err(error) => refused_reply(alloc, form, &error),
     }
 }

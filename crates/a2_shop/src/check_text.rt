@@ -1,15 +1,13 @@
 // The text of what a check answers.
 ghost use Rattle.std.specs.Prelude.{◌≡◌, Some, IfOk, flat_map, string_bytes};
-ghost use Rattle.reserved_places.specs.Reserved.{place_word};
-ghost use Rattle.reserved_places.specs.declared.form.PlaceForm.TheVariants.{Sector};
 ghost use Rattle.vol_check.specs.Told.{told_of};
-ghost use Rattle.a2_shop.specs.CheckText.{accepted_text, fault_line, fault_name as name_of, fault_place as place_of, fault_text, told_line};
+ghost use Rattle.a2_shop.specs.CheckText.{accepted_text, fault_line, fault_name as name_of, fault_place as place_of, fault_text, told_line, told_place};
 
 use a2_device::Fault;
+use reserved_places::PlaceForm;
 use std::alloc::{AllocError, Global};
 use std::fmt;
 use vol_check::Checked;
-use vol_layout::DosVolume;
 
 fn fault_name(fault: Fault) -> &'static str
     ensures { result.now ≡ name_of fault }
@@ -43,30 +41,45 @@ fn fault_place(fault: Fault) -> u32
     }
 }
 
-// A place, by its track and its sector.
+// A place, by its track and its sector or by its block.
 #[derive(Clone, Copy)]
-struct SectorWord(u32);
+struct PlaceWord {
+    form: PlaceForm,
+    place: u32,
+}
 
-impl fmt::Display for SectorWord {
-    ghost output = { λ w. Some (place_word Sector w.0) };
+impl fmt::Display for PlaceWord {
+    ghost output = { λ w. Some (told_place w.form w.place) };
 
     fn fmt<W: fmt::Write>(&self, f: &mut fmt::Formatter<W>) -> fmt::Result {
-        let track = self.0 / 16;
-        let sector = self.0 % 16;
-        write!(f, "{track}/{sector}")
+        let place = self.place;
+        match self.form {
+            PlaceForm::Sector => {
+                let track = place / 16;
+                let sector = place % 16;
+                write!(f, "{track}/{sector}")
+            }
+            PlaceForm::Block => write!(f, "block {place}"),
+        }
     }
 }
 
 // The text of one fault.
 #[derive(Clone, Copy)]
-struct FaultText(Fault);
+struct FaultText {
+    form: PlaceForm,
+    fault: Fault,
+}
 
 impl fmt::Display for FaultText {
-    ghost output = { λ t. Some (fault_text t.0) };
+    ghost output = { λ t. Some (fault_text t.form t.fault) };
 
     fn fmt<W: fmt::Write>(&self, f: &mut fmt::Formatter<W>) -> fmt::Result {
-        let name = fault_name(self.0);
-        let place = SectorWord(fault_place(self.0));
+        let name = fault_name(self.fault);
+        let place = PlaceWord {
+            form: self.form,
+            place: fault_place(self.fault),
+        };
         write!(f, "FAULT {name} {place}")
     }
 }
@@ -75,12 +88,15 @@ impl fmt::Display for FaultText {
 ///
 /// # Errors
 /// Want of memory alone.
-pub fn fault_lines(alloc: Global, faults: &[Fault]) -> Result<String, AllocError>
-    ensures { IfOk result (λ text. string_bytes text ≡ flat_map fault_line faults.now) }
+pub fn fault_lines(alloc: Global, form: PlaceForm, faults: &[Fault]) -> Result<String, AllocError>
+    ensures { IfOk result (λ text. string_bytes text ≡ flat_map (fault_line form) faults.now) }
 {
     let mut text = String::new(alloc);
     for fault in faults {
-        let line = FaultText(*fault);
+        let line = FaultText {
+            form,
+            fault: *fault,
+        };
         writeln!(text, "{line}")?;
     }
     Ok(text)
@@ -116,7 +132,7 @@ impl fmt::Display for AcceptedText {
 ///
 /// # Errors
 /// Want of memory alone.
-pub fn accepted_line(alloc: Global, checked: &Checked<DosVolume>) -> Result<String, AllocError>
+pub fn accepted_line<V: Drop>(alloc: Global, checked: &Checked<V>) -> Result<String, AllocError>
     ensures { IfOk result (λ text. string_bytes text ≡ told_line (told_of checked.now)) }
 {
     let line = AcceptedText {

@@ -1,7 +1,7 @@
 // Commands, from words to the text.
 ghost use Rattle.std.specs.Prelude.{◌≡◌, ◌≢◌, ◌⊎◌, IfSome, map, string_bytes};
 ghost use Rattle.shop_words.specs.Plain.{IsPlain};
-ghost use Rattle.a2_shop.specs.Answer.{CommandHandsOut, IsCommandAnswer, IsWordsAnswer};
+ghost use Rattle.a2_shop.specs.Answer.{CommandHandsOut, CommandReads, IsCommandAnswer, IsWordsAnswer};
 ghost use Rattle.a2_shop.specs.Reply.{held};
 
 use crate::job::run_job;
@@ -34,8 +34,8 @@ pub fn run_command<I: Read, E: Read, T: Write, O: Write>(
 ) -> u8
     ensures plain { IsPlain (map string_bytes words.now) → result ≢ WORDS_REFUSED }
     ensures answer { IfSome (I.remaining image.old) (λ bytes.
-        IsCommandAnswer (map string_bytes words.now) bytes result (held (T.contents text.old) (O.contents out.old)) (held (T.contents text.new) (O.contents out.new))) }
-    ensures extra { extra.new ≡ extra.old }
+        IsCommandAnswer (map string_bytes words.now) bytes (E.remaining extra.old) result (held (T.contents text.old) (O.contents out.old)) (held (T.contents text.new) (O.contents out.new))) }
+    ensures extra { (extra.new ≡ extra.old) ⊎ CommandReads (map string_bytes words.now) }
     ensures out { (out.new ≡ out.old) ⊎ CommandHandsOut (map string_bytes words.now) result (T.contents text.old) (T.contents text.new) }
 {
     match parse_words(alloc, words) {

@@ -50,6 +50,7 @@ pub fn most_bytes(order: Order) -> usize
 pub fn open_disk(bytes: Vec<u8>, order: Order) -> Result<Image, ImageError>
     ensures takes { IsOk result → IsDiskImage order bytes.items }
     ensures order { IfOk result (λ image. image.order ≡ order) }
+    ensures bytes { IfOk result (λ image. image.bytes ≡ bytes.items) }
     ensures holds { IfOk result (λ image. HoldsSectors order bytes.items image.sectors) }
     ensures disk { IfOk result (λ image. IsOfDisk image) }
     ensures sectors { IfOk result (λ image. IsDisk image.sectors) }

@@ -1,16 +1,13 @@
 // The job that lists the files of a volume.
-ghost use Rattle.std.specs.Prelude.{◌≡◌};
-ghost use Rattle.a2_shop.specs.CatalogReply.{IsCatalogReply, IsListingReply};
+ghost use Rattle.std.specs.Prelude.{◌≡◌, Some, IsTrue};
+ghost use Rattle.a2_shop.specs.CatalogReply.{IsListed, TellsListing};
 ghost use Rattle.a2_shop.specs.Reply.{reply_to_refusal};
 
-use crate::disk::open_disk;
 use crate::reply::{Failure, Refusal, Reply};
-use a2_device::ImageDevice;
-use a2_image::Order;
-use file_cmds::{CmdError, Listing, catalog, dos_listing_text};
-use reserved_places::Reserved;
+use a2_device::Device;
+use file_cmds::{CmdError, FileFormat, Listing, catalog, dos_listing_text, pro_listing_text};
+use reserved_places::PlaceForm;
 use std::alloc::Global;
-use vol_layout::Dos33;
 
 impl From<CmdError> for Reply {
     ghost from_gives = { λ error reply. reply ≡ reply_to_refusal error };
@@ -25,30 +22,34 @@ impl From<CmdError> for Reply {
     }
 }
 
-// The text of a listing.
-fn listing_reply(alloc: Global, listing: &Listing) -> Reply
-    ensures { IsListingReply listing.now result }
+// The text of a listing; volumes of blocks are those of ProDOS.
+fn listing_reply(alloc: Global, form: PlaceForm, listing: &Listing) -> Reply
+    ensures { TellsListing form listing.now result }
 {
-    match dos_listing_text(alloc, listing) {
+    let text = match form {
+        PlaceForm::Sector => dos_listing_text(alloc, listing),
+        PlaceForm::Block => pro_listing_text(alloc, listing),
+    };
+    match text {
         Ok(text) => Reply::Done(text),
         Err(_) => Reply::Failed(Failure::Memory),
     }
 }
 
-/// The listing of the DOS 3.3 volume in an image in this order.
-pub fn catalog_reply(alloc: Global, image: Vec<u8>, order: Order) -> Reply
-    ensures { IsCatalogReply order image.items result }
+/// The listing of the volume on a device.
+pub fn catalog_reply<D: Device, F: FileFormat>(
+    alloc: Global,
+    device: &mut D,
+    format: &F,
+    form: PlaceForm,
+) -> Reply
+    requires unit { (D.state device.old).unit_size ≡ (F.meaning format.now).unit_size }
+    requires places { (F.meaning format.now).Takes (D.state device.old).places }
+    ensures { IsTrue (D.state device.old).honest → (D.state device.old).read_failures ≡ Some 0
+        → IsListed form (F.files format.now) (F.meaning format.now) (D.state device.old) result }
 {
-    let image = match open_disk(image, order) {
-        Ok(image) => image,
-        Err(error) => return Reply::from(error),
-    };
-    let Ok(format) = Dos33::new(alloc, false, Reserved::none(alloc)) else {
-        return Reply::Failed(Failure::Memory);
-    };
-    let mut device = ImageDevice::dos(image);
-    match catalog(alloc, &mut device, &format) {
-        Ok(listing) => listing_reply(alloc, &listing),
+    match catalog(alloc, device, format) {
+        Ok(listing) => listing_reply(alloc, form, &listing),
         Err(error) => Reply::from(error),
     }
 }

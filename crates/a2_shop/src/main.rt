@@ -13,11 +13,15 @@ mod disk;
 mod input;
 mod job;
 mod listing;
+mod optimize;
+mod plan;
 mod reading;
 mod reply;
 mod start;
 #[cfg(test)]
 mod tests;
+mod verify;
+mod volume;
 
 use std::process::ExitCode;
 

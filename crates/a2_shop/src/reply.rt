@@ -16,6 +16,10 @@ pub enum Refusal {
     Check,
     /// The volume has no file of that name.
     NotFound,
+    /// Some part is misplaced, and each place has a part.
+    NoFreePlace,
+    /// The file that is read beside the image is too long.
+    InputTooLong,
     /// A track of the image lacks a sector.
     NoSector,
 }
@@ -41,7 +45,13 @@ pub enum Reply {
     Bytes(Vec<u8>),
     /// The image that a job has made, for the output file.
     Made(Vec<u8>),
+    /// What was done to a volume, and the image with it.
+    Optimized(Vec<u8>, Vec<u8>),
+    /// The image as it stands after a failure of the device.
+    Interrupted(Vec<u8>),
     Refused(Refusal),
+    /// The text of a refusal to open a volume that has lost places.
+    Unopened(String),
     Failed(Failure),
 }
 
@@ -54,6 +64,8 @@ impl Refusal {
             Refusal::Length => b"REFUSED Length\n",
             Refusal::Check => b"REFUSED Check\n",
             Refusal::NotFound => b"REFUSED NotFound\n",
+            Refusal::NoFreePlace => b"REFUSED NoFreePlace\n",
+            Refusal::InputTooLong => b"REFUSED InputTooLong\n",
             Refusal::NoSector => b"REFUSED NoSector\n",
         }
     }
@@ -79,10 +91,10 @@ impl Reply {
         ensures { result ≡ status_of self.now }
     {
         match self {
-            Reply::Done(_) | Reply::Bytes(_) | Reply::Made(_) => 0,
+            Reply::Done(_) | Reply::Bytes(_) | Reply::Made(_) | Reply::Optimized(_, _) => 0,
             Reply::Faulty(_) => 1,
-            Reply::Refused(_) => 3,
-            Reply::Failed(_) => FAILED,
+            Reply::Refused(_) | Reply::Unopened(_) => 3,
+            Reply::Failed(_) | Reply::Interrupted(_) => FAILED,
         }
     }
 
@@ -90,9 +102,11 @@ impl Reply {
         ensures { result.now ≡ text_of self.now }
     {
         match self {
-            Reply::Done(text) | Reply::Faulty(text) => text.as_bytes(),
+            Reply::Done(text) | Reply::Faulty(text) | Reply::Unopened(text) => text.as_bytes(),
             Reply::Bytes(content) => content.as_slice(),
             Reply::Made(_) => b"OK\n",
+            Reply::Optimized(text, _) => text.as_slice(),
+            Reply::Interrupted(_) => Failure::Device.line(),
             Reply::Refused(refusal) => refusal.line(),
             Reply::Failed(failure) => failure.line(),
         }
@@ -110,12 +124,17 @@ impl Reply {
     /// writer fails. What hands out no image leaves that writer as it is; so does a text that could not be written.
     pub fn deliver<T: Write, O: Write>(&self, text: &mut T, out: &mut O) -> u8
         ensures told { IsDelivered self.now result (held (T.contents text.old) (O.contents out.old)) (held (T.contents text.new) (O.contents out.new)) }
-        ensures out { (out.new ≡ out.old) ⊎ (IsMade self.now × HandsOut result (T.contents text.old) (T.contents text.new)) }
+        ensures out { (out.new ≡ out.old) ⊎ (IsMade self.now × HandsOut self.now result (T.contents text.old) (T.contents text.new)) }
     {
-        let status = self.tell(text);
+        let told = written(self.text(), 0, text);
+        if told == FAILED {
+            return FAILED;
+        }
         match self {
-            Reply::Made(image) if status != FAILED => written(image.as_slice(), status, out),
-            _ => status,
+            Reply::Made(image) | Reply::Optimized(_, image) | Reply::Interrupted(image) => {
+                written(image.as_slice(), self.status(), out)
+            }
+            _ => self.status(),
         }
     }
 }

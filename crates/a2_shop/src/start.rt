@@ -1,7 +1,7 @@
 // The program's files and streams.
 ghost use Rattle.std.specs.Prelude.{◌≡◌, option_map};
 ghost use Rattle.shop_words.specs.Job.{job_view};
-ghost use Rattle.a2_shop.specs.Answer.{image_of, made_bytes_of, out_of};
+ghost use Rattle.a2_shop.specs.Answer.{from_of, image_of, made_bytes_of, out_of};
 
 use crate::command::tell_words_fault;
 use crate::disk::{disk_bytes, order_of};
@@ -28,7 +28,20 @@ fn image_path(job: &Job) -> &str
         Job::Catalog { image, .. }
         | Job::Check { image, .. }
         | Job::Read { image, .. }
+        | Job::Plan { image, .. }
+        | Job::Optimize { image, .. }
+        | Job::Verify { image, .. }
         | Job::Convert { image, .. } => image.as_str(),
+    }
+}
+
+// The path of the file that a job reads beside its image.
+fn from_path(job: &Job) -> Option<&str>
+    ensures { option_map (λ s. s.now) result ≡ from_of (job_view job.now) }
+{
+    match job {
+        Job::Verify { from, .. } => Some(from.as_str()),
+        _ => None,
     }
 }
 
@@ -37,17 +50,26 @@ fn out_path(job: &Job) -> Option<&str>
     ensures { option_map (λ s. s.now) result ≡ out_of (job_view job.now) }
 {
     match job {
-        Job::Catalog { .. } | Job::Check { .. } | Job::Read { .. } => None,
-        Job::Convert { out, .. } => Some(out.as_str()),
+        Job::Catalog { .. }
+        | Job::Check { .. }
+        | Job::Read { .. }
+        | Job::Plan { .. }
+        | Job::Verify { .. } => None,
+        Job::Convert { out, .. } | Job::Optimize { out, .. } => Some(out.as_str()),
     }
 }
 
-// The bytes of the image that a job makes, 0 where it makes none.
+// The bytes of the image that a conversion makes; for other jobs 0.
 fn made_bytes(job: &Job) -> usize
     ensures { result ≡ made_bytes_of (job_view job.now) }
 {
     match job {
-        Job::Catalog { .. } | Job::Check { .. } | Job::Read { .. } => 0,
+        Job::Catalog { .. }
+        | Job::Check { .. }
+        | Job::Read { .. }
+        | Job::Plan { .. }
+        | Job::Optimize { .. }
+        | Job::Verify { .. } => 0,
         Job::Convert { to, .. } => disk_bytes(order_of(*to)),
     }
 }
@@ -60,24 +82,28 @@ fn write_file(rt: &HostRuntime, path: &str, bytes: &[u8], status: u8) -> u8 {
     }
 }
 
-// Does a job on the image of a reader, tells it on standard output and writes the output file. The room for the file's
+// Does a job on the image of a reader, tells it on standard output and writes the output file. The room for a conversion's
 // bytes is taken first, so that want of it is told.
-fn run_on<I: Read>(rt: &HostRuntime, job: &Job, image: &mut I) -> u8 {
+fn run_on<I: Read, E: Read>(rt: &HostRuntime, job: &Job, image: &mut I, extra: &mut E) -> u8 {
     let mut text = rt.stdout();
     let Ok(mut out) = Vec::with_capacity(rt.alloc(), made_bytes(job)) else {
         return Reply::Failed(Failure::Memory).tell(&mut text);
     };
-    let status = run_job(
-        rt.alloc(),
-        job,
-        image,
-        &mut io::empty(),
-        &mut text,
-        &mut out,
-    );
+    let status = run_job(rt.alloc(), job, image, extra, &mut text, &mut out);
     match out_path(job) {
         Some(path) if !out.is_empty() => write_file(rt, path, out.as_slice(), status),
         _ => status,
+    }
+}
+
+// Opens the file that a job reads beside its image, and does the job.
+fn run_with<I: Read>(rt: &HostRuntime, job: &Job, image: &mut I) -> u8 {
+    let Some(path) = from_path(job) else {
+        return run_on(rt, job, image, &mut io::empty());
+    };
+    match File::open(rt, path) {
+        Ok(mut extra) => run_on(rt, job, image, &mut extra),
+        Err(_) => Reply::Failed(Failure::Input).tell(&mut rt.stdout()),
     }
 }
 
@@ -97,10 +123,10 @@ pub fn run(rt: &HostRuntime) -> u8 {
         Err(fault) => return tell_words_fault(&fault, &mut text),
     };
     if image_path(&job) == STANDARD_INPUT {
-        return run_on(rt, &job, &mut rt.stdin());
+        return run_with(rt, &job, &mut rt.stdin());
     }
     match File::open(rt, image_path(&job)) {
-        Ok(mut image) => run_on(rt, &job, &mut image),
+        Ok(mut image) => run_with(rt, &job, &mut image),
         Err(_) => Reply::Failed(Failure::Input).tell(&mut text),
     }
 }

@@ -5,6 +5,7 @@ use std::process::Abort;
 use std::test::Fail;
 use test_volumes::{VTOC, hello, put};
 
+mod moves;
 mod reads;
 mod writers;
 

@@ -10,16 +10,20 @@ returns-in-Err-clause-plain g c = λ plain.
 
 pub returns-in-Err-clause-answer : goal.returns-in-Err-clause-answer
 returns-in-Err-clause-answer g c =
-    command_refused (map string_bytes c.args.words.now) c.in-Err.fault (g.I.Read.remaining c.args.image.now) c.tell_words_fault.result
+    command_refused (map string_bytes c.args.words.now) c.in-Err.fault (g.I.Read.remaining c.args.image.now) (g.E.Read.remaining c.args.extra.now) c.tell_words_fault.result
     (held (g.T.Write.contents c.args.text.now) (g.O.Write.contents c.args.out.now))
     (held (g.T.Write.contents c.tell_words_fault.new.text) (g.O.Write.contents c.args.out.now)) c.tell_words_fault.ensures
 
 pub returns-in-Ok-clause-answer : goal.returns-in-Ok-clause-answer
 returns-in-Ok-clause-answer g c =
-    command_answered (map string_bytes c.args.words.now) (job_view c.in-Ok.job) (g.I.Read.remaining c.args.image.now) c.run_job.result
+    command_answered (map string_bytes c.args.words.now) (job_view c.in-Ok.job) (g.I.Read.remaining c.args.image.now) (g.E.Read.remaining c.args.extra.now) c.run_job.result
     (held (g.T.Write.contents c.args.text.now) (g.O.Write.contents c.args.out.now))
     (held (g.T.Write.contents c.run_job.new.text) (g.O.Write.contents c.run_job.new.out)) c.in-Ok.ensures.job c.run_job.ensures.answer
 
 pub returns-in-Ok-clause-out : goal.returns-in-Ok-clause-out
 returns-in-Ok-clause-out g c =
     ⊎_elim inl (λ made. inr (job_view c.in-Ok.job, c.in-Ok.ensures.job, made.0, made.1)) c.run_job.ensures.out
+
+pub returns-in-Ok-clause-extra : goal.returns-in-Ok-clause-extra
+returns-in-Ok-clause-extra g c =
+    ⊎_elim inl (λ reads. inr (job_view c.in-Ok.job, c.in-Ok.ensures.job, reads)) c.run_job.ensures.extra
