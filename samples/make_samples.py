@@ -45,6 +45,183 @@ def hello():
     return image
 
 
+def put_file(image, slot, kind, name, places, lists):
+    """A file whose part k stands at place `places[k]`: each list's place, then those of its body; `lists` has for each list its pairs.
+
+    A pair is None, or the bytes of a sector.
+    """
+    stand = iter(places)
+    before = None
+    for number, pairs in enumerate(lists):
+        at = next(stand)
+        if before is None:
+            first = at
+        else:
+            put(image, before, 0x01, divmod(at, 16))
+        before = at
+        put(image, at, 0x05, [122 * number & 255, 122 * number >> 8])
+        for i, unit in enumerate(pairs):
+            if unit is not None:
+                body = next(stand)
+                put(image, at, 0x0C + 2 * i, divmod(body, 16))
+                put(image, body, 0, unit)
+    sector = VTOC + 15 - slot // 7
+    text = bytes(byte | 0x80 for byte in name.ljust(30).encode("ascii"))
+    length = len(places)
+    put(image, sector, 0x0B + 35 * (slot % 7), [*divmod(first, 16), kind, *text, length & 255, length >> 8])
+    for place in places:
+        track, number = divmod(place, 16)
+        image[SECTOR * VTOC + 0x38 + 4 * track + (number < 8)] &= ~(1 << number % 8)
+
+
+def shuffled(count, spread):
+    """The numbers of `count` places among the first `count + spread`, out of order; the same each time."""
+    return sorted(range(count + spread), key=lambda number: (number + 3) ** 5 % 10007)[:count]
+
+
+def unit_of(number, length):
+    """The bytes of a body's unit, unlike those of every other."""
+    return bytes([number, *((number * 59 + i * 31 + i * i // 7) % 256 for i in range(1, length))])
+
+
+def sizes(count):
+    """How many units the body of each file has."""
+    return [number * 7 % 4 for number in range(count)]
+
+
+def shelf_dsk():
+    """Thirty files of all kinds, their sectors out of order: holes, an empty file, and a file of two lists among them."""
+    image = dos_volume([0xFF, 0xFF])
+    kinds = [0x00, 0x01, 0x82, 0x04, 0x08, 0x90, 0x20, 0xC0]
+    files = []
+    number = 0
+    for file, size in enumerate(sizes(30)):
+        pairs = []
+        for _ in range(size):
+            pairs.append(unit_of(number, SECTOR))
+            number += 1
+        if file == 11:
+            files.append([[None, *pairs], [None] * 5 + [unit_of(200, SECTOR)]])
+        else:
+            files.append([pairs])
+    lengths = [sum(1 + sum(unit is not None for unit in pairs) for pairs in lists) for lists in files]
+    available = [16 * track + sector for track in range(3, 35) if track != 17 for sector in range(15, -1, -1)]
+    at = iter([available[index] for index in shuffled(sum(lengths), 3)])
+    for file, lists in enumerate(files):
+        put_file(image, file, kinds[file % 8], f"FILE {file}", [next(at) for _ in range(lengths[file])], lists)
+    return image
+
+
+BLOCK = 512
+BLOCKS = 280
+
+
+def put_block(image, block, offset, data):
+    at = BLOCK * block + offset
+    image[at:at + len(data)] = bytes(data)
+
+
+def low_first(number, count):
+    return number.to_bytes(count, "little")
+
+
+DATE = [0xA1, 0xAC, 0x1E, 0x0C]
+
+
+def pro_volume(name):
+    """A formatted ProDOS volume of 280 blocks: four directory blocks from 2 on, and the bitmap in block 6."""
+    image = bytearray(BLOCK * BLOCKS)
+    for block in range(2, 6):
+        put_block(image, block, 0x00, low_first(block - 1 if block > 2 else 0, 2) + low_first(block + 1 if block < 5 else 0, 2))
+    put_block(image, 2, 0x04, bytes([0xF0 + len(name)]) + name.encode("ascii"))
+    put_block(image, 2, 0x22, [0xC3, 0x27, 0x0D, 0, 0, 6, 0, *low_first(BLOCKS, 2)])
+    put_block(image, 6, 0x00, [0x01] + [0xFF] * (BLOCKS // 8 - 1))
+    return image
+
+
+def take_block(image, block):
+    image[BLOCK * 6 + block // 8] &= ~(0x80 >> block % 8)
+
+
+def put_pro_entry(image, directory, slot, storage, name, kind, key, blocks, eof, date):
+    """An entry in a block of the directory whose key block is `directory`; slot 0 of a key block is its header."""
+    block = directory + slot // 13
+    fields = bytes([kind]) + low_first(key, 2) + low_first(blocks, 2) + low_first(eof, 3) + bytes(date)
+    put_block(image, block, 0x04 + 39 * (slot % 13), bytes([storage * 16 + len(name)]) + name.encode("ascii"))
+    put_block(image, block, 0x04 + 39 * (slot % 13) + 0x10, fields)
+    put_block(image, block, 0x04 + 39 * (slot % 13) + 0x1E, [0xE3, 0, 0, *date, *low_first(directory, 2)])
+    count = BLOCK * directory + 0x25
+    image[count:count + 2] = low_first(int.from_bytes(image[count:count + 2], "little") + 1, 2)
+
+
+def put_subdirectory(image, slot, name, block):
+    """A subdirectory of one block, in the volume directory."""
+    put_pro_entry(image, 2, slot, 0xD, name, 0x0F, block, 1, BLOCK, DATE)
+    put_block(image, block, 0x04, bytes([0xE0 + len(name)]) + name.encode("ascii"))
+    put_block(image, block, 0x23, [0x27, 0x0D])
+    take_block(image, block)
+
+
+def put_pointer(image, index, number, block):
+    put_block(image, index, number, [block & 255])
+    put_block(image, index, 0x100 + number, [block >> 8])
+
+
+def work():
+    """A tree file with a hole of 256 blocks, and a subdirectory with a seedling."""
+    image = pro_volume("WORK")
+    put_pro_entry(image, 2, 1, 3, "BIG", 0x06, 7, 3, 131075, DATE)
+    put_subdirectory(image, 2, "SUB", 10)
+    put_pro_entry(image, 10, 1, 1, "A", 0x04, 11, 1, 2, [0, 0, 0, 0])
+    put_pointer(image, 7, 1, 9)
+    put_pointer(image, 9, 0, 8)
+    put_block(image, 8, 0, b"abc")
+    put_block(image, 11, 0, b"hi")
+    for block in (7, 8, 9, 11):
+        take_block(image, block)
+    return image
+
+
+def shelf_po():
+    """Thirty files, their blocks out of order: ten of them in a subdirectory, seedlings, saplings and two trees, with holes."""
+    image = pro_volume("SHELF")
+    subdirectory = 40
+    put_subdirectory(image, 5, "INNER", subdirectory)
+    slots = [(2, slot) for slot in range(1, 5)] + [(subdirectory, slot) for slot in range(1, 11)] + [(2, slot) for slot in range(6, 22)]
+    files = []
+    unit = 0
+    for file, size in enumerate(sizes(30)):
+        numbers = [3 * i for i in range(size)] or [0]
+        if file in (9, 20):
+            numbers = [1, 255, 600 + file]
+        files.append({number: unit_of(unit + i, BLOCK) for i, number in enumerate(numbers)})
+        unit += len(numbers)
+    lengths = [len(body) + (0 if max(body) == 0 else 1 if max(body) < 256 else 3) for body in files]
+    available = [block for block in range(7, BLOCKS) if block != subdirectory]
+    at = iter([available[index] for index in shuffled(sum(lengths), 3)])
+    for file, body in enumerate(files):
+        places = [next(at) for _ in range(lengths[file])]
+        for block in places:
+            take_block(image, block)
+        stand = iter(places)
+        key = master = index = next(stand)
+        last = max(body)
+        held = None
+        for number, data in body.items():
+            if last > 255 and number // 256 != held:
+                held = number // 256
+                index = next(stand)
+                put_pointer(image, master, held, index)
+            block = next(stand) if last > 0 else key
+            if last > 0:
+                put_pointer(image, index, number % 256, block)
+            put_block(image, block, 0, data)
+        storage = 3 if last > 255 else 2 if last > 0 else 1
+        put_pro_entry(image, *slots[file], storage, f"FILE.{file}", file * 5, key, len(places), BLOCK * last + 100, DATE)
+    return image
+
+
 if __name__ == "__main__":
-    with open("hello.dsk", "wb") as file:
-        file.write(hello())
+    for name, image in (("hello.dsk", hello()), ("shelf.dsk", shelf_dsk()), ("work.po", work()), ("shelf.po", shelf_po())):
+        with open(name, "wb") as file:
+            file.write(image)
