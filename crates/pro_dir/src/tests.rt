@@ -231,7 +231,11 @@ fn nested(alloc: Global) -> Result<Vec<u8>, AllocError> {
 #[test]
 fn entries_have_paths(rt: HostRuntime) -> Result<(), Fail> {
     let volume = walked(rt.alloc(), work_with_subdirectory(rt.alloc())?)?;
-    for (entry, path) in [(0, "BIG"), (1, "SUB"), (2, "SUB/A")] {
+    let paths = ["BIG", "SUB", "SUB/A"];
+    assert_eq!(rt; volume.entries().len(), paths.len());
+    for entry in 0..paths.len() {
+        let path = paths[entry];
+        let entry = entry as u32;
         assert_eq!(rt; volume.path(rt.alloc(), entry)?.as_slice(), path.as_bytes());
         for given in [
             "BIG", "SUB", "SUB/A", "sub/a", "A", "/SUB/A", "SUB/", "SUB/A/", "",
