@@ -1,7 +1,9 @@
-//! Checks or optimizes a ProDOS volume in ProDOS order as a plain program would: the measure for whole commands.
-//! `plain check IMAGE` and `plain optimize IMAGE OUT`.
+//! Checks or optimizes a ProDOS volume in ProDOS order as a plain program would, with the same plan, certificate and image: the
+//! measure for whole commands. `plain check IMAGE` and `plain optimize IMAGE OUT`.
 
-use std::{env, error::Error, fs};
+use std::fmt::Write as _;
+use std::io::Write as _;
+use std::{env, error::Error, fs, io};
 
 const BLOCK: usize = 512;
 const ENTRY: usize = 0x27;
@@ -9,7 +11,7 @@ const ENTRIES: usize = 13;
 
 type Outcome<T> = Result<T, Box<dyn Error>>;
 
-/// A pointer to a block: the place of the block that holds it, or the part that is that block, and where in it.
+/// A pointer to a block: the block of a directory or the part that holds it, and where in it.
 #[derive(Clone, Copy)]
 struct Pointer {
     holder: Holder,
@@ -19,14 +21,13 @@ struct Pointer {
 
 #[derive(Clone, Copy)]
 enum Holder {
-    Fixed(usize),
+    Directory(usize),
     Part(usize),
 }
 
-#[derive(Default)]
 struct Part {
     place: usize,
-    pointers: Vec<Pointer>,
+    pointer: Pointer,
 }
 
 struct Volume {
@@ -34,7 +35,8 @@ struct Volume {
     blocks: usize,
     bitmap: usize,
     parts: Vec<Part>,
-    owner: Vec<Option<usize>>,
+    taken: Vec<bool>,
+    system: Vec<bool>,
     files: usize,
 }
 
@@ -45,21 +47,20 @@ impl Volume {
         if bytes.len() != blocks * BLOCK {
             return Err("the image isn't as long as its volume".into());
         }
-        let owner = vec![None; blocks];
+        let mut system = vec![false; blocks];
+        system[..6].fill(true);
+        system[bitmap..bitmap + blocks.div_ceil(8 * BLOCK)].fill(true);
         let mut volume = Self {
             bytes,
             blocks,
             bitmap,
             parts: Vec::new(),
-            owner,
+            taken: system.clone(),
+            system,
             files: 0,
         };
         volume.walk()?;
         Ok(volume)
-    }
-
-    fn first_available(&self) -> usize {
-        self.bitmap + self.blocks.div_ceil(8 * BLOCK)
     }
 
     fn byte(&self, place: usize, at: usize) -> usize {
@@ -74,103 +75,78 @@ impl Volume {
         self.byte(self.bitmap, place / 8) >> (7 - place % 8) & 1 == 1
     }
 
-    fn place_of(&self, holder: Holder) -> usize {
+    fn holder_place(&self, holder: Holder) -> usize {
         match holder {
-            Holder::Fixed(place) => place,
+            Holder::Directory(place) => place,
             Holder::Part(part) => self.parts[part].place,
         }
     }
 
-    /// Takes the block that the pointer tells.
-    fn take(&mut self, pointer: Pointer) -> Outcome<usize> {
-        let place = self.word(self.place_of(pointer.holder), pointer.low, pointer.high);
-        if place < self.first_available() || place >= self.blocks {
+    fn take(&mut self, place: usize) -> Outcome<()> {
+        if place == 0 || place >= self.blocks {
             return Err(format!("block {place} is out of range").into());
         }
-        if self.owner[place].is_some() || self.is_marked_free(place) {
+        if self.taken[place] || self.is_marked_free(place) {
             return Err(format!("block {place} is taken twice or marked free").into());
         }
-        self.owner[place] = Some(self.parts.len());
-        self.parts.push(Part {
-            place,
-            pointers: vec![pointer],
-        });
+        self.taken[place] = true;
+        Ok(())
+    }
+
+    /// Takes the block that a pointer tells as a part.
+    fn part(&mut self, pointer: Pointer) -> Outcome<usize> {
+        let place = self.word(self.holder_place(pointer.holder), pointer.low, pointer.high);
+        self.take(place)?;
+        self.parts.push(Part { place, pointer });
         Ok(self.parts.len() - 1)
     }
 
     /// Walks the directories with a list of those to come, by their key blocks.
     fn walk(&mut self) -> Outcome<()> {
         let mut coming = Vec::new();
-        for place in 2..6 {
-            self.entries(Holder::Fixed(place), Holder::Fixed(2), &mut coming)?;
+        for block in 2..6 {
+            self.entries(block, &mut coming)?;
         }
         while let Some(key) = coming.pop() {
             let mut block = key;
-            loop {
-                self.entries(Holder::Part(block), Holder::Part(key), &mut coming)?;
-                let next = Pointer {
-                    holder: Holder::Part(block),
-                    low: 2,
-                    high: 3,
-                };
-                if self.word(self.parts[block].place, 2, 3) == 0 {
-                    break;
-                }
-                let after = self.take(next)?;
-                self.parts[block].pointers.push(Pointer {
-                    holder: Holder::Part(after),
-                    low: 0,
-                    high: 1,
-                });
-                block = after;
+            while block != 0 {
+                self.take(block)?;
+                self.system[block] = true;
+                self.entries(block, &mut coming)?;
+                block = self.word(block, 2, 3);
             }
         }
         Ok(())
     }
 
-    /// Takes what the entries of a directory block point to.
-    fn entries(&mut self, block: Holder, key: Holder, coming: &mut Vec<usize>) -> Outcome<()> {
+    /// Takes what the entries of a directory's block point to.
+    fn entries(&mut self, block: usize, coming: &mut Vec<usize>) -> Outcome<()> {
         for at in (0..ENTRIES).map(|entry| 4 + entry * ENTRY) {
-            let place = self.place_of(block);
-            let storage = self.byte(place, at) >> 4;
-            if storage == 0 || storage > 0xd {
-                continue;
-            }
-            if let Holder::Part(part) = key {
-                self.parts[part].pointers.push(Pointer {
-                    holder: block,
-                    low: at + 0x25,
-                    high: at + 0x26,
-                });
-            }
-            let first = self.take(Pointer {
-                holder: block,
+            let first = Pointer {
+                holder: Holder::Directory(block),
                 low: at + 0x11,
                 high: at + 0x12,
-            })?;
-            match storage {
-                1 => self.files += 1,
+            };
+            match self.byte(block, at) >> 4 {
+                0 | 0xe | 0xf => {}
+                1 => {
+                    self.files += 1;
+                    self.part(first)?;
+                }
                 2 => {
                     self.files += 1;
                     self.indexed(first)?;
                 }
-                0xd => {
-                    if let Holder::Part(parent) = block {
-                        self.parts[parent].pointers.push(Pointer {
-                            holder: Holder::Part(first),
-                            low: 0x27,
-                            high: 0x28,
-                        });
-                    }
-                    coming.push(first);
-                }
+                0xd => coming.push(self.word(block, first.low, first.high)),
                 _ => return Err("the volumes measured hold no such file".into()),
             }
         }
         Ok(())
     }
 
-    fn indexed(&mut self, index: usize) -> Outcome<()> {
+    /// Takes an index block and what it points to.
+    fn indexed(&mut self, first: Pointer) -> Outcome<()> {
+        let index = self.part(first)?;
         for low in 0..256 {
             let pointer = Pointer {
                 holder: Holder::Part(index),
@@ -178,7 +154,7 @@ impl Volume {
                 high: low + 256,
             };
             if self.word(self.parts[index].place, low, low + 256) != 0 {
-                self.take(pointer)?;
+                self.part(pointer)?;
             }
         }
         Ok(())
@@ -193,52 +169,134 @@ impl Volume {
         }
     }
 
-    /// Moves a part to a free place, and tells the place left.
-    fn move_part(&mut self, part: usize, to: usize) -> usize {
+    /// Copies a part's block to a free place, points to it there, and marks both places.
+    fn move_part(&mut self, part: usize, to: usize) {
         let from = self.parts[part].place;
         self.mark(to, false);
-        self.bytes
-            .copy_within(from * BLOCK..(from + 1) * BLOCK, to * BLOCK);
+        self.bytes.copy_within(from * BLOCK..(from + 1) * BLOCK, to * BLOCK);
+        let pointer = self.parts[part].pointer;
+        let at = self.holder_place(pointer.holder) * BLOCK;
+        self.bytes[at + pointer.low] = to as u8;
+        self.bytes[at + pointer.high] = (to >> 8) as u8;
         self.parts[part].place = to;
-        for index in 0..self.parts[part].pointers.len() {
-            let pointer = self.parts[part].pointers[index];
-            let at = self.place_of(pointer.holder) * BLOCK;
-            self.bytes[at + pointer.low] = to as u8;
-            self.bytes[at + pointer.high] = (to >> 8) as u8;
-        }
         self.mark(from, true);
-        self.owner[from] = None;
-        self.owner[to] = Some(part);
-        from
     }
+}
 
-    /// Fills the hole, then the hole that this leaves, until the hole is no part's target.
-    fn fill(&mut self, mut hole: usize) -> usize {
-        let first = self.first_available();
-        while hole - first < self.parts.len() {
-            hole = self.move_part(hole - first, hole);
+/// A part and the number of the place to which it goes.
+#[derive(Clone, Copy)]
+struct Move {
+    part: usize,
+    to: usize,
+}
+
+/// The numbers of the places at which the parts stand, and what is to be done.
+struct Plan {
+    at: Vec<usize>,
+    places: usize,
+    misplaced: Vec<usize>,
+    rings: Vec<Vec<usize>>,
+    moves: Vec<Move>,
+}
+
+/// Fills the hole, then the hole that this leaves, until the hole is no part's target; tells that one.
+fn fill(now: &mut [usize], moves: &mut Vec<Move>, mut hole: usize) -> usize {
+    while hole < now.len() {
+        moves.push(Move { part: hole, to: hole });
+        hole = std::mem::replace(&mut now[hole], hole);
+    }
+    hole
+}
+
+/// The part, and those in whose places it and the next ones stand, back to it.
+fn ring(now: &[usize], part: usize) -> Vec<usize> {
+    let mut ring = vec![part];
+    let mut next = now[part];
+    while next != part {
+        ring.push(next);
+        next = now[next];
+    }
+    ring
+}
+
+impl Plan {
+    fn new(at: Vec<usize>, places: usize) -> Outcome<Self> {
+        let parts = at.len();
+        let misplaced: Vec<usize> = (0..parts).filter(|part| at[*part] != *part).collect();
+        let mut free = vec![true; places];
+        for place in &at {
+            free[*place] = false;
         }
-        hole
-    }
-
-    /// Brings the parts to the first places, in the order in which they were met.
-    fn optimize(&mut self) -> Outcome<()> {
-        let first = self.first_available();
-        let targets = first..first + self.parts.len();
-        for hole in targets.clone() {
-            if self.owner[hole].is_none() {
-                self.fill(hole);
+        let (mut now, mut moves, mut rings) = (at.clone(), Vec::new(), Vec::new());
+        let mut to = parts;
+        for hole in (0..parts).filter(|place| free[*place]) {
+            to = fill(&mut now, &mut moves, hole);
+        }
+        for part in 0..parts {
+            if now[part] == part {
+                continue;
+            }
+            if to == places {
+                return Err("no place is free".into());
+            }
+            rings.push(ring(&now, part));
+            moves.push(Move { part, to });
+            let mut hole = std::mem::replace(&mut now[part], to);
+            while hole != to {
+                moves.push(Move { part: hole, to: hole });
+                hole = std::mem::replace(&mut now[hole], hole);
             }
         }
-        let mut spare = (targets.end..self.blocks).find(|place| self.owner[*place].is_none());
-        for target in targets {
-            if self.parts[target - first].place != target {
-                let hole = self.move_part(target - first, spare.ok_or("no free place")?);
-                spare = Some(self.fill(hole));
-            }
-        }
-        Ok(())
+        Ok(Self {
+            at,
+            places,
+            misplaced,
+            rings,
+            moves,
+        })
     }
+
+    /// What was done, and the certificate.
+    fn report(&self) -> Result<String, std::fmt::Error> {
+        let (moves, rings, misplaced) = (self.moves.len(), self.rings.len(), self.misplaced.len());
+        let mut text = String::new();
+        writeln!(text, "moves {moves} rings {rings} misplaced {misplaced}")?;
+        writeln!(text, "A2CERT 1\nPARTS {} PLACES {}", self.at.len(), self.places)?;
+        for place in &self.at {
+            writeln!(text, "AT {place}")?;
+        }
+        for part in &self.misplaced {
+            writeln!(text, "OFF {part}")?;
+        }
+        for ring in &self.rings {
+            text.push_str("RING");
+            for part in ring {
+                write!(text, " {part}")?;
+            }
+            text.push('\n');
+        }
+        writeln!(text, "BOUND {}", misplaced + rings)?;
+        for step in &self.moves {
+            writeln!(text, "MOVE {} {}", step.part, step.to)?;
+        }
+        text.push_str("END\n");
+        Ok(text)
+    }
+}
+
+/// Brings the parts to the first available places, in the order in which they were met, by the fewest moves.
+fn optimize(volume: &mut Volume) -> Outcome<Plan> {
+    let available: Vec<usize> = (0..volume.blocks).filter(|place| !volume.system[*place]).collect();
+    let mut number = vec![0; volume.blocks];
+    for (index, place) in available.iter().enumerate() {
+        number[*place] = index;
+    }
+    let at = volume.parts.iter().map(|part| number[part.place]).collect();
+    let plan = Plan::new(at, available.len())?;
+    for step in &plan.moves {
+        volume.move_part(step.part, available[step.to]);
+    }
+    Ok(plan)
 }
 
 fn main() -> Outcome<()> {
@@ -250,7 +308,8 @@ fn main() -> Outcome<()> {
         }
         ["optimize", image, out] => {
             let mut volume = Volume::open(fs::read(image)?)?;
-            volume.optimize()?;
+            let plan = optimize(&mut volume)?;
+            io::stdout().write_all(plan.report()?.as_bytes())?;
             fs::write(out, &volume.bytes)?;
         }
         _ => return Err("plain check IMAGE | plain optimize IMAGE OUT".into()),

@@ -7,3 +7,4 @@ pub mod Unopened
 pub mod Optimized
 pub mod NotMade
 pub mod Answered
+pub mod DosListings

@@ -3,6 +3,7 @@ pub mod Volume
 pub mod VolumeReply
 pub mod Reply
 pub mod CatalogReply
+pub mod DosCatalogReply
 pub mod CheckText
 pub mod CheckReply
 pub mod PlanReply

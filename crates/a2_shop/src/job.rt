@@ -3,6 +3,7 @@ ghost use Rattle.std.specs.Prelude.{◌≡◌, ◌⊎◌, ◌+◌, Some, take, I
 ghost use Rattle.shop_words.specs.Job.{job_view};
 ghost use Rattle.a2_shop.specs.Reply.{HandsImage, held};
 ghost use Rattle.a2_shop.specs.VerifyReply.{most_certificate};
+ghost use Rattle.a2_shop.specs.DosCatalogReply.{IsDosCatalogAnswer};
 ghost use Rattle.a2_shop.specs.Answer.{AsksForMoves, IsAnswer, IsReplyTo, IsStatus, MakesImage, ReadsExtra, image_order_of, limit_of as of_limit};
 
 use crate::convert::convert_reply;
@@ -150,6 +151,8 @@ pub fn run_job<I: Read, E: Read, T: Write, O: Write>(
     ensures status { IsStatus result }
     ensures answer { IfSome (I.remaining image.old) (λ bytes.
         IsAnswer (job_view job.now) bytes (E.remaining extra.old) result (held (T.contents text.old) (O.contents out.old)) (held (T.contents text.new) (O.contents out.new))) }
+    ensures dos_catalog { IfSome (I.remaining image.old) (λ bytes.
+        IsDosCatalogAnswer (job_view job.now) bytes result (held (T.contents text.old) (O.contents out.old)) (held (T.contents text.new) (O.contents out.new))) }
     ensures extra { (extra.new ≡ extra.old) ⊎ ReadsExtra (job_view job.now) }
     ensures out { (out.new ≡ out.old) ⊎ (MakesImage (job_view job.now) × HandsImage result (T.contents text.old) (T.contents text.new)) }
 {

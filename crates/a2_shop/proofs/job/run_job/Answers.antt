@@ -4,14 +4,24 @@ use Rattle.shop_words.specs.Job.{job_view}
 use Rattle.a2_shop.specs.VerifyReply.{most_certificate}
 use Rattle.a2_shop.specs.Reply.{held}
 use Rattle.a2_shop.proofs.Answered.{image_handed, job_answered}
+use Rattle.a2_shop.proofs.DosListings.{dos_listed}
 use Rattle.a2_shop.proofs.job.run_job.Goals as goal
 
-pub returns-clause-answer : goal.returns-clause-answer
-returns-clause-answer g c =
+answered : goal.returns-clause-answer
+answered g c =
     job_answered (job_view c.args.job.now) (g.I.Read.remaining c.args.image.now) (g.E.Read.remaining c.args.extra.now) c.image_order.result c.in-Ok.bytes.items c.as_slice.result.now c.reply_to.result c.deliver.result
     (held (g.T.Write.contents c.args.text.now) (g.O.Write.contents c.args.out.now)) (held (g.T.Write.contents c.deliver.new.text) (g.O.Write.contents c.deliver.new.out))
     c.image_order.ensures c.in-Ok.ensures
     (λ reads. subst (λ (xs : List ℕ). IfSome (g.E.Read.remaining c.args.extra.now) (λ bytes. xs ≡ take (most_certificate + 1) bytes)) (sym c.as_slice.ensures.value) (c.in-Ok-extra_for.ensures.read reads)) c.reply_to.ensures c.deliver.ensures.told
+
+pub returns-clause-answer : goal.returns-clause-answer
+returns-clause-answer = answered
+
+pub returns-clause-dos_catalog : goal.returns-clause-dos_catalog
+returns-clause-dos_catalog g c =
+    dos_listed (job_view c.args.job.now) (g.I.Read.remaining c.args.image.now) (g.E.Read.remaining c.args.extra.now) c.deliver.result
+    (held (g.T.Write.contents c.args.text.now) (g.O.Write.contents c.args.out.now)) (held (g.T.Write.contents c.deliver.new.text) (g.O.Write.contents c.deliver.new.out))
+    (answered g c)
 
 pub returns-clause-out : goal.returns-clause-out
 returns-clause-out g c =
