@@ -8,7 +8,7 @@ use Rattle.shop_words.specs.declared.job.VolumeOptions.{VolumeOptions}
 use Rattle.shop_words.specs.declared.fault.WordsFault.{WordsFault}
 use Rattle.shop_words.specs.declared.fault.WordsFault.TheVariants as words
 use Rattle.a2_shop.specs.declared.reply.Reply.{Reply}
-use Rattle.a2_shop.specs.Disk.{disk_bytes, order_of}
+use Rattle.a2_shop.specs.Disk.{order_of}
 use Rattle.a2_shop.specs.Reply.{HandsImage, Held, IsDelivered}
 use Rattle.a2_shop.specs.Volume.{files_of, form_of}
 use Rattle.a2_shop.specs.VolumeReply.{IsVolumeReply}
@@ -48,16 +48,6 @@ image_order_of (plan path volume reserve reclaim) = order_of volume.order
 image_order_of (optimize words reserve reclaim) = order_of words.volume.order
 image_order_of (verify path volume from reserve reclaim) = order_of volume.order
 image_order_of (convert words) = order_of words.order
-
--- the room for the image that a job makes
-abbrev pub made_bytes_of : JobView → ℕ
-made_bytes_of (catalog path volume) = 0
-made_bytes_of (check path volume reserve) = 0
-made_bytes_of (read path name volume whole) = 0
-made_bytes_of (plan path volume reserve reclaim) = 0
-made_bytes_of (optimize words reserve reclaim) = 0
-made_bytes_of (verify path volume from reserve reclaim) = 0
-made_bytes_of (convert words) = disk_bytes (order_of words.to)
 
 -- after how many writes to stop; without a limit there are never so many
 abbrev pub limit_of : Option ℕ → ℕ

@@ -2,7 +2,7 @@
 ghost use Rattle.std.specs.Prelude.{◌≡◌, IsOk, IfOk, IfErr};
 ghost use Rattle.a2_image.specs.Image.{HoldsSectors, IsDisk, IsOfDisk};
 ghost use Rattle.a2_shop.specs.Reply.{reply_to_image};
-ghost use Rattle.a2_shop.specs.Disk.{IsDiskImage, RefusesDisk, disk_bytes as of_disk, most_bytes as most, order_of as named};
+ghost use Rattle.a2_shop.specs.Disk.{IsDiskImage, RefusesDisk, most_bytes as most, order_of as named};
 
 use crate::reply::{Failure, Refusal, Reply};
 use a2_image::{BLOCK_BYTES, DISK_BLOCKS, IMAGE_BYTES, Image, ImageError, NIBBLE_BYTES, Order};
@@ -19,16 +19,6 @@ pub fn order_of(order: ImageOrder) -> Order
         ImageOrder::Dos => Order::Dos,
         ImageOrder::Prodos => Order::Prodos,
         ImageOrder::Nibble => Order::Nibble,
-    }
-}
-
-/// How many bytes an image of a disk in this order has.
-pub fn disk_bytes(order: Order) -> usize
-    ensures { result ≡ of_disk order }
-{
-    match order {
-        Order::Dos | Order::Prodos => IMAGE_BYTES,
-        Order::Nibble => NIBBLE_BYTES,
     }
 }
 

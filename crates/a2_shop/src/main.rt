@@ -14,6 +14,7 @@ mod input;
 mod job;
 mod listing;
 mod optimize;
+mod out_file;
 mod plan;
 mod reading;
 mod reply;

@@ -1,12 +1,12 @@
 // The program's files and streams.
 ghost use Rattle.std.specs.Prelude.{◌≡◌, option_map};
 ghost use Rattle.shop_words.specs.Job.{job_view};
-ghost use Rattle.a2_shop.specs.Answer.{from_of, image_of, made_bytes_of, out_of};
+ghost use Rattle.a2_shop.specs.Answer.{from_of, image_of, out_of};
 
 use crate::command::tell_words_fault;
-use crate::disk::{disk_bytes, order_of};
 use crate::job::run_job;
-use crate::reply::{FAILED, Failure, Reply, written};
+use crate::out_file::OutFile;
+use crate::reply::{Failure, Reply, written};
 use shop_words::{Job, parse_words};
 use std::alloc::Global;
 use std::fs::File;
@@ -59,40 +59,19 @@ fn out_path(job: &Job) -> Option<&str>
     }
 }
 
-// The bytes of the image that a conversion makes; for other jobs 0.
-fn made_bytes(job: &Job) -> usize
-    ensures { result ≡ made_bytes_of (job_view job.now) }
-{
-    match job {
-        Job::Catalog { .. }
-        | Job::Check { .. }
-        | Job::Read { .. }
-        | Job::Plan { .. }
-        | Job::Optimize { .. }
-        | Job::Verify { .. } => 0,
-        Job::Convert { to, .. } => disk_bytes(order_of(*to)),
-    }
-}
-
-// Writes the output file and answers the status, 4 where it can't be written.
-fn write_file(rt: &HostRuntime, path: &str, bytes: &[u8], status: u8) -> u8 {
-    match File::create(rt, path) {
-        Ok(mut file) => written(bytes, status, &mut file),
-        Err(_) => FAILED,
-    }
-}
-
-// Does a job on the image of a reader, tells it on standard output and writes the output file. The room for a conversion's
-// bytes is taken first, so that want of it is told.
+// Does a job on the image of a reader, tells it on standard output and writes the output file.
 fn run_on<I: Read, E: Read>(rt: &HostRuntime, job: &Job, image: &mut I, extra: &mut E) -> u8 {
-    let mut text = rt.stdout();
-    let Ok(mut out) = Vec::with_capacity(rt.alloc(), made_bytes(job)) else {
-        return Reply::Failed(Failure::Memory).tell(&mut text);
-    };
-    let status = run_job(rt.alloc(), job, image, extra, &mut text, &mut out);
+    let text = &mut rt.stdout();
     match out_path(job) {
-        Some(path) if !out.is_empty() => write_file(rt, path, out.as_slice(), status),
-        _ => status,
+        Some(path) => run_job(
+            rt.alloc(),
+            job,
+            image,
+            extra,
+            text,
+            &mut OutFile::new(rt, path),
+        ),
+        None => run_job(rt.alloc(), job, image, extra, text, &mut io::sink()),
     }
 }
 
