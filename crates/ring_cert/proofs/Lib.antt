@@ -1,3 +1,4 @@
+pub mod Boards
 pub mod Distinct
 pub mod Faults
 pub mod LineForms

@@ -5,3 +5,4 @@ pub mod Told
 pub mod MoveFaults
 pub mod Reading
 pub mod Seen
+pub mod Boards

@@ -10,6 +10,7 @@ ghost use Rattle.ring_cert.specs.Good.{AddsUp, IsFirstFault, IsFirstNot, IsGood,
 ghost use Rattle.ring_cert.specs.MoveFaults.{IsFaultOfMove};
 ghost use Rattle.ring_cert.specs.Told.{told};
 
+use crate::board::Board;
 use crate::certificate::{Cert, CertFault};
 use crate::parts::Parts;
 use crate::seen::{repeat_in, repeat_over};
@@ -172,19 +173,19 @@ fn broken_ring<A: Allocator>(at: &[u32], rings: &[Parts<A>]) -> Option<usize>
     None
 }
 
-/// The layout to which moves lead, or the first that cannot be made.
+/// Where the parts stand at the end of these moves, or the first that cannot be made.
 fn end_of<A: Allocator + Copy, B: Allocator>(
     alloc: A,
     layout: &Layout<B>,
     moves: &[Move],
-) -> Result<Layout<A>, CertFault>
+) -> Result<Board<A>, CertFault>
     ensures plan { OnOk result (IsPlan layout.now.at layout.now.places moves.now) }
     ensures end { IfOk result (λ end. end.at ≡ after layout.now.at moves.now) }
     ensures illegal { IfErr result (IsFaultOfMove layout.now moves.now) }
 {
-    let mut now = layout.copy(alloc)?;
+    let mut now = Board::new(alloc, layout)?;
     for (index, step) in moves.iter().enumerate() {
-        if now.apply(*step).is_err() {
+        if !now.make(*step) {
             return Err(CertFault::IllegalMove(index));
         }
     }
