@@ -10,4 +10,5 @@ pub mod Stops
 pub mod TextLaws
 pub mod Texts
 pub mod Walks
+pub mod Weighing
 pub mod Written

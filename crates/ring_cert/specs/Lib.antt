@@ -6,3 +6,4 @@ pub mod MoveFaults
 pub mod Reading
 pub mod Seen
 pub mod Boards
+pub mod RingFaults
