@@ -14,6 +14,6 @@ if __name__ == "__main__":
     for (work, size), time in proved.items():
         beside = plain[work, size]
         print(f"{work} of {size}: {time / 1e6:.2f} ms, plain Rust {beside / 1e6:.2f} ms, ratio {time / beside:.2f}")
-        tenth = proved.get((work, size // 10))
-        if tenth:
-            print(f"  ten times as many: {time / tenth:.1f} times the time")
+        tenth = (work, size // 10)
+        if tenth in proved:
+            print(f"  ten times as many: {time / proved[tenth]:.1f} times the time, plain {beside / plain[tenth]:.1f}")

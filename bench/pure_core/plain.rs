@@ -166,6 +166,41 @@ fn read(text: &str) -> Option<Cert> {
     (lines.next()? == "END" && lines.next().is_none()).then_some(Cert { at, places, off, rings, bound, moves })
 }
 
+struct Board {
+    at: Vec<u32>,
+    taken: Vec<bool>,
+}
+
+impl Board {
+    fn new(layout: &Layout) -> Board {
+        let mut taken = vec![false; layout.part_at.len()];
+        for place in &layout.at {
+            taken[*place as usize] = true;
+        }
+        Board { at: layout.at.clone(), taken }
+    }
+
+    fn make(&mut self, step: Move) -> bool {
+        let to = step.to as usize;
+        if (step.part as usize) >= self.at.len() || to >= self.taken.len() || self.taken[to] {
+            return false;
+        }
+        let left = self.at[step.part as usize];
+        self.taken[left as usize] = false;
+        self.taken[to] = true;
+        self.at[step.part as usize] = step.to;
+        true
+    }
+}
+
+fn meets_each_once(seen: &mut [bool], parts: &[u32]) -> bool {
+    parts.iter().all(|part| seen.get_mut(*part as usize).is_some_and(|seen| !std::mem::replace(seen, true)))
+}
+
+fn is_ring(at: &[u32], ring: &[u32]) -> bool {
+    ring.len() >= 2 && (0..ring.len()).all(|i| at[ring[i] as usize] == *ring.get(i + 1).unwrap_or(&ring[0]))
+}
+
 fn verify(layout: &Layout, cert: &Cert) -> bool {
     let at = &layout.at;
     if cert.at != *at || cert.places as usize != layout.part_at.len() {
@@ -174,26 +209,17 @@ fn verify(layout: &Layout, cert: &Cert) -> bool {
     if cert.off.iter().any(|k| at.get(*k as usize).is_none_or(|place| place == k)) {
         return false;
     }
-    let mut off = vec![false; at.len()];
-    let mut inside = vec![false; at.len()];
-    for part in &cert.off {
-        if std::mem::replace(&mut off[*part as usize], true) {
-            return false;
-        }
+    let mut seen = vec![false; at.len()];
+    if !meets_each_once(&mut seen, &cert.off) {
+        return false;
     }
-    for part in cert.rings.iter().flatten() {
-        match inside.get_mut(*part as usize) {
-            Some(seen) if !*seen => *seen = true,
-            _ => return false,
-        }
+    seen.fill(false);
+    if !cert.rings.iter().all(|ring| meets_each_once(&mut seen, ring) && is_ring(at, ring)) {
+        return false;
     }
-    for ring in &cert.rings {
-        if ring.len() < 2 || (0..ring.len()).any(|i| at[ring[i] as usize] != ring[(i + 1) % ring.len()]) {
-            return false;
-        }
-    }
-    let mut now = layout.clone();
-    if !cert.moves.iter().all(|step| now.apply(*step)) {
+    drop(seen);
+    let mut now = Board::new(layout);
+    if !cert.moves.iter().all(|step| now.make(*step)) {
         return false;
     }
     now.at.iter().enumerate().all(|(k, place)| *place as usize == k)

@@ -1,3 +1,4 @@
+pub mod Boards
 pub mod Distinct
 pub mod Faults
 pub mod LineForms
@@ -9,4 +10,5 @@ pub mod Stops
 pub mod TextLaws
 pub mod Texts
 pub mod Walks
+pub mod Weighing
 pub mod Written

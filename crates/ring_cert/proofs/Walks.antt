@@ -1,11 +1,9 @@
 -- Walks along a ring, and along the moves of a plan.
-use Rattle.std.proofs.Common.{◌≡◌, ℕ, ◌+◌, ◌<◌, ◌≤◌, ◌↔◌, List, length, get_or, map, take, true, false, Result, Ok, Err, OnOk, IsOk, is_err, arith, refl, sym, ap, ◌∙◌, subst, zero-add}
+use Rattle.std.proofs.Common.{◌≡◌, ℕ, ◌+◌, ◌<◌, ◌≤◌, List, length, get_or, map, take, arith, sym, ap, ◌∙◌, subst, zero-add}
 use Rattle.std.specs.List.{range_with_len}
 use Rattle.std.proofs.lemmas.List.{get_or_default, get_or-map, length-map, same_lists, take_more}
 use Rattle.std.proofs.lemmas.List.FromFn.{length-range_with_len, get_or-range_with_len}
-use Rattle.std.proofs.lemmas.Bool.{both_ways}
 use Rattle.part_layout.specs.declared.moves.Move.{Move}
-use Rattle.part_layout.specs.declared.moves.MoveError.{MoveError}
 use Rattle.part_layout.specs.Layouts.{Placement, AreDistinct, IsTarget}
 use Rattle.part_layout.specs.Plans.{IsLegal, IsPlan, after, moved}
 use Rattle.part_layout.specs.Rings.{IsRing, turned}
@@ -44,18 +42,16 @@ pub record ReachesTo (start now : Placement) (moves : List Move) (i : ℕ) : Typ
 
 -- one more move, where it could be made
 pub ReachesTo-more :
-    (start now new : Placement) (moves : List Move) (i : ℕ) (d : Move) (made : Result (Unit {0}) MoveError)
-    → i < length moves → ReachesTo start now moves i → is_err made ≡ false
-    → OnOk made (new ≡ record { at = moved now.at (get_or moves i d); places = now.places })
-    → IsOk made ↔ IsLegal now.at now.places (get_or moves i d)
+    (start now new : Placement) (moves : List Move) (i : ℕ) (d : Move)
+    → i < length moves → ReachesTo start now moves i → IsLegal now.at now.places (get_or moves i d)
+    → new ≡ record { at = moved now.at (get_or moves i d); places = now.places }
     → ReachesTo start new moves (i + 1)
-ReachesTo-more start now new moves i d (Ok x) within before fine is legal =
+ReachesTo-more start now new moves i d within before legal is =
     let m = get_or moves i d in
     let more = take_more moves i d within in
-    let can : IsLegal (after start.at (take i moves)) start.places m = subst (λ p. IsLegal (after start.at (take i moves)) p m) before.places (subst (λ at. IsLegal at now.places m) before.reached (legal.0 refl)) in
+    let can : IsLegal (after start.at (take i moves)) start.places m = subst (λ p. IsLegal (after start.at (take i moves)) p m) before.places (subst (λ at. IsLegal at now.places m) before.reached legal) in
     record {
       legal = subst (IsPlan start.at start.places) (sym more) (IsPlan-push start.at start.places (take i moves) m before.legal can);
       reached = ap (λ p. p.at) is ∙ (ap (λ at. moved at m) before.reached ∙ (sym (after-push start.at (take i moves) m) ∙ ap (after start.at) (sym more)));
       places = ap (λ p. p.places) is ∙ before.places;
     }
-ReachesTo-more start now new moves i d (Err e) within before fine is legal = absurd (both_ways true fine refl)

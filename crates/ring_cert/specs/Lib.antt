@@ -5,3 +5,5 @@ pub mod Told
 pub mod MoveFaults
 pub mod Reading
 pub mod Seen
+pub mod Boards
+pub mod RingFaults

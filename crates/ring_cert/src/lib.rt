@@ -11,6 +11,7 @@
 //! never searches a list.
 #![tactic(auto)]
 
+mod board;
 mod certificate;
 mod laws;
 mod parts;

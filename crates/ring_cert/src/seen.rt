@@ -1,11 +1,9 @@
 //! The search for a number that was told before.
 
 ghost use Rattle.std.specs.Prelude.{◌≡◌, ℕ, ◌==◌, ◌||◌, ◌++◌, not, List, [], IfOk, OnOk, MatchOption};
-ghost use Rattle.std.specs.List.{concat};
 ghost use Rattle.part_layout.specs.Layouts.{AreDistinct};
 ghost use Rattle.ring_cert.specs.Good.{IsFirstRepeat};
 
-use crate::parts::Parts;
 use std::alloc::{AllocError, Allocator};
 use std::collections::BTreeSet;
 
@@ -20,7 +18,7 @@ impl<A: Allocator + Copy> Seen<A> {
     ghost use Rattle.ring_cert.specs.Seen.{HasMet, is_seen};
 
     /// No number yet, with room for so many parts.
-    fn new(alloc: A, parts: usize) -> Result<Seen<A>, AllocError>
+    pub fn new(alloc: A, parts: usize) -> Result<Seen<A>, AllocError>
         ensures { IfOk result (λ seen. HasMet seen []) }
     {
         Ok(Seen {
@@ -44,7 +42,7 @@ impl<A: Allocator + Copy> Seen<A> {
     }
 
     /// Adds numbers, up to the first that was met before.
-    fn insert_all(&mut self, numbers: &[u32]) -> Result<Option<u32>, AllocError>
+    pub fn insert_all(&mut self, numbers: &[u32]) -> Result<Option<u32>, AllocError>
         ensures { IfOk result (λ found. (front : List ℕ) → HasMet self.old front
             → MatchOption found (HasMet self.new (front ++ numbers.now)) (IsFirstRepeat (front ++ numbers.now))) }
     {
@@ -55,34 +53,23 @@ impl<A: Allocator + Copy> Seen<A> {
         }
         Ok(None)
     }
-}
 
-/// The first number that already stands before in its list. Numbers below `parts` are looked up in a table.
-pub fn repeat_in<A: Allocator + Copy>(
-    alloc: A,
-    parts: usize,
-    numbers: &[u32],
-) -> Result<Option<u32>, AllocError>
-    ensures { IfOk result (λ found. MatchOption found (AreDistinct numbers.now) (IsFirstRepeat numbers.now)) }
-{
-    let mut seen = Seen::new(alloc, parts)?;
-    let found = seen.insert_all(numbers)?;
-    Ok(found)
-}
-
-/// The first number that already stands before in its list or in a list before it.
-pub fn repeat_over<A: Allocator + Copy, B: Allocator>(
-    alloc: A,
-    parts: usize,
-    lists: &[Parts<B>],
-) -> Result<Option<u32>, AllocError>
-    ensures { IfOk result (λ found. MatchOption found (AreDistinct (concat lists.now)) (IsFirstRepeat (concat lists.now))) }
-{
-    let mut seen = Seen::new(alloc, parts)?;
-    for list in lists {
-        if let Some(number) = seen.insert_all(list.numbers())? {
-            return Ok(Some(number));
-        }
+    /// The first number that already stands before in its list. All are forgotten again.
+    pub fn repeat_in(&mut self, numbers: &[u32]) -> Result<Option<u32>, AllocError>
+        requires { HasMet self.old [] }
+        ensures found { IfOk result (λ found. MatchOption found (AreDistinct numbers.now) (IsFirstRepeat numbers.now)) }
+        ensures forgotten { OnOk result (HasMet self.new []) }
+    {
+        let found = self.insert_all(numbers)?;
+        self.clear();
+        Ok(found)
     }
-    Ok(None)
+
+    /// Forgets all numbers.
+    fn clear(&mut self)
+        ensures { HasMet self.new [] }
+    {
+        self.parts.as_mut_slice().fill(false);
+        self.others.clear();
+    }
 }

@@ -1,20 +1,23 @@
 //! Whether a certificate is good for a layout.
 
-ghost use Rattle.std.specs.Prelude.{◌≡◌, ℕ, ◌<◌, ◌≤◌, ◌↔◌, List, length, IsTrue, All, MatchOption, OnOk, IfOk, IfErr, IsOkUnless, slice_index};
+ghost use Rattle.std.specs.Prelude.{◌≡◌, ℕ, ◌<◌, ◌≤◌, ◌↔◌, List, [], length, IsTrue, All, MatchOption, OnOk, IfOk, IfErr, IsOkUnless, slice_index};
 ghost use Rattle.part_layout.specs.Layouts.{AreDistinct, IsMisplaced, IsTarget};
 ghost use Rattle.part_layout.specs.Plans.{IsPlan, after};
 ghost use Rattle.part_layout.specs.Rings.{IsRing, turned};
 ghost use Rattle.part_layout.specs.declared.moves.Move.{Move};
 ghost use Rattle.std.specs.List.{concat};
-ghost use Rattle.ring_cert.specs.Good.{AddsUp, IsFirstFault, IsFirstNot, IsGood, IsOfLayout, IsRightSoFar, RepeatsFirst, TellsEachOnce};
+ghost use Rattle.ring_cert.specs.Good.{AddsUp, IsFirstFault, IsFirstNot, IsGood, IsOfLayout, IsRightSoFar};
 ghost use Rattle.ring_cert.specs.MoveFaults.{IsFaultOfMove};
+ghost use Rattle.ring_cert.specs.RingFaults.{IsFaultOfRings};
+ghost use Rattle.ring_cert.specs.Seen.{HasMet};
 ghost use Rattle.ring_cert.specs.Told.{told};
 
+use crate::board::Board;
 use crate::certificate::{Cert, CertFault};
 use crate::parts::Parts;
-use crate::seen::{repeat_in, repeat_over};
+use crate::seen::Seen;
 use part_layout::{Layout, Move};
-use std::alloc::{AllocError, Allocator};
+use std::alloc::Allocator;
 
 /// The fewest parts of a ring.
 const SHORTEST_RING: usize = 2;
@@ -56,13 +59,11 @@ fn weigh_claim<A: Allocator + Copy, B: Allocator, C: Allocator>(
     if let Some(part) = part_at_home(layout.at(), cert.off.as_slice()) {
         return Err(CertFault::NotMisplaced(part));
     }
-    if let Some(part) = repeated_part(alloc, layout.at().len(), cert)? {
+    let mut seen = Seen::new(alloc, layout.at().len())?;
+    if let Some(part) = seen.repeat_in(cert.off.as_slice())? {
         return Err(CertFault::Repeated(part));
     }
-    match broken_ring(layout.at(), cert.rings.as_slice()) {
-        Some(ring) => Err(CertFault::NotARing(ring)),
-        None => Ok(()),
-    }
+    weigh_rings(layout.at(), cert.rings.as_slice(), &mut seen)
 }
 
 /// Whether the moves can be made and bring each part home, and the bound adds up.
@@ -115,21 +116,6 @@ fn part_at_home(at: &[u32], off: &[u32]) -> Option<u32>
     None
 }
 
-/// The first number that stands before among the misplaced parts, or else in the rings.
-fn repeated_part<A: Allocator + Copy, B: Allocator>(
-    alloc: A,
-    parts: usize,
-    cert: &Cert<B>,
-) -> Result<Option<u32>, AllocError>
-    ensures { IfOk result (λ found. MatchOption found (TellsEachOnce (told cert.now)) (RepeatsFirst (told cert.now))) }
-{
-    let found = repeat_in(alloc, parts, cert.off.as_slice())?;
-    if found.is_some() {
-        return Ok(found);
-    }
-    repeat_over(alloc, parts, cert.rings.as_slice())
-}
-
 /// Whether distinct numbers are a ring.
 fn is_ring(at: &[u32], ring: &[u32]) -> bool
     requires { AreDistinct ring.now }
@@ -159,32 +145,47 @@ fn next_in(ring: &[u32], index: usize) -> u32
     }
 }
 
-/// The first of these lists that is no ring, counted from 0.
-fn broken_ring<A: Allocator>(at: &[u32], rings: &[Parts<A>]) -> Option<usize>
-    requires { AreDistinct (concat rings.now) }
-    ensures { MatchOption result (All (IsRing at.now) rings.now) (IsFirstNot (IsRing at.now) rings.now) }
+/// Whether these lists are rings of which no two have a part in common: in one pass, where the first number told twice comes before the
+/// first list that is no ring.
+fn weigh_rings<A: Allocator + Copy, B: Allocator>(
+    at: &[u32],
+    rings: &[Parts<B>],
+    seen: &mut Seen<A>,
+) -> Result<(), CertFault>
+    requires { HasMet seen.old [] }
+    ensures once { OnOk result (AreDistinct (concat rings.now)) }
+    ensures rings { OnOk result (All (IsRing at.now) rings.now) }
+    ensures fault { IfErr result (IsFaultOfRings at.now rings.now) }
 {
+    let mut broken = None;
     for (index, ring) in rings.iter().enumerate() {
-        if !is_ring(at, ring.numbers()) {
-            return Some(index);
+        let numbers = ring.numbers();
+        if let Some(part) = seen.insert_all(numbers)? {
+            return Err(CertFault::Repeated(part));
+        }
+        if broken.is_none() && !is_ring(at, numbers) {
+            broken = Some(index);
         }
     }
-    None
+    match broken {
+        Some(ring) => Err(CertFault::NotARing(ring)),
+        None => Ok(()),
+    }
 }
 
-/// The layout to which moves lead, or the first that cannot be made.
+/// Where the parts stand at the end of these moves, or the first that cannot be made.
 fn end_of<A: Allocator + Copy, B: Allocator>(
     alloc: A,
     layout: &Layout<B>,
     moves: &[Move],
-) -> Result<Layout<A>, CertFault>
+) -> Result<Board<A>, CertFault>
     ensures plan { OnOk result (IsPlan layout.now.at layout.now.places moves.now) }
     ensures end { IfOk result (λ end. end.at ≡ after layout.now.at moves.now) }
     ensures illegal { IfErr result (IsFaultOfMove layout.now moves.now) }
 {
-    let mut now = layout.copy(alloc)?;
+    let mut now = Board::new(alloc, layout)?;
     for (index, step) in moves.iter().enumerate() {
-        if now.apply(*step).is_err() {
+        if !now.make(*step) {
             return Err(CertFault::IllegalMove(index));
         }
     }

@@ -1,8 +1,9 @@
-use Rattle.std.proofs.Common.{sym, ◌∙◌}
+use Rattle.std.proofs.Common.{◌≡◌, true, rules}
 use Rattle.ring_cert.proofs.Walks.{ReachesTo-more}
 use Rattle.ring_cert.proofs.verifying.end_of.Goals as goal
 
 pub loop-index-preserved : goal.loop-index-preserved
 loop-index-preserved g c =
-    ReachesTo-more c.args.layout.now c.loop-index.now c.apply.new.self c.args.moves.now c.loop-index.index _ c.apply.result
-    c.loop-index-test.true c.loop-index.invariant (sym c.is_err.ensures.value ∙ c.if-is_err.false) c.apply.ensures.ok c.apply.ensures.legal
+    let can : c.make.result ≡ true = search rules in
+    ReachesTo-more c.args.layout.now c.loop-index.now c.make.new.self c.args.moves.now c.loop-index.index _
+    c.loop-index-test.true c.loop-index.invariant (c.make.ensures.legal.0 can) (c.make.ensures.made can)
