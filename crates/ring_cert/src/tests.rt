@@ -304,7 +304,7 @@ fn each_block_of_a_verdict_refused(rt: HostRuntime) -> Result<(), Fail> {
         let whole = Refusing::none(rt.alloc());
         let answer = verify(&whole, &layout, &cert).err();
         assert!(rt; answer != Some(CertFault::Memory));
-        assert!(rt; whole.asked() > 2);
+        assert!(rt; whole.asked() > 1);
         for before in 0..whole.asked() {
             let heap = Refusing::one(rt.alloc(), before);
             assert_eq!(rt;
