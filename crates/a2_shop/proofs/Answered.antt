@@ -1,65 +1,21 @@
 -- What was read of an image answers for the whole image, and words for their job.
-use Rattle.std.proofs.Common.{◌≡◌, ◌≢◌, ℕ, ◌+◌, Bool, List, take, take_all, length, length-take, ap, ◌∙◌, subst, arith, inl, inr, ⊎_elim}
+use Rattle.std.proofs.Common.{◌≡◌, ◌≢◌, ℕ, ◌+◌, Bool, List, take, subst, arith, inl, inr, ⊎_elim}
 use Rattle.std.specs.Prelude.{◌⊎◌, Option, Some, None, IfSome}
 use Rattle.a2_image.specs.declared.order.Order.{Order}
 use Rattle.shop_words.specs.Job.{JobView, catalog, check, read, convert, plan, optimize, verify, asked_job}
 use Rattle.shop_words.specs.declared.fault.WordsFault.{WordsFault}
 use Rattle.shop_words.specs.declared.fault.WordsFault.TheVariants as words
-use Rattle.a2_shop.specs.declared.reply.Refusal.TheVariants as refusals
-use Rattle.a2_shop.specs.declared.reply.Failure.TheVariants as failures
-use Rattle.a2_shop.specs.declared.reply.Reply.{Reply}
-use Rattle.a2_shop.specs.declared.reply.Reply.TheVariants.{Done, Faulty, Bytes, Made, Optimized, Interrupted, Refused, Unopened, Failed}
-use Rattle.a2_shop.specs.Answer.{limit_of, IsToldOf, IsReplyTo, IsAnswer, IsCommandAnswer, IsWordsAnswer, MakesImage, ReadsExtra, image_order_of}
-use Rattle.a2_shop.specs.Volume.{device_of, files_of, form_of, meaning_of}
-use Rattle.a2_shop.specs.VolumeReply.{IsVolumeReply}
-use Rattle.a2_shop.specs.Work.{IsWorkReply, WorkView, Catalog, Read, Check, Plan, Optimize, Verify}
-use Rattle.a2_shop.specs.VerifyReply.{IsVerified, most_certificate}
-use Rattle.a2_device.specs.Device.{DeviceState}
-use Rattle.vol_format.specs.Meaning.{Meaning}
-use Rattle.shop_words.specs.declared.job.FileSystem.{FileSystem}
 use Rattle.shop_words.specs.declared.job.VolumeOptions.{VolumeOptions}
+use Rattle.image_jobs.specs.declared.reply.Reply.{Reply}
+use Rattle.image_jobs.specs.Disk.{most_bytes}
+use Rattle.image_jobs.specs.Reply.{HandsImage, HandsOut, Held, IsDelivered, IsMade}
+use Rattle.image_jobs.proofs.Fronts.{convert-whole}
+use Rattle.volume_jobs.specs.VerifyReply.{most_certificate}
+use Rattle.volume_jobs.specs.Volume.{device_of, files_of, form_of, meaning_of}
+use Rattle.volume_jobs.specs.Work.{IsWorkReply, WorkView, Catalog, Read, Check, Plan, Optimize, Verify}
+use Rattle.volume_jobs.proofs.Fronts.{verified-take, volume-whole}
+use Rattle.a2_shop.specs.Answer.{limit_of, IsToldOf, IsReplyTo, IsAnswer, IsCommandAnswer, IsWordsAnswer, MakesImage, ReadsExtra, image_order_of, order_of}
 use Rattle.a2_shop.proofs.NotMade.{told_not_made}
-use Rattle.a2_shop.specs.ConvertReply.{IsConvertReply}
-use Rattle.a2_shop.specs.Disk.{most_bytes, order_of}
-use Rattle.a2_shop.specs.Reply.{HandsImage, HandsOut, Held, IsDelivered, IsMade}
-use Rattle.a2_shop.proofs.Disks.{IsDiskImage-take, OfDisk-whole, OfVolume-whole, TakesBytes-take}
-
-convert-whole : (order to : Order) (volume : ℕ) (image : List ℕ) (reply : Reply) → IsConvertReply order to volume (take (most_bytes order + 1) image) reply
-    → IsConvertReply order to volume image reply
-convert-whole order to volume image (Done text) is = is
-convert-whole order to volume image (Faulty text) is = is
-convert-whole order to volume image (Bytes content) is = is
-convert-whole order to volume image (Made made) is = OfDisk-whole order image _ is
-convert-whole order to volume image (Refused refusals.Reserve) is = is
-convert-whole order to volume image (Refused refusals.Length) is = λ long. is (IsDiskImage-take order image long)
-convert-whole order to volume image (Refused refusals.Check) is = is
-convert-whole order to volume image (Refused refusals.NotFound) is = is
-convert-whole order to volume image (Refused refusals.NoSector) is = OfDisk-whole order image _ is
-convert-whole order to volume image (Refused refusals.NoFreePlace) is = is
-convert-whole order to volume image (Refused refusals.InputTooLong) is = is
-convert-whole order to volume image (Unopened text) is = is
-convert-whole order to volume image (Optimized text made) is = is
-convert-whole order to volume image (Interrupted made) is = is
-convert-whole order to volume image (Failed failures.Input) is = is
-convert-whole order to volume image (Failed failures.Device) is = is
-convert-whole order to volume image (Failed failures.Memory) is = is
-
-verified-take : (reclaim : Bool) (front bytes : List ℕ) (format : Meaning) (device : DeviceState) (reply : Reply) → front ≡ take (most_certificate + 1) bytes
-    → IsVerified reclaim front format device reply → IsVerified reclaim bytes format device reply
-verified-take reclaim front bytes format device reply taken is = elim is [
-  | inl long ↦ inl (long.0, omega (arith, long.1, ap (λ (xs : List ℕ). length xs) taken, length-take (most_certificate + 1) bytes))
-  | inr short ↦ subst (λ text. IsVerified reclaim text format device reply)
-      (taken ∙ take_all (most_certificate + 1) bytes (omega (arith, short.0, ap (λ (xs : List ℕ). length xs) taken, length-take (most_certificate + 1) bytes))) (inr short)
-]
-
-volume-whole : (file_system : FileSystem) (order : Order) (data_disk : Bool) (reserve : Option (List ℕ)) (image : List ℕ) (Tells : Meaning → DeviceState → Reply → Type 0) (reply : Reply)
-    → IsVolumeReply file_system order data_disk reserve (take (most_bytes order + 1) image) Tells reply → IsVolumeReply file_system order data_disk reserve image Tells reply
-volume-whole file_system order data_disk reserve image Tells reply is = elim is [
-  | inl refused ↦ inl refused
-  | inr (inl long) ↦ inr (inl (long.0, long.1, λ takes. long.2 (TakesBytes-take file_system order image takes)))
-  | inr (inr (inl memory)) ↦ inr (inr (inl memory))
-  | inr (inr (inr told)) ↦ inr (inr (inr (told.0, told.1, OfVolume-whole file_system order image (λ device. Tells (meaning_of file_system data_disk told.0) device reply) told.2)))
-]
 
 -- a text that is too long is told so by one byte past the most
 verified_whole : (volume : VolumeOptions) (reserve : Option (List ℕ)) (image : List ℕ) (reclaim : Bool) (front bytes : List ℕ) (reply : Reply)

@@ -1,10 +1,4 @@
-pub mod Disks
-pub mod Replies
-pub mod Checks
-pub mod Readings
-pub mod Converted
-pub mod Unopened
-pub mod Optimized
+pub mod Fronts
 pub mod NotMade
 pub mod Answered
 pub mod DosListings

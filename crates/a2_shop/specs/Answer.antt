@@ -2,18 +2,22 @@
 use Rattle.std.specs.Prelude.{◌≡◌, ◌⊎◌, ℕ, List, Option, Some, None, IfSome, string_bytes}
 use Rattle.std.specs.Io.KnownBytes.{Appends}
 use Rattle.a2_image.specs.declared.order.Order.{Order}
+use Rattle.a2_image.specs.declared.order.Order.TheVariants as orders
 use Rattle.file_cmds.specs.DosText.{Text}
 use Rattle.shop_words.specs.Job.{JobView, catalog, check, read, convert, plan, optimize, verify, asked_job}
+use Rattle.shop_words.specs.declared.job.FileSystem.TheVariants as systems
+use Rattle.shop_words.specs.declared.job.ImageOrder.{ImageOrder}
+use Rattle.shop_words.specs.declared.job.ImageOrder.TheVariants as wanted
 use Rattle.shop_words.specs.declared.job.VolumeOptions.{VolumeOptions}
 use Rattle.shop_words.specs.declared.fault.WordsFault.{WordsFault}
 use Rattle.shop_words.specs.declared.fault.WordsFault.TheVariants as words
-use Rattle.a2_shop.specs.declared.reply.Reply.{Reply}
-use Rattle.a2_shop.specs.Disk.{order_of}
-use Rattle.a2_shop.specs.Reply.{HandsImage, Held, IsDelivered}
-use Rattle.a2_shop.specs.Volume.{files_of, form_of}
-use Rattle.a2_shop.specs.VolumeReply.{IsVolumeReply}
-use Rattle.a2_shop.specs.Work.{IsWorkReply, WorkView, Catalog, Read, Check, Plan, Optimize, Verify}
-use Rattle.a2_shop.specs.ConvertReply.{IsConvertReply}
+use Rattle.image_jobs.specs.declared.reply.Reply.{Reply}
+use Rattle.image_jobs.specs.Reply.{HandsImage, Held, IsDelivered}
+use Rattle.volume_jobs.specs.DosCatalogReply.{IsDosCatalogReply}
+use Rattle.volume_jobs.specs.Volume.{files_of, form_of}
+use Rattle.volume_jobs.specs.VolumeReply.{IsVolumeReply}
+use Rattle.volume_jobs.specs.Work.{IsWorkReply, WorkView, Catalog, Read, Check, Plan, Optimize, Verify}
+use Rattle.image_jobs.specs.ConvertReply.{IsConvertReply}
 
 -- the path and the order of the image that a job names
 abbrev pub image_of : JobView → Text
@@ -39,6 +43,12 @@ out_of (plan path volume reserve reclaim) = None
 out_of (optimize words reserve reclaim) = Some words.out
 out_of (verify path volume from reserve reclaim) = None
 out_of (convert words) = Some words.out
+
+-- the order that the words name
+abbrev pub order_of : ImageOrder → Order
+order_of wanted.Dos = orders.Dos
+order_of wanted.Prodos = orders.Prodos
+order_of wanted.Nibble = orders.Nibble
 
 abbrev pub image_order_of : JobView → Order
 image_order_of (catalog path volume) = order_of volume.order
@@ -97,6 +107,12 @@ MakesImage (convert words) = Unit {0}
 -- a job was answered: by the status of its reply, with its text and its image behind what the writers had; or something failed
 abbrev pub IsAnswer : JobView → List ℕ → Option (List ℕ) → ℕ → Held → Held → Type 0
 IsAnswer job image extra status old new = (status ≡ 4) ⊎ ((reply : Reply) × IsReplyTo job image extra reply × IsDelivered reply status old new)
+
+-- A job that lists a DOS 3.3 disk has such a reply, told behind what the writer had; or something failed. Of another job this says nothing.
+abbrev pub IsDosCatalogAnswer : JobView → List ℕ → ℕ → Held → Held → Type 0
+IsDosCatalogAnswer (catalog path volume) image status old new =
+    volume.file_system ≡ systems.Dos → (status ≡ 4) ⊎ ((reply : Reply) × IsDosCatalogReply (order_of volume.order) image reply × IsDelivered reply status old new)
+IsDosCatalogAnswer job image status old new = Unit {0}
 
 -- words that are no job were told: refused with the text for the user, or for want of memory
 abbrev pub IsWordsAnswer : WordsFault → ℕ → Option (List ℕ) → Option (List ℕ) → Type 0

@@ -1,15 +1,1 @@
-pub mod Disk
-pub mod Volume
-pub mod VolumeReply
-pub mod Reply
-pub mod CatalogReply
-pub mod DosCatalogReply
-pub mod CheckText
-pub mod CheckReply
-pub mod PlanReply
-pub mod OptimizeReply
-pub mod VerifyReply
-pub mod Work
-pub mod ReadReply
-pub mod ConvertReply
 pub mod Answer

@@ -2,10 +2,10 @@
 ghost use Rattle.std.specs.Prelude.{◌≡◌, ◌≢◌, ◌⊎◌, IfSome, map, string_bytes};
 ghost use Rattle.shop_words.specs.Plain.{IsPlain};
 ghost use Rattle.a2_shop.specs.Answer.{CommandHandsOut, CommandReads, IsCommandAnswer, IsWordsAnswer};
-ghost use Rattle.a2_shop.specs.Reply.{held};
+ghost use Rattle.image_jobs.specs.Reply.{held};
 
 use crate::job::run_job;
-use crate::reply::{Failure, Reply, written};
+use image_jobs::{Failure, Reply, written};
 use shop_words::{WordsFault, parse_words};
 use std::alloc::Global;
 use std::io::{Read, Write};

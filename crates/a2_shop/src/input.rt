@@ -1,14 +1,13 @@
 // The bytes of an image.
 ghost use Rattle.std.specs.Prelude.{◌≡◌, ◌<◌, ◌+◌, IfOk, IfSome, take};
-ghost use Rattle.a2_shop.specs.Disk.{most_bytes as most};
-ghost use Rattle.a2_shop.specs.VerifyReply.{most_certificate};
+ghost use Rattle.image_jobs.specs.Disk.{most_bytes as most};
+ghost use Rattle.volume_jobs.specs.VerifyReply.{most_certificate};
 
-use crate::disk::most_bytes;
-use crate::reply::Failure;
-use crate::verify::MOST_CERTIFICATE;
 use a2_image::Order;
+use image_jobs::{Failure, most_bytes};
 use std::alloc::Global;
 use std::io::{ErrorKind, Read};
+use volume_jobs::MOST_CERTIFICATE;
 
 /// Reads the file beside the image, up to one byte past the most that is read of one.
 ///

@@ -1,20 +1,28 @@
 // Jobs, from an image's reader to the text and the output file.
 ghost use Rattle.std.specs.Prelude.{◌≡◌, ◌⊎◌, ◌+◌, Some, take, IfOk, IfSome};
 ghost use Rattle.shop_words.specs.Job.{job_view};
-ghost use Rattle.a2_shop.specs.Reply.{HandsImage, held};
-ghost use Rattle.a2_shop.specs.VerifyReply.{most_certificate};
-ghost use Rattle.a2_shop.specs.DosCatalogReply.{IsDosCatalogAnswer};
-ghost use Rattle.a2_shop.specs.Answer.{AsksForMoves, IsAnswer, IsReplyTo, IsStatus, MakesImage, ReadsExtra, image_order_of, limit_of as of_limit};
+ghost use Rattle.image_jobs.specs.Reply.{HandsImage, held};
+ghost use Rattle.volume_jobs.specs.VerifyReply.{most_certificate};
+ghost use Rattle.a2_shop.specs.Answer.{AsksForMoves, IsAnswer, IsDosCatalogAnswer, IsReplyTo, IsStatus, MakesImage, ReadsExtra, image_order_of, limit_of as of_limit, order_of as named};
 
-use crate::convert::convert_reply;
-use crate::disk::order_of;
 use crate::input::{read_extra, read_image};
-use crate::reply::{Failure, Reply};
-use crate::volume::{Work, volume_reply};
 use a2_image::Order;
-use shop_words::Job;
+use image_jobs::{Failure, Reply, convert_reply};
+use shop_words::{ImageOrder, Job};
 use std::alloc::Global;
 use std::io::{Read, Write};
+use volume_jobs::{Work, volume_reply};
+
+// The order that the words name.
+fn order_of(order: ImageOrder) -> Order
+    ensures { result ≡ named order }
+{
+    match order {
+        ImageOrder::Dos => Order::Dos,
+        ImageOrder::Prodos => Order::Prodos,
+        ImageOrder::Nibble => Order::Nibble,
+    }
+}
 
 // The order of the image that a job names.
 fn image_order(job: &Job) -> Order

@@ -6,7 +6,7 @@ ghost use Rattle.a2_shop.specs.Answer.{from_of, image_of, out_of};
 use crate::command::tell_words_fault;
 use crate::job::run_job;
 use crate::out_file::OutFile;
-use crate::reply::{Failure, Reply, written};
+use image_jobs::{Failure, Reply, written};
 use shop_words::{Job, parse_words};
 use std::alloc::Global;
 use std::fs::File;

@@ -1,6 +1,6 @@
 use Rattle.std.proofs.Common.{inl, inr, map, string_bytes, ⊎_elim}
 use Rattle.shop_words.specs.Job.{job_view}
-use Rattle.a2_shop.specs.Reply.{held}
+use Rattle.image_jobs.specs.Reply.{held}
 use Rattle.a2_shop.proofs.Answered.{command_answered, command_refused, memory_told}
 use Rattle.a2_shop.proofs.command.run_command.Goals as goal
 

@@ -1,5 +1,5 @@
 use Rattle.std.proofs.Common.{MutBor, ap}
-use Rattle.a2_shop.proofs.Replies.{front_read}
+use Rattle.a2_shop.proofs.Fronts.{front_read}
 use Rattle.a2_shop.proofs.input.read_front.Goals as goal
 
 pub returns-in-Ok : goal.returns-in-Ok

@@ -3,9 +3,9 @@ use Rattle.a2_image.specs.declared.order.Order.{Order}
 use Rattle.shop_words.specs.Job.{job_view}
 use Rattle.shop_words.specs.declared.job.Job.{Job}
 use Rattle.a2_shop.specs.Answer.{IsReplyTo, image_order_of}
-use Rattle.a2_shop.specs.Volume.{files_of, form_of}
-use Rattle.a2_shop.specs.VolumeReply.{IsVolumeReply}
-use Rattle.a2_shop.specs.Work.{IsWorkReply, Catalog}
+use Rattle.volume_jobs.specs.Volume.{files_of, form_of}
+use Rattle.volume_jobs.specs.VolumeReply.{IsVolumeReply}
+use Rattle.volume_jobs.specs.Work.{IsWorkReply, Catalog}
 use Rattle.a2_shop.proofs.job.reply_to.Goals as goal
 
 pub returns-in-Catalog : goal.returns-in-Catalog

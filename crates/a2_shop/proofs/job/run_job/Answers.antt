@@ -1,8 +1,8 @@
 use Rattle.std.proofs.Common.{◌≡◌, ◌+◌, ℕ, List, sym, subst, take}
 use Rattle.std.specs.Prelude.{IfSome}
 use Rattle.shop_words.specs.Job.{job_view}
-use Rattle.a2_shop.specs.VerifyReply.{most_certificate}
-use Rattle.a2_shop.specs.Reply.{held}
+use Rattle.volume_jobs.specs.VerifyReply.{most_certificate}
+use Rattle.image_jobs.specs.Reply.{held}
 use Rattle.a2_shop.proofs.Answered.{image_handed, job_answered}
 use Rattle.a2_shop.proofs.DosListings.{dos_listed}
 use Rattle.a2_shop.proofs.job.run_job.Goals as goal

@@ -1,5 +1,0 @@
-use Rattle.std.proofs.Common.{inl}
-use Rattle.a2_shop.proofs.listing.catalog_reply.Goals as goal
-
-pub returns-in-Ok : goal.returns-in-Ok
-returns-in-Ok g c = λ honest never. inl (record { listing = c.in-Ok.listing; is_listing = c.in-Ok.ensures.listed honest; told = c.listing_reply.ensures })

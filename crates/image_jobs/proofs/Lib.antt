@@ -1,0 +1,4 @@
+pub mod Disks
+pub mod Fronts
+pub mod Converted
+pub mod NotMade

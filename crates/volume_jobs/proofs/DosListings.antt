@@ -1,0 +1,58 @@
+-- What is told of a DOS 3.3 disk that is listed, in the words of its format.
+use Rattle.std.proofs.Common.{◌≡◌, ◌∙◌, ℕ, Bool, List, length, subst, inl, inr}
+use Rattle.std.proofs.lemmas.List.FromFn.{length-map-range_with_len}
+use Rattle.std.specs.Prelude.{None}
+use Rattle.a2_image.specs.declared.order.Order.{Order}
+use Rattle.a2_image.specs.Image.{DiskImage}
+use Rattle.a2_device.specs.Device.{DeviceState}
+use Rattle.a2_device.specs.DosPlaces.{sector_at, sectors_by_place}
+use Rattle.a2_device.specs.ImageDevice.{length-stored_units}
+use Rattle.reserved_places.specs.declared.form.PlaceForm.TheVariants.{Sector}
+use Rattle.vol_layout.specs.Dos.{dos_meaning}
+use Rattle.file_cmds.specs.DosFiles.{dos_files}
+use Rattle.file_cmds.specs.DosListing.{dos_listing, no_dos_listing}
+use Rattle.shop_words.specs.declared.job.FileSystem.{FileSystem}
+use Rattle.shop_words.specs.declared.job.FileSystem.TheVariants.{Dos}
+use Rattle.image_jobs.specs.declared.reply.Reply.{Reply}
+use Rattle.volume_jobs.specs.CatalogReply.{IsListed}
+use Rattle.volume_jobs.specs.DosCatalogReply.{IsDosCatalogReply, IsDosListed}
+use Rattle.volume_jobs.specs.Volume.{device_of, files_of, form_of}
+use Rattle.volume_jobs.specs.VolumeReply.{IsVolumeReply}
+use Rattle.volume_jobs.specs.Work.{IsWorkReply, Catalog}
+
+length-disk : (image : DiskImage) → length (device_of Dos image).store ≡ 560
+unfolding sectors_by_place
+length-disk image = length-stored_units 256 (sectors_by_place image.sectors) ∙ length-map-range_with_len (sector_at image.sectors) 0 560
+
+listed-dos : (data_disk : Bool) (reserved : List Bool) (device : DeviceState) (reply : Reply) → length device.store ≡ 560
+    → IsListed Sector dos_files (dos_meaning data_disk reserved) device reply → IsDosListed device reply
+listed-dos data_disk reserved device reply size is = elim is [
+  | inl shown ↦ inl (record {
+    listing = shown.listing;
+    is_catalog = dos_listing data_disk reserved device.store shown.listing shown.is_listing;
+    told = shown.told;
+  })
+  | inr (inl fault) ↦ inr (inl (fault.0, no_dos_listing data_disk reserved device.store size fault.1))
+  | inr (inr (inl lacks)) ↦ inr (inr (inl lacks))
+  | inr (inr (inr memory)) ↦ inr (inr (inr memory))
+]
+
+reply-dos : (order : Order) (data_disk : Bool) (image : List ℕ) (reply : Reply)
+    → IsVolumeReply Dos order data_disk None image (IsWorkReply Catalog Sector dos_files) reply → IsDosCatalogReply order image reply
+reply-dos order data_disk image reply is = elim is [
+  | inl refused ↦ absurd (refused.1 tt)
+  | inr (inl long) ↦ inl (long.0, long.2)
+  | inr (inr (inl memory)) ↦ inr (inl memory)
+  | inr (inr (inr told)) ↦ inr (inr (
+    told.2.0,
+    told.2.1,
+    told.2.2,
+    listed-dos data_disk told.0 (device_of Dos told.2.1) reply (length-disk told.2.1) told.2.3,
+  ))
+]
+
+pub dos_catalog_listed : (order : Order) (data_disk : Bool) (file_system : FileSystem) (image : List ℕ) (reply : Reply) → file_system ≡ Dos
+    → IsVolumeReply file_system order data_disk None image (IsWorkReply Catalog (form_of file_system) (files_of file_system)) reply → IsDosCatalogReply order image reply
+dos_catalog_listed order data_disk file_system image reply dos is =
+    reply-dos order data_disk image reply
+    (subst (λ system. IsVolumeReply system order data_disk None image (IsWorkReply Catalog (form_of system) (files_of system)) reply) dos is)

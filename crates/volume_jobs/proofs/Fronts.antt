@@ -1,0 +1,55 @@
+-- What was read of an image and of a certificate, up to one byte past the most that they have, answers for all of it.
+use Rattle.std.proofs.Common.{◌≡◌, ℕ, ◌+◌, ◌≤◌, Bool, List, length, take, take_all, length-take, arith, sym, ap, subst, ◌∙◌, inl, inr}
+use Rattle.std.specs.Prelude.{Option}
+use Rattle.a2_image.specs.declared.order.Order.{Order}
+use Rattle.a2_image.specs.declared.order.Order.TheVariants.{Dos, Prodos, Nibble}
+use Rattle.a2_image.specs.Image.{IsImageLength}
+use Rattle.a2_device.specs.Device.{DeviceState}
+use Rattle.vol_format.specs.Meaning.{Meaning}
+use Rattle.shop_words.specs.declared.job.FileSystem.{FileSystem}
+use Rattle.shop_words.specs.declared.job.FileSystem.TheVariants.{Dos as Dos_volume, Prodos as Prodos_volume}
+use Rattle.image_jobs.specs.declared.reply.Reply.{Reply}
+use Rattle.image_jobs.specs.Disk.{most_bytes}
+use Rattle.image_jobs.proofs.Fronts.{disk_bytes-lt}
+use Rattle.volume_jobs.specs.VerifyReply.{IsVerified, most_certificate}
+use Rattle.volume_jobs.specs.Volume.{OfVolume, TakesBytes, meaning_of}
+use Rattle.volume_jobs.specs.VolumeReply.{IsVolumeReply}
+
+most-takes : (file_system : FileSystem) (order : Order) (bytes : ℕ) → TakesBytes file_system order bytes → bytes ≤ most_bytes order
+unfolding IsImageLength
+most-takes Dos_volume order bytes takes = let few = disk_bytes-lt order in omega (arith, few, takes)
+most-takes Prodos_volume Dos bytes takes = omega (arith, takes)
+most-takes Prodos_volume Prodos bytes takes = omega (arith, takes.2)
+most-takes Prodos_volume Nibble bytes takes = omega (arith, takes)
+
+-- one byte past the most is enough to tell what is taken from what is not
+past-most : (file_system : FileSystem) (order : Order) (image : List ℕ) → TakesBytes file_system order (length (take (most_bytes order + 1) image)) → take (most_bytes order + 1) image ≡ image
+past-most file_system order image takes =
+    take_all (most_bytes order + 1) image
+    (omega (arith, most-takes file_system order (length (take (most_bytes order + 1) image)) takes, length-take (most_bytes order + 1) image))
+
+TakesBytes-take : (file_system : FileSystem) (order : Order) (image : List ℕ) → TakesBytes file_system order (length image)
+    → TakesBytes file_system order (length (take (most_bytes order + 1) image))
+TakesBytes-take file_system order image takes =
+    subst (λ bytes. TakesBytes file_system order (length bytes)) (sym (take_all (most_bytes order + 1) image (omega (arith, most-takes file_system order (length image) takes)))) takes
+
+OfVolume-whole : (file_system : FileSystem) (order : Order) (image : List ℕ) (P : DeviceState → Type 0)
+    → OfVolume file_system order (take (most_bytes order + 1) image) P → OfVolume file_system order image P
+OfVolume-whole file_system order image P volume = subst (λ bytes. OfVolume file_system order bytes P) (past-most file_system order image volume.0) volume
+
+pub volume-whole : (file_system : FileSystem) (order : Order) (data_disk : Bool) (reserve : Option (List ℕ)) (image : List ℕ) (Tells : Meaning → DeviceState → Reply → Type 0) (reply : Reply)
+    → IsVolumeReply file_system order data_disk reserve (take (most_bytes order + 1) image) Tells reply → IsVolumeReply file_system order data_disk reserve image Tells reply
+volume-whole file_system order data_disk reserve image Tells reply is = elim is [
+  | inl refused ↦ inl refused
+  | inr (inl long) ↦ inr (inl (long.0, long.1, λ takes. long.2 (TakesBytes-take file_system order image takes)))
+  | inr (inr (inl memory)) ↦ inr (inr (inl memory))
+  | inr (inr (inr told)) ↦ inr (inr (inr (told.0, told.1, OfVolume-whole file_system order image (λ device. Tells (meaning_of file_system data_disk told.0) device reply) told.2)))
+]
+
+pub verified-take : (reclaim : Bool) (front bytes : List ℕ) (format : Meaning) (device : DeviceState) (reply : Reply) → front ≡ take (most_certificate + 1) bytes
+    → IsVerified reclaim front format device reply → IsVerified reclaim bytes format device reply
+verified-take reclaim front bytes format device reply taken is = elim is [
+  | inl long ↦ inl (long.0, omega (arith, long.1, ap (λ (xs : List ℕ). length xs) taken, length-take (most_certificate + 1) bytes))
+  | inr short ↦ subst (λ text. IsVerified reclaim text format device reply)
+      (taken ∙ take_all (most_certificate + 1) bytes (omega (arith, short.0, ap (λ (xs : List ℕ). length xs) taken, length-take (most_certificate + 1) bytes))) (inr short)
+]

@@ -1,0 +1,9 @@
+pub mod Fronts
+pub mod Taken
+pub mod Replies
+pub mod Checks
+pub mod Readings
+pub mod Unopened
+pub mod Optimized
+pub mod NotMade
+pub mod DosListings

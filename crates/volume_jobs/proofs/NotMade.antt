@@ -1,0 +1,115 @@
+-- The replies of jobs that make no image.
+use Rattle.std.proofs.Common.{ℕ, Bool, List, inl, inr}
+use Rattle.std.specs.Prelude.{Option}
+use Rattle.a2_image.specs.declared.order.Order.{Order}
+use Rattle.a2_device.specs.Device.{DeviceState}
+use Rattle.reserved_places.specs.declared.form.PlaceForm.{PlaceForm}
+use Rattle.vol_format.specs.Meaning.{Meaning}
+use Rattle.vol_opening.specs.declared.error.OpenError.{OpenError}
+use Rattle.vol_opening.specs.declared.error.OpenError.TheVariants as opens
+use Rattle.shop_words.specs.declared.job.FileSystem.{FileSystem}
+use Rattle.image_jobs.specs.declared.reply.Refusal.TheVariants as refusals
+use Rattle.image_jobs.specs.declared.reply.Failure.TheVariants as failures
+use Rattle.image_jobs.specs.declared.reply.Reply.{Reply}
+use Rattle.file_cmds.specs.Files.{FileMeaning}
+use Rattle.volume_jobs.specs.CatalogReply.{IsListed}
+use Rattle.volume_jobs.specs.ReadReply.{IsRead}
+use Rattle.volume_jobs.specs.Work.{IsWorkReply, WorkView, Catalog, Read, Check, Plan, Optimize, Verify}
+use Rattle.volume_jobs.specs.CheckReply.{IsChecked}
+use Rattle.volume_jobs.specs.PlanReply.{IsPlanned, TellsOpening}
+use Rattle.volume_jobs.specs.VerifyReply.{IsVerdict, IsVerified}
+use Rattle.part_layout.specs.Layouts.{Placement}
+use Rattle.image_jobs.specs.Reply.{IsMade}
+use Rattle.image_jobs.proofs.NotMade.{content_not_made, done_not_made, failed_not_made, faulty_not_made, refused_not_made, unopened_not_made}
+use Rattle.volume_jobs.specs.VolumeReply.{IsVolumeReply}
+
+pub checked_not_made : (form : PlaceForm) (format : Meaning) (device : DeviceState) (reply : Reply) → IsChecked form format device reply → ¬ IsMade reply
+checked_not_made form format device reply is made = elim is [
+  | inl done ↦ done_not_made reply done.0 made
+  | inr (inl faulty) ↦ faulty_not_made reply faulty.0 made
+  | inr (inr (inl failed)) ↦ failed_not_made failures.Device reply failed.0 made
+  | inr (inr (inr failed)) ↦ failed_not_made failures.Memory reply failed made
+]
+
+unopened_told_not_made : {A : Type 0} (error : OpenError A) (reply : Reply) → TellsOpening error reply → ¬ IsMade reply
+unopened_told_not_made (opens.Check faults) reply is made = refused_not_made refusals.Check reply is made
+unopened_told_not_made (opens.Lost count) reply is made = elim is [
+  | inl told ↦ unopened_not_made reply told.0 made
+  | inr failed ↦ failed_not_made failures.Memory reply failed made
+]
+unopened_told_not_made opens.NoFreePlace reply is made = refused_not_made refusals.NoFreePlace reply is made
+unopened_told_not_made opens.Device reply is made = failed_not_made failures.Device reply is made
+unopened_told_not_made opens.Memory reply is made = failed_not_made failures.Memory reply is made
+
+pub planned_not_made : (reclaim : Bool) (format : Meaning) (device : DeviceState) (reply : Reply) → IsPlanned reclaim format device reply → ¬ IsMade reply
+planned_not_made reclaim format device reply is made = elim is [
+  | inl planned ↦ elim planned.told [
+    | inl told ↦ content_not_made reply told.0 made
+    | inr failed ↦ failed_not_made failures.Memory reply failed made
+  ]
+  | inr unopened ↦ unopened_told_not_made unopened.error reply unopened.told made
+]
+
+verdict_not_made : (layout : Placement) (bytes : List ℕ) (reply : Reply) → IsVerdict layout bytes reply → ¬ IsMade reply
+verdict_not_made layout bytes reply is made = elim is [
+  | inl optimal ↦ done_not_made reply optimal.done made
+  | inr (inl other) ↦ elim other.told [
+    | inl told ↦ faulty_not_made reply told.1 made
+    | inr failed ↦ failed_not_made failures.Memory reply failed made
+  ]
+  | inr (inr (inl none)) ↦ faulty_not_made reply none.faulty made
+  | inr (inr (inr failed)) ↦ failed_not_made failures.Memory reply failed made
+]
+
+pub verified_not_made : (reclaim : Bool) (bytes : List ℕ) (format : Meaning) (device : DeviceState) (reply : Reply) → IsVerified reclaim bytes format device reply → ¬ IsMade reply
+verified_not_made reclaim bytes format device reply is made = elim is [
+  | inl long ↦ refused_not_made refusals.InputTooLong reply long.0 made
+  | inr short ↦ elim short.1 [
+    | inl verdict ↦ verdict_not_made verdict.volume.layout bytes reply verdict.verdict made
+    | inr unopened ↦ unopened_told_not_made unopened.error reply unopened.told made
+  ]
+]
+
+pub volume_not_made : (file_system : FileSystem) (order : Order) (data_disk : Bool) (reserve : Option (List ℕ)) (image : List ℕ) (Tells : Meaning → DeviceState → Reply → Type 0) (reply : Reply)
+    → ((format : Meaning) (device : DeviceState) → Tells format device reply → ¬ IsMade reply)
+    → IsVolumeReply file_system order data_disk reserve image Tells reply → ¬ IsMade reply
+volume_not_made file_system order data_disk reserve image Tells reply never is made = elim is [
+  | inl refused ↦ refused_not_made refusals.Reserve reply refused.0 made
+  | inr (inl refused) ↦ refused_not_made refusals.Length reply refused.0 made
+  | inr (inr (inl failed)) ↦ failed_not_made failures.Memory reply failed made
+  | inr (inr (inr told)) ↦ never _ _ told.2.3 made
+]
+
+listed_not_made : (form : PlaceForm) (files : FileMeaning) (format : Meaning) (device : DeviceState) (reply : Reply) → IsListed form files format device reply → ¬ IsMade reply
+listed_not_made form files format device reply is made = elim is [
+  | inl listed ↦ elim listed.told [
+    | inl told ↦ done_not_made reply told.0 made
+    | inr failed ↦ failed_not_made failures.Memory reply failed made
+  ]
+  | inr (inl refused) ↦ refused_not_made refusals.Check reply refused.0 made
+  | inr (inr (inl failed)) ↦ failed_not_made failures.Device reply failed.0 made
+  | inr (inr (inr failed)) ↦ failed_not_made failures.Memory reply failed made
+]
+
+read_not_made : (name : List ℕ) (whole : Bool) (files : FileMeaning) (format : Meaning) (device : DeviceState) (reply : Reply) → IsRead name whole files format device reply → ¬ IsMade reply
+read_not_made name whole files format device reply is made = elim is [
+  | inl content ↦ content_not_made reply content.0 made
+  | inr (inl refused) ↦ refused_not_made refusals.Check reply refused.0 made
+  | inr (inr (inl refused)) ↦ refused_not_made refusals.NotFound reply refused.0 made
+  | inr (inr (inr (inl failed))) ↦ failed_not_made failures.Device reply failed.0 made
+  | inr (inr (inr (inr failed))) ↦ failed_not_made failures.Memory reply failed made
+]
+
+-- work that makes no image
+abbrev pub MakesNone : WorkView → Type 0
+MakesNone (Optimize reclaim limit) = ⊥
+MakesNone work = Unit {0}
+
+pub work_not_made : (work : WorkView) → MakesNone work → (form : PlaceForm) (files : FileMeaning) (format : Meaning) (device : DeviceState) (reply : Reply)
+    → IsWorkReply work form files format device reply → ¬ IsMade reply
+work_not_made Catalog none form files format device reply is made = listed_not_made form files format device reply is made
+work_not_made (Read name whole) none form files format device reply is made = read_not_made name whole files format device reply is made
+work_not_made Check none form files format device reply is made = checked_not_made form format device reply is made
+work_not_made (Plan reclaim) none form files format device reply is made = planned_not_made reclaim format device reply is made
+work_not_made (Optimize reclaim limit) none form files format device reply is made = absurd none
+work_not_made (Verify reclaim bytes) none form files format device reply is made = verified_not_made reclaim bytes format device reply is made

@@ -1,0 +1,30 @@
+-- What is told of an optimization, by what the optimizer answered.
+use Rattle.std.proofs.Common.{◌≡◌, ℕ, Bool, inl, inr, ap, Global}
+use Rattle.std.specs.Prelude.{IsTrue, Some, Err}
+use Rattle.a2_device.specs.Device.{DeviceState}
+use Rattle.vol_opening.specs.Refused.{is_device_error}
+use Rattle.vol_format.specs.Meaning.{Meaning}
+use Rattle.vol_mover.specs.Optimizing.{IsRefused}
+use Rattle.vol_mover.specs.Report.{IsReported}
+use Rattle.vol_mover.specs.declared.report.OptError.{OptError}
+use Rattle.vol_mover.specs.declared.report.OptError.TheVariants as optimizes
+use Rattle.vol_mover.specs.declared.report.Report.{Report}
+use Rattle.image_jobs.specs.declared.reply.Reply.{Reply}
+use Rattle.volume_jobs.specs.OptimizeReply.{IsOptimized, TellsReport, TellsStop}
+use Rattle.volume_jobs.proofs.Unopened.{unopened}
+
+module _ (reclaim : Bool) (limit : ℕ) (format : Meaning) (old new : DeviceState) (reply : Reply) where
+  pub optimized : (report : Report Global) → IsReported format (record { reclaim = reclaim }) limit old new report → TellsReport new report reply
+      → IsOptimized reclaim limit format old reply
+  optimized report reported told = elim told [
+    | inl done ↦ inl (record { after = new; report = report; reported = reported; optimized = done.0; text = done.1; made = done.2 })
+    | inr failed ↦ inr (inr (inr failed))
+  ]
+
+  pub not_optimized : (error : OptError Global) → IsTrue old.honest → old.read_failures ≡ Some 0 → IsRefused format (record { reclaim = reclaim }) limit old new error → TellsStop new error reply
+      → IsOptimized reclaim limit format old reply
+  not_optimized (optimizes.Open error) honest never refused told =
+      inr (inl (unopened reclaim format old new error reply _ honest never refused.0 (λ is. ap (λ e. is_device_error {T = Unit {0}} (Err e)) is) (refused.1 honest) told))
+  not_optimized (optimizes.Step error) honest never refused told =
+      inr (inr (inl (record { after = new; error = error; stopped = refused; interrupted = told.0; made = told.1 })))
+  not_optimized optimizes.Memory honest never refused told = inr (inr (inr told))

@@ -1,0 +1,12 @@
+pub mod Volume
+pub mod VolumeReply
+pub mod Refusals
+pub mod CatalogReply
+pub mod DosCatalogReply
+pub mod CheckText
+pub mod CheckReply
+pub mod PlanReply
+pub mod OptimizeReply
+pub mod VerifyReply
+pub mod ReadReply
+pub mod Work

@@ -1,0 +1,66 @@
+-- What is told of a volume whose plan is asked for.
+use Rattle.std.specs.Prelude.{◌≡◌, ◌⊎◌, ◌↔◌, ℕ, Bool, List, [], ◌∷◌, ◌++◌, Contains, codes, decimal}
+use Rattle.std.specs.declared.alloc.Global.{Global}
+use Rattle.a2_device.specs.Device.{DeviceState}
+use Rattle.part_layout.specs.Layouts.{Placement}
+use Rattle.move_plan.specs.declared.answer.Plan.{Plan}
+use Rattle.ring_cert.specs.Certificates.{certificate_of, certificate_text}
+use Rattle.vol_format.specs.Accepted.{IsAccepted}
+use Rattle.vol_format.specs.Directory.{Directory}
+use Rattle.vol_format.specs.Meaning.{Meaning}
+use Rattle.vol_format.specs.Reach.{IsPartsOf}
+use Rattle.vol_format.specs.Standing.{IsLost}
+use Rattle.vol_check.specs.Told.{Told, IsToldOf}
+use Rattle.vol_opening.specs.Opening.{IsAllowed, IsPlanOf}
+use Rattle.vol_opening.specs.Refused.{IsRefusal}
+use Rattle.vol_opening.specs.declared.error.OpenError.{OpenError}
+use Rattle.vol_opening.specs.declared.error.OpenError.TheVariants as opens
+use Rattle.image_jobs.specs.declared.reply.Refusal.TheVariants as refusals
+use Rattle.image_jobs.specs.declared.reply.Failure.TheVariants as failures
+use Rattle.image_jobs.specs.declared.reply.Reply.{Reply}
+use Rattle.image_jobs.specs.declared.reply.Reply.TheVariants.{Refused, Failed}
+use Rattle.image_jobs.specs.Reply.{IsContent, IsUnopened, text_of}
+use Rattle.volume_jobs.specs.Volume.{LacksUnit}
+
+-- The volume is accepted, and these are its parts, their layout and the lost places, none of which is lost but where they are reclaimed; and it has a free
+-- place or is in order.
+pub record IsOpened (reclaim : Bool) (format : Meaning) (store : List (List ℕ)) (told : Told) : Type 0 where
+  pub directory : Directory
+  pub accepted : IsAccepted format directory store
+  pub of_directory : IsToldOf directory told
+  pub parts : IsPartsOf format directory store told.parts
+  pub lost : (place : ℕ) → Contains told.lost place ↔ IsLost format directory store place
+  pub allowed : IsAllowed (record { reclaim = reclaim }) told
+
+-- the text is the certificate of a plan of a layout
+abbrev pub certificate_by : {A : Type 0} → Placement → Plan A → List ℕ
+certificate_by layout plan = certificate_text (certificate_of layout plan.misplaced.items plan.rings.items plan.moves.items)
+
+abbrev pub TellsPlan : {A : Type 0} → Placement → Plan A → Reply → Type 0
+TellsPlan layout plan reply = (IsContent reply × (text_of reply ≡ certificate_by layout plan)) ⊎ (reply ≡ Failed failures.Memory)
+
+-- the reply to a volume that is not opened; how many places are lost is told
+abbrev pub TellsOpening : {A : Type 0} → OpenError A → Reply → Type 0
+TellsOpening (opens.Check faults) reply = reply ≡ Refused refusals.Check
+TellsOpening (opens.Lost count) reply = (IsUnopened reply × (text_of reply ≡ codes "REFUSED Lost " ++ decimal count ++ 10 ∷ [])) ⊎ (reply ≡ Failed failures.Memory)
+TellsOpening opens.NoFreePlace reply = reply ≡ Refused refusals.NoFreePlace
+TellsOpening opens.Device reply = reply ≡ Failed failures.Device
+TellsOpening opens.Memory reply = reply ≡ Failed failures.Memory
+
+-- the volume is not opened: it has faults, lost places that are not reclaimed, or no free place; or a unit can't be read
+pub record IsUnopenedReply (reclaim : Bool) (format : Meaning) (device : DeviceState) (reply : Reply) : Type 0 where
+  pub error : OpenError Global
+  pub refusal : IsRefusal format device.store (record { reclaim = reclaim }) error
+  pub lacks : error ≡ opens.Device → LacksUnit device
+  pub told : TellsOpening error reply
+
+-- a shortest plan of the volume's layout, and the text of its certificate
+pub record IsPlanReply (reclaim : Bool) (format : Meaning) (device : DeviceState) (reply : Reply) : Type 0 where
+  pub volume : Told
+  pub opened : IsOpened reclaim format device.store volume
+  pub plan : Plan Global
+  pub shortest : IsPlanOf volume.layout plan
+  pub told : TellsPlan volume.layout plan reply
+
+abbrev pub IsPlanned : Bool → Meaning → DeviceState → Reply → Type 0
+IsPlanned reclaim format device reply = IsPlanReply reclaim format device reply ⊎ IsUnopenedReply reclaim format device reply

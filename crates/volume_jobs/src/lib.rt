@@ -1,0 +1,23 @@
+//! The jobs on the volume of an image: `volume_reply` opens the image as a device, by its order and its file system, and
+//! answers what `Work` asks of it by one `Reply` of `image_jobs`.
+//!
+//! The model. `specs/Volume.antt` says which bytes are taken as an image and which device has its units;
+//! `specs/VolumeReply.antt` what is refused before the volume is looked at; `specs/Work.antt` which reply then comes, by the
+//! work and the device: `CatalogReply`, `ReadReply`, `CheckReply`, `PlanReply`, `OptimizeReply` and `VerifyReply`, and for
+//! the listing of a DOS 3.3 disk in its format's own words `DosCatalogReply`. What always holds: each reply says what the
+//! units of the image are, each refusal has its cause in them or in the words, and `optimize` alone hands out an image.
+#![tactic(auto)]
+
+mod check;
+mod check_text;
+mod listing;
+mod optimize;
+mod plan;
+mod reading;
+#[cfg(test)]
+mod tests;
+mod verify;
+mod volume;
+
+pub use verify::MOST_CERTIFICATE;
+pub use volume::{Work, volume_reply};

@@ -1,0 +1,58 @@
+// The job that tells the fewest moves that bring the files of a volume into order.
+ghost use Rattle.std.specs.Prelude.{◌≡◌, Some, IsTrue};
+ghost use Rattle.vol_opening.specs.Opening.{IsPlanOf};
+ghost use Rattle.volume_jobs.specs.PlanReply.{IsPlanned, TellsOpening, TellsPlan};
+
+use a2_device::Device;
+use image_jobs::{Failure, Refusal, Reply};
+use ring_cert::print;
+use std::alloc::Global;
+use vol_format::Format;
+use vol_opening::{OpenError, Opening, Options};
+
+/// The reply to a volume that is not opened.
+pub fn unopened_reply(alloc: Global, error: &OpenError) -> Reply
+    ensures { TellsOpening error.now result }
+{
+    match error {
+        OpenError::Check(_) => Reply::Refused(Refusal::Check),
+        OpenError::Lost(count) => match format!(in alloc; "REFUSED Lost {count}\n") {
+            Ok(text) => Reply::Unopened(text),
+            Err(_) => Reply::Failed(Failure::Memory),
+        },
+        OpenError::NoFreePlace => Reply::Refused(Refusal::NoFreePlace),
+        OpenError::Device => Reply::Failed(Failure::Device),
+        OpenError::Memory => Reply::Failed(Failure::Memory),
+    }
+}
+
+// The reply with the certificate of a plan.
+fn certificate_reply<V: Drop>(alloc: Global, opening: &Opening<V>) -> Reply
+    requires { IsPlanOf opening.now.layout opening.now.plan }
+    ensures { TellsPlan opening.now.layout opening.now.plan result }
+{
+    // A layout has few parts, and so few claims.
+    let _parts = opening.layout.at().len();
+    match print(alloc, &opening.layout, &opening.plan) {
+        Ok(text) => Reply::Bytes(text),
+        Err(_) => Reply::Failed(Failure::Memory),
+    }
+}
+
+/// The certificate of the shortest plan that brings the parts of a volume into order, or why there is none.
+pub fn plan_reply<D: Device, F: Format>(
+    alloc: Global,
+    device: &mut D,
+    format: &F,
+    reclaim: bool,
+) -> Reply
+    requires unit { (D.state device.old).unit_size ≡ (F.meaning format.now).unit_size }
+    requires places { (F.meaning format.now).Takes (D.state device.old).places }
+    ensures { IsTrue (D.state device.old).honest → (D.state device.old).read_failures ≡ Some 0
+        → IsPlanned reclaim (F.meaning format.now) (D.state device.old) result }
+{
+    match Opening::read(alloc, device, format, Options { reclaim }) {
+        Ok(opening) => certificate_reply(alloc, &opening),
+        Err(error) => unopened_reply(alloc, &error),
+    }
+}

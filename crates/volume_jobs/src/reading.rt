@@ -1,0 +1,28 @@
+// The job that reads a file of a volume.
+ghost use Rattle.std.specs.Prelude.{◌≡◌, Some, IsTrue};
+ghost use Rattle.volume_jobs.specs.ReadReply.{IsRead};
+
+use crate::listing::refusal_reply;
+use a2_device::Device;
+use file_cmds::{FileFormat, read};
+use image_jobs::Reply;
+use std::alloc::Global;
+
+/// The body of a file of the volume on a device, or all of its units.
+pub fn read_reply<D: Device, F: FileFormat>(
+    alloc: Global,
+    device: &mut D,
+    format: &F,
+    name: &[u8],
+    whole: bool,
+) -> Reply
+    requires unit { (D.state device.old).unit_size ≡ (F.meaning format.now).unit_size }
+    requires places { (F.meaning format.now).Takes (D.state device.old).places }
+    ensures { IsTrue (D.state device.old).honest → (D.state device.old).read_failures ≡ Some 0
+        → IsRead name.now whole (F.files format.now) (F.meaning format.now) (D.state device.old) result }
+{
+    match read(alloc, device, format, name, whole) {
+        Ok(content) => Reply::Bytes(content),
+        Err(error) => refusal_reply(error),
+    }
+}

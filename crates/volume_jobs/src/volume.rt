@@ -1,0 +1,197 @@
+// Jobs on the volume of an image.
+ghost use Rattle.std.specs.Prelude.{◌≡◌, ◌⊎◌, Some, IsTrue, false, length, IfOk, IfErr, option_map};
+ghost use Rattle.a2_image.specs.Image.{IsOfDisk};
+ghost use Rattle.reserved_places.specs.declared.error.ReserveError.TheVariants.{Syntax};
+ghost use Rattle.shop_words.specs.declared.job.FileSystem.TheVariants.{Dos as OfDos, Prodos as OfProdos};
+ghost use Rattle.volume_jobs.specs.Refusals.{reply_to_reserve};
+ghost use Rattle.volume_jobs.specs.Volume.{IsImageOf, RefusesBytes, TakesBytes, device_of, files_of, form_of as form_by, meaning_of};
+ghost use Rattle.volume_jobs.specs.VolumeReply.{IsVolumeReply, NamesPlaces, ReservesNamed};
+ghost use Rattle.volume_jobs.specs.Work.{IsWorkReply, work_view};
+ghost use Rattle.image_jobs.specs.declared.reply.Reply.TheVariants.{Failed as AFailed};
+ghost use Rattle.image_jobs.specs.declared.reply.Failure.TheVariants.{Memory as OfMemory};
+
+use crate::check::check_reply;
+use crate::listing::catalog_reply;
+use crate::optimize::optimize_reply;
+use crate::plan::plan_reply;
+use crate::reading::read_reply;
+use crate::verify::verify_reply;
+use a2_device::{Device, ImageDevice};
+use a2_image::{Image, ImageError, Order};
+use file_cmds::FileFormat;
+use image_jobs::{Failure, Refusal, Reply, open_disk};
+use pro_layout::Prodos;
+use reserved_places::{PlaceForm, ReserveError, Reserved};
+use shop_words::{FileSystem, VolumeOptions};
+use std::alloc::Global;
+use vol_format::WritableFormat;
+use vol_layout::Dos33;
+
+// The reply to a text of places to reserve that is not taken.
+fn reserve_reply(error: ReserveError) -> Reply
+    ensures { result ≡ reply_to_reserve error }
+{
+    match error {
+        ReserveError::Syntax => Reply::Refused(Refusal::Reserve),
+        ReserveError::Memory => Reply::Failed(Failure::Memory),
+    }
+}
+
+/// What is asked of a volume.
+#[derive(Clone, Copy)]
+pub enum Work<'a> {
+    /// Its listing.
+    Catalog,
+    /// The body of a file, or all of its units.
+    Read {
+        name: &'a [u8],
+        whole: bool,
+    },
+    /// Whether it is accepted.
+    Check,
+    /// The fewest moves that bring its files into order.
+    Plan {
+        reclaim: bool,
+    },
+    /// Its files in order, by at most so many writes.
+    Optimize {
+        reclaim: bool,
+        limit: u64,
+    },
+    /// Whether this text is a certificate that shows that no plan is shorter.
+    Verify {
+        reclaim: bool,
+        certificate: &'a [u8],
+    },
+}
+
+// How the places of a file system are named.
+fn form_of(file_system: FileSystem) -> PlaceForm
+    ensures { result ≡ form_by file_system }
+{
+    match file_system {
+        FileSystem::Dos => PlaceForm::Sector,
+        FileSystem::Prodos => PlaceForm::Block,
+    }
+}
+
+// The places that the words reserve.
+fn reserved_by(
+    alloc: Global,
+    form: PlaceForm,
+    reserve: Option<&str>,
+) -> Result<Reserved, ReserveError>
+    ensures read { IfOk result (ReservesNamed form (option_map (λ s. s.now) reserve.entry)) }
+    ensures syntax { IfErr result (λ e. e ≡ Syntax → ¬ NamesPlaces form (option_map (λ s. s.now) reserve.entry)) }
+{
+    match reserve {
+        Some(text) => Reserved::read(alloc, text, form),
+        None => Ok(Reserved::none(alloc)),
+    }
+}
+
+// Takes the bytes of an image that has a volume of a file system.
+fn open_volume(bytes: Vec<u8>, order: Order, file_system: FileSystem) -> Result<Image, ImageError>
+    ensures takes { IfOk result (λ image. TakesBytes file_system order (length bytes.items)) }
+    ensures image { IfOk result (λ image. IsImageOf order bytes.items image) }
+    ensures disk { IfOk result (λ image. file_system ≡ OfDos → IsOfDisk image) }
+    ensures refused { IfErr result (RefusesBytes file_system order (length bytes.items)) }
+{
+    if file_system == FileSystem::Dos {
+        return open_disk(bytes, order);
+    }
+    match Image::open(bytes, order) {
+        Ok(image) => Ok(image),
+        Err((error, _)) => Err(error),
+    }
+}
+
+// The reply to work on the volume of a device.
+fn work_reply<F: FileFormat + WritableFormat>(
+    alloc: Global,
+    work: Work<'_>,
+    device: ImageDevice,
+    format: &F,
+    form: PlaceForm,
+) -> Reply
+    requires unit { (⟦<ImageDevice as Device>⟧.state device).unit_size ≡ (F.meaning format.now).unit_size }
+    requires places { (F.meaning format.now).Takes (⟦<ImageDevice as Device>⟧.state device).places }
+    ensures { IsTrue (⟦<ImageDevice as Device>⟧.state device).honest → (⟦<ImageDevice as Device>⟧.state device).read_failures ≡ Some 0
+        → IsWorkReply (work_view work.entry) form (F.files format.now) (F.meaning format.now) (⟦<ImageDevice as Device>⟧.state device) result }
+{
+    let mut device = device;
+    match work {
+        Work::Catalog => catalog_reply(alloc, &mut device, format, form),
+        Work::Read { name, whole } => read_reply(alloc, &mut device, format, name, whole),
+        Work::Check => check_reply(alloc, &mut device, format, form),
+        Work::Plan { reclaim } => plan_reply(alloc, &mut device, format, reclaim),
+        Work::Optimize { reclaim, limit } => optimize_reply(alloc, device, format, reclaim, limit),
+        Work::Verify {
+            reclaim,
+            certificate,
+        } => verify_reply(alloc, &mut device, format, reclaim, certificate),
+    }
+}
+
+// The reply to work on the DOS 3.3 volume of a disk.
+fn dos_reply(
+    alloc: Global,
+    work: Work<'_>,
+    disk: Image,
+    data_disk: bool,
+    reserved: Reserved,
+) -> Reply
+    requires { IsOfDisk disk }
+    ensures { (result ≡ AFailed OfMemory) ⊎ IsWorkReply (work_view work.entry) (form_by OfDos) (files_of OfDos) (meaning_of OfDos data_disk reserved) (device_of OfDos disk) result }
+{
+    let Ok(format) = Dos33::new(alloc, data_disk, reserved) else {
+        return Reply::Failed(Failure::Memory);
+    };
+    work_reply(
+        alloc,
+        work,
+        ImageDevice::dos(disk),
+        &format,
+        PlaceForm::Sector,
+    )
+}
+
+// The reply to work on the ProDOS volume of an image.
+fn prodos_reply(alloc: Global, work: Work<'_>, image: Image, reserved: Reserved) -> Reply
+    ensures { IsWorkReply (work_view work.entry) (form_by OfProdos) (files_of OfProdos) (meaning_of OfProdos false reserved) (device_of OfProdos image) result }
+{
+    let format = Prodos::new(alloc, reserved);
+    // An image has 16 to 65,535 blocks.
+    let _blocks = image.blocks();
+    let device = ImageDevice::prodos(image);
+    work_reply(alloc, work, device, &format, PlaceForm::Block)
+}
+
+/// The reply to work on the volume in an image of this order. The words may reserve places, as sectors or as blocks.
+///
+/// `Refused` with `Reserve` where they are no list of places, with `Length` where no image of this order has so many bytes;
+/// else what the work tells of the units that the image holds, or `Failed` for want of memory.
+pub fn volume_reply(
+    alloc: Global,
+    work: Work<'_>,
+    image: Vec<u8>,
+    order: Order,
+    options: VolumeOptions,
+    reserve: Option<&str>,
+) -> Reply
+    ensures { IsVolumeReply options.file_system order options.data_disk (option_map (λ s. s.now) reserve.entry) image.items
+        (IsWorkReply (work_view work.entry) (form_by options.file_system) (files_of options.file_system)) result }
+{
+    let reserved = match reserved_by(alloc, form_of(options.file_system), reserve) {
+        Ok(reserved) => reserved,
+        Err(error) => return reserve_reply(error),
+    };
+    let image = match open_volume(image, order, options.file_system) {
+        Ok(image) => image,
+        Err(error) => return Reply::from(error),
+    };
+    match options.file_system {
+        FileSystem::Dos => dos_reply(alloc, work, image, options.data_disk, reserved),
+        FileSystem::Prodos => prodos_reply(alloc, work, image, reserved),
+    }
+}
