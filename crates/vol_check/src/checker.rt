@@ -67,8 +67,8 @@ fn checked<F: Format, A: Allocator + Copy>(
     })
 }
 
-/// Accepts a volume, or tells what is wrong with it. It makes no write, reads the header, the directory and the unit of each part, and
-/// each of them once.
+/// Accepts a volume, or tells what is wrong with it. It makes no write, reads the header, the directory and the unit of each part that
+/// has pointers, and each of them once.
 ///
 /// # Errors
 /// `Faults` with every fault that was met, in the order of the parts; `Device` where a read fails; `Memory`.

@@ -129,7 +129,7 @@ fn follow<F: Format, A: Allocator>(
     Ok(())
 }
 
-// Looks at a part: takes it up, reads its unit and notes what that points to.
+// Looks at a part: takes it up, and where its unit has pointers reads it and notes what they name.
 fn visit<D: Device, F: Format, A: Allocator>(
     device: &mut D,
     format: &F,
@@ -151,7 +151,7 @@ fn visit<D: Device, F: Format, A: Allocator>(
     ensures honest { IsTrue (D.state device.old).honest → OnOk result (lists walk.new
         ≡ after_visit (F.meaning format.now) (F.directory format.now volume.now) part (unit_at (D.state device.old).store part.place) (lists walk.old)) }
 {
-    if admit(format, volume, part, walk)? {
+    if admit(format, volume, part, walk)? && format.pointers(&part) != 0 {
         device.read(part.place, unit).map_err(|_| Stop::Device)?;
         follow(format, volume, part, unit, walk)?;
     }
