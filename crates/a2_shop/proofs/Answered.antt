@@ -7,14 +7,15 @@ use Rattle.shop_words.specs.declared.fault.WordsFault.{WordsFault}
 use Rattle.shop_words.specs.declared.fault.WordsFault.TheVariants as words
 use Rattle.shop_words.specs.declared.job.VolumeOptions.{VolumeOptions}
 use Rattle.image_jobs.specs.declared.reply.Reply.{Reply}
+use Rattle.image_jobs.specs.declared.reply.Reply.TheVariants.{Done, Faulty, Bytes, Made, Optimized, Interrupted, Refused, Unopened, Failed}
 use Rattle.image_jobs.specs.Disk.{most_bytes}
-use Rattle.image_jobs.specs.Reply.{HandsImage, HandsOut, Held, IsDelivered, IsMade}
+use Rattle.image_jobs.specs.Reply.{HandsOut, Held, IsDelivered, IsMade}
 use Rattle.image_jobs.proofs.Fronts.{convert-whole}
 use Rattle.volume_jobs.specs.VerifyReply.{most_certificate}
 use Rattle.volume_jobs.specs.Volume.{device_of, files_of, form_of, meaning_of}
 use Rattle.volume_jobs.specs.Work.{IsWorkReply, WorkView, Catalog, Read, Check, Plan, Optimize, Verify}
 use Rattle.volume_jobs.proofs.Fronts.{verified-take, volume-whole}
-use Rattle.a2_shop.specs.Answer.{limit_of, IsToldOf, IsReplyTo, IsAnswer, IsCommandAnswer, IsWordsAnswer, MakesImage, ReadsExtra, image_order_of, order_of}
+use Rattle.a2_shop.specs.Answer.{HandsOutFor, limit_of, IsToldOf, IsReplyTo, IsAnswer, IsCommandAnswer, IsWordsAnswer, MakesImage, ReadsExtra, image_order_of, order_of}
 use Rattle.a2_shop.proofs.NotMade.{told_not_made}
 
 -- a text that is too long is told so by one byte past the most
@@ -75,11 +76,30 @@ makes_image (optimize words reserve reclaim) image more reply is made = tt
 makes_image (verify path volume from reserve reclaim) image more reply is made = absurd (told_not_made volume reserve image (Verify reclaim more) tt reply is made)
 makes_image (convert words) image more reply is made = tt
 
+-- the image of a conversion is handed out with `OK`
+hands_for : (job : JobView) (image more : List ℕ) (reply : Reply) (status : ℕ) (old new : Option (List ℕ)) → IsReplyTo job image (Some more) reply → IsMade reply
+    → HandsOut reply status old new → HandsOutFor job status old new
+hands_for (convert words) image more (Made content) status old new is made out = out
+hands_for (convert words) image more (Optimized text content) status old new is made out = absurd is
+hands_for (convert words) image more (Interrupted content) status old new is made out = absurd is
+hands_for (convert words) image more (Done text) status old new is made out = absurd made
+hands_for (convert words) image more (Faulty text) status old new is made out = absurd made
+hands_for (convert words) image more (Bytes content) status old new is made out = absurd made
+hands_for (convert words) image more (Refused refusal) status old new is made out = absurd made
+hands_for (convert words) image more (Unopened text) status old new is made out = absurd made
+hands_for (convert words) image more (Failed failure) status old new is made out = absurd made
+hands_for (catalog path volume) image more reply status old new is made out = (reply, made, out)
+hands_for (check path volume reserve) image more reply status old new is made out = (reply, made, out)
+hands_for (read path name volume whole) image more reply status old new is made out = (reply, made, out)
+hands_for (plan path volume reserve reclaim) image more reply status old new is made out = (reply, made, out)
+hands_for (optimize words reserve reclaim) image more reply status old new is made out = (reply, made, out)
+hands_for (verify path volume from reserve reclaim) image more reply status old new is made out = (reply, made, out)
+
 pub image_handed : {O : Type 0} (job : JobView) (image more : List ℕ) (reply : Reply) (status : ℕ) (text_old text_new : Option (List ℕ)) (old new : O)
     → IsReplyTo job image (Some more) reply → (new ≡ old) ⊎ (IsMade reply × HandsOut reply status text_old text_new)
-    → (new ≡ old) ⊎ (MakesImage job × HandsImage status text_old text_new)
+    → (new ≡ old) ⊎ (MakesImage job × HandsOutFor job status text_old text_new)
 image_handed job image more reply status text_old text_new old new is handed =
-    ⊎_elim inl (λ made. inr (makes_image job image more reply is made.0, (reply, made.0, made.1))) handed
+    ⊎_elim inl (λ made. inr (makes_image job image more reply is made.0, hands_for job image more reply status text_old text_new is made.0 made.1)) handed
 
 -- ---- words
 

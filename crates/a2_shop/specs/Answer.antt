@@ -1,5 +1,5 @@
 -- What the program answers to a job on an image, and to words.
-use Rattle.std.specs.Prelude.{◌≡◌, ◌⊎◌, ℕ, List, Option, Some, None, IfSome, string_bytes}
+use Rattle.std.specs.Prelude.{◌≡◌, ◌⊎◌, ℕ, List, Option, Some, None, IfSome, codes, string_bytes}
 use Rattle.std.specs.Io.KnownBytes.{Appends}
 use Rattle.a2_image.specs.declared.order.Order.{Order}
 use Rattle.a2_image.specs.declared.order.Order.TheVariants as orders
@@ -104,6 +104,11 @@ MakesImage (optimize words reserve reclaim) = Unit {0}
 MakesImage (verify path volume from reserve reclaim) = ⊥
 MakesImage (convert words) = Unit {0}
 
+-- the image of a job is handed out, once its text is told: `OK` for a conversion, else that of the optimizer's reply
+abbrev pub HandsOutFor : JobView → ℕ → Option (List ℕ) → Option (List ℕ) → Type 0
+HandsOutFor (convert words) status old new = Appends old new (codes "OK\n") × ((status ≡ 0) ⊎ (status ≡ 4))
+HandsOutFor job status old new = HandsImage status old new
+
 -- a job was answered: by the status of its reply, with its text and its image behind what the writers had; or something failed
 abbrev pub IsAnswer : JobView → List ℕ → Option (List ℕ) → ℕ → Held → Held → Type 0
 IsAnswer job image extra status old new = (status ≡ 4) ⊎ ((reply : Reply) × IsReplyTo job image extra reply × IsDelivered reply status old new)
@@ -131,4 +136,4 @@ CommandReads list = (job : JobView) × (asked_job list ≡ Some job) × ReadsExt
 -- an image was handed out for the job that the words ask for
 abbrev pub CommandHandsOut : List Text → ℕ → Option (List ℕ) → Option (List ℕ) → Type 0
 CommandHandsOut list status old new =
-    (job : JobView) × (asked_job list ≡ Some job) × MakesImage job × HandsImage status old new
+    (job : JobView) × (asked_job list ≡ Some job) × MakesImage job × HandsOutFor job status old new

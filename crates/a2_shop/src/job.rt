@@ -1,9 +1,9 @@
 // Jobs, from an image's reader to the text and the output file.
 ghost use Rattle.std.specs.Prelude.{◌≡◌, ◌⊎◌, ◌+◌, Some, take, IfOk, IfSome};
 ghost use Rattle.shop_words.specs.Job.{job_view};
-ghost use Rattle.image_jobs.specs.Reply.{HandsImage, held};
+ghost use Rattle.image_jobs.specs.Reply.{held};
 ghost use Rattle.volume_jobs.specs.VerifyReply.{most_certificate};
-ghost use Rattle.a2_shop.specs.Answer.{AsksForMoves, IsAnswer, IsDosCatalogAnswer, IsReplyTo, IsStatus, MakesImage, ReadsExtra, image_order_of, limit_of as of_limit, order_of as named};
+ghost use Rattle.a2_shop.specs.Answer.{AsksForMoves, HandsOutFor, IsAnswer, IsDosCatalogAnswer, IsReplyTo, IsStatus, MakesImage, ReadsExtra, image_order_of, limit_of as of_limit, order_of as named};
 
 use crate::input::{read_extra, read_image};
 use a2_image::Order;
@@ -162,7 +162,7 @@ pub fn run_job<I: Read, E: Read, T: Write, O: Write>(
     ensures dos_catalog { IfSome (I.remaining image.old) (λ bytes.
         IsDosCatalogAnswer (job_view job.now) bytes result (held (T.contents text.old) (O.contents out.old)) (held (T.contents text.new) (O.contents out.new))) }
     ensures extra { (extra.new ≡ extra.old) ⊎ ReadsExtra (job_view job.now) }
-    ensures out { (out.new ≡ out.old) ⊎ (MakesImage (job_view job.now) × HandsImage result (T.contents text.old) (T.contents text.new)) }
+    ensures out { (out.new ≡ out.old) ⊎ (MakesImage (job_view job.now) × HandsOutFor (job_view job.now) result (T.contents text.old) (T.contents text.new)) }
 {
     let bytes = match read_image(alloc, image, image_order(job)) {
         Ok(bytes) => bytes,
