@@ -2,19 +2,23 @@
 # make demo       builds it; lists, checks, plans and optimizes a DOS sample, and lists it again, also from disk bytes;
 #                 checks, plans and optimizes a ProDOS sample, lists it before and after, and verifies the plan
 # make test       runs the gate (every proof from nothing, the must-fail edits, all tests) and the end-to-end tests
-# make install    copies the program to $(PREFIX)/bin
+# make assure     tries the further edits, crates/*/assure, that the prover must refuse; each run of the gate tries a share
+# make install    copies the program that was built to $(PREFIX)/bin, and proves nothing
 # make bench      measures the program beside plain programs of the same work; no part of the tests
 
 PREFIX ?= /usr/local
+JOBS ?= $(shell nproc)
 CRATE = crates/a2_shop
 
-.PHONY: all demo test install bench clean FORCE
+.PHONY: all demo test assure install bench clean FORCE
 
 all: a2shop
 
-# Proves what has changed, compiles, and runs the program once on a sample.
+# Proves what has changed, on all processors, compiles, and runs the program once on a sample.
 a2shop: FORCE
-	cd $(CRATE) && rt run < ../../samples/hello.dsk > /dev/null
+	@echo "proving what has changed, with $(JOBS) jobs; build.log has what the prover says"
+	@rt all check --jobs $(JOBS) > build.log 2>&1 || { tail -n 40 build.log; exit 1; }
+	@cd $(CRATE) && rt run < ../../samples/hello.dsk > /dev/null
 	cp $(CRATE)/out/a2_shop $@
 
 demo: a2shop
@@ -40,11 +44,15 @@ demo: a2shop
 test:
 	bash tests/run
 
-install: a2shop
+assure:
+	bash tests/gate assure
+
+install:
+	@test -x a2shop || { echo "there is no ./a2shop to install: run make first"; exit 1; }
 	install -D -m 755 a2shop $(DESTDIR)$(PREFIX)/bin/a2shop
 
 bench: a2shop
 	bash bench/run
 
 clean:
-	rm -rf a2shop crates/*/out bench/out
+	rm -rf a2shop build.log crates/*/out bench/out

@@ -1,5 +1,5 @@
-//! Units of a disk by place: the trait `Device`, the device over an image in memory, one that fails to order, one that
-//! stops after so many writes, and what walks over a device tell.
+//! Units of a disk by place: the trait `Device`, the device over an image in memory, one that fails to order, and one that
+//! stops after so many writes.
 //!
 //! A unit is a sector of 256 bytes (DOS) or a block of 512 (ProDOS); a place is its number, for a sector 16 times the track
 //! plus the logical sector. The model of a device is one record, `DeviceState` (`specs/Device.antt`): its size, the counts
@@ -11,18 +11,12 @@
 mod counts;
 mod device;
 mod failing;
-mod fault;
 mod image;
-mod part;
 mod stopping;
-#[cfg(test)]
-mod tests;
 mod units;
 
 pub use device::{Device, DeviceError};
 pub use failing::FaultDevice;
-pub use fault::{Fault, WalkError};
 pub use image::ImageDevice;
-pub use part::{Part, PartKind};
 pub use stopping::StopDevice;
 pub use units::UnitKind;

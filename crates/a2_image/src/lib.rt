@@ -17,8 +17,6 @@ mod nibble;
 mod order;
 mod part;
 mod plain;
-#[cfg(test)]
-mod tests;
 
 pub use error::ImageError;
 pub use image::{Image, SECTOR_BYTES};

@@ -25,8 +25,6 @@ mod ring;
 mod search;
 mod sector;
 mod table;
-#[cfg(test)]
-mod tests;
 
 pub use address::address_field_decodes;
 pub use codec::encode_sector;

@@ -1,4 +1,4 @@
-// The file that a job writes.
+// A path that is written straight, as a pipe.
 use std::fs::File;
 use std::io::{self, Write};
 

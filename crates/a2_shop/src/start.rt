@@ -1,16 +1,17 @@
 // The program's files and streams.
 ghost use Rattle.std.specs.Prelude.{◌≡◌, option_map};
 ghost use Rattle.shop_words.specs.Job.{job_view};
-ghost use Rattle.a2_shop.specs.Answer.{from_of, image_of, out_of};
+ghost use Rattle.shop_commands.specs.Answer.{from_of, image_of, out_of};
 
-use crate::command::tell_words_fault;
-use crate::job::run_job;
 use crate::out_file::OutFile;
-use image_jobs::{Failure, Reply, written};
+use crate::settling::settle;
+use job_reply::{Failure, Reply, written};
+use shop_commands::{run_job, tell_words_fault};
 use shop_words::{Job, parse_words};
 use std::alloc::Global;
 use std::fs::File;
 use std::io::{self, ErrorKind, Read};
+use whole_file::{AsideFile, Target, target_of};
 
 /// The word that stands for standard input.
 const STANDARD_INPUT: &str = "-";
@@ -59,19 +60,24 @@ fn out_path(job: &Job) -> Option<&str>
     }
 }
 
-// Does a job on the image of a reader, tells it on standard output and writes the output file.
+// Does a job on the image of a reader, tells it on standard output and writes the output file, if it has one.
 fn run_on<I: Read, E: Read>(rt: &HostRuntime, job: &Job, image: &mut I, extra: &mut E) -> u8 {
     let text = &mut rt.stdout();
-    match out_path(job) {
-        Some(path) => run_job(
-            rt.alloc(),
-            job,
-            image,
-            extra,
-            text,
-            &mut OutFile::new(rt, path),
-        ),
-        None => run_job(rt.alloc(), job, image, extra, text, &mut io::sink()),
+    let Some(path) = out_path(job) else {
+        return run_job(rt.alloc(), job, image, extra, text, &mut io::sink());
+    };
+    match target_of(rt, rt.alloc(), path) {
+        Ok(Target::Straight) => {
+            let out = &mut OutFile::new(rt, path);
+            run_job(rt.alloc(), job, image, extra, text, out)
+        }
+        Ok(target) => {
+            let mut out = AsideFile::new(rt, rt.alloc(), &target);
+            let mut told = Vec::new(rt.alloc());
+            let status = run_job(rt.alloc(), job, image, extra, &mut told, &mut out);
+            settle(out, status, told.as_slice(), text)
+        }
+        Err(_) => Reply::Failed(Failure::Memory).tell(text),
     }
 }
 

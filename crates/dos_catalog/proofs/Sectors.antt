@@ -14,7 +14,7 @@ use Rattle.a2_device.specs.Device.{unit_at}
 use Rattle.dos_catalog.specs.declared.entry.Entry.{Entry}
 use Rattle.dos_catalog.specs.Entry.{entry_at, is_in_use, entries_of, entries_in, free_slots_of, free_slots_in}
 use Rattle.dos_catalog.specs.Catalog.{IsLink, HasNoLink, Leads, HasBadLink, linked}
-use Rattle.dos_catalog.specs.Chain.{leads_on}
+use Rattle.dos_catalog.specs.lemmas.Chain.{leads_on}
 use Rattle.dos_catalog.specs.Walk.{IsTable, IsWalking, is_met, first_free_of}
 
 module _ (p : Entry → Bool) (f : ℕ → Entry) (old before : List Entry) (n : ℕ) (is : before ≡ old ++ filter p (map f (range_with_len 0 n))) where

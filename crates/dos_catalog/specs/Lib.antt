@@ -3,5 +3,5 @@ pub mod Writes
 pub mod Catalog
 pub mod Listed
 pub mod Found
-pub mod Chain
 pub mod Walk
+pub mod lemmas

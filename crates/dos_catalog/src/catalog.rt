@@ -3,17 +3,18 @@ ghost use Rattle.std.specs.Prelude.{◌≡◌, ◌≢◌, ◌⊎◌, ◌<◌, �
 ghost use Rattle.std.specs.Option.{option_or};
 ghost use Rattle.a2_device.specs.Device.{OnlyReads, unit_at};
 ghost use Rattle.a2_device.specs.Reading.{met_device};
-ghost use Rattle.a2_device.specs.declared.fault.Fault.{Fault};
-ghost use Rattle.a2_device.specs.declared.fault.WalkError.TheVariants.{Fault as AFault};
+ghost use Rattle.vol_parts.specs.declared.fault.Fault.{Fault};
+ghost use Rattle.vol_parts.specs.declared.fault.WalkError.TheVariants.{Fault as AFault};
 ghost use Rattle.dos_catalog.specs.Entry.{entries_of, entries_in, free_slots_in};
 ghost use Rattle.dos_catalog.specs.Catalog.{IsLink, IsCatalog, CatalogFaultAt, linked};
 ghost use Rattle.dos_catalog.specs.Walk.{is_met, first_free_of};
 
 use crate::Entry;
 use crate::entry::ENTRIES;
-use a2_device::{Device, Fault, WalkError};
+use a2_device::Device;
 use dos_vtoc::{VTOC_PLACE, Vtoc};
 use std::alloc::{AllocError, Allocator, Global};
+use vol_parts::{Fault, WalkError};
 
 /// The track of the VTOC and of the catalog.
 const CATALOG_TRACK: u8 = 17;

@@ -9,8 +9,6 @@
 mod catalog;
 mod entry;
 mod slot;
-#[cfg(test)]
-mod tests;
 
 pub use catalog::Catalog;
 pub use entry::Entry;

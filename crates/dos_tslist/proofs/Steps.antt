@@ -7,23 +7,17 @@ use Rattle.std.proofs.lemmas.List.Elements.{Contains-append_left, Contains-appen
 use Rattle.std.proofs.lemmas.List.Quantifiers.{all_pairs_push}
 use Rattle.std.proofs.lemmas.List.{get_or-set_same, get_or-set_other, get_or_default}
 use Rattle.a2_device.specs.Device.{unit_at}
-use Rattle.a2_device.specs.declared.part.Part.{Part}
-use Rattle.a2_device.specs.declared.part.PartKind.{PartKind}
-use Rattle.a2_device.specs.declared.part.PartKind.TheVariants.{List as AList, Body, Master, Index}
-use Rattle.a2_device.specs.declared.fault.Fault.{Fault}
-use Rattle.a2_device.specs.declared.fault.Fault.TheVariants.{Geometry, CatalogLink, DirLink, MapPointer, StorageType, OutOfRange, InSystem, Shared, MarkedFree}
+use Rattle.vol_parts.specs.declared.part.Part.{Part}
+use Rattle.vol_parts.specs.declared.part.PartKind.{PartKind}
+use Rattle.vol_parts.specs.declared.part.PartKind.TheVariants.{List as AList, Body, Master, Index}
+use Rattle.vol_parts.specs.declared.fault.Fault.{Fault}
+use Rattle.vol_parts.specs.declared.fault.Fault.TheVariants.{Geometry, CatalogLink, DirLink, MapPointer, StorageType, OutOfRange, InSystem, Shared, MarkedFree}
 use Rattle.dos_vtoc.specs.Vtoc.{link_of}
 use Rattle.dos_tslist.specs.Pointers.{pair_of}
 use Rattle.dos_tslist.specs.Reach.{InFile, PlacedAt, ListAt, BodyAt, IsPartsOf, HasNoWild, FileFaultAt, rank, rank_of, is_wild, place_named}
-use Rattle.dos_tslist.specs.Walk.{IsWalked, IsTable, IsRefusedAt, IsPairing, IsAtList, pointed, part_of}
-
-only_one : (y z : Part) → Contains (y ∷ []) z → z ≡ y
-only_one y z has =
-    let first : has.0 ≡ 0 = omega (arith, has.1) in
-    sym (subst (λ k. get_or (y ∷ []) k z ≡ z) first has.2)
-
-first_one : (y : Part) → Contains (y ∷ []) y
-first_one y = (0, omega arith, refl)
+use Rattle.dos_tslist.specs.Walk.{IsWalked, IsRefusedAt, IsPairing, IsAtList, pointed, part_of}
+use Rattle.vol_parts.proofs.Tables.{only_one, first_one, tabled, empty_table}
+use Rattle.vol_parts.specs.Table.{IsTable}
 
 -- two lists of one number stand at one place
 pub one_list : (store : List (List ℕ)) (first : Option (ℕ × ℕ)) (number list other : ℕ) → ListAt store first number list → ListAt store first number other → list ≡ other
@@ -38,38 +32,6 @@ part_is : (part : Part) (file : ℕ) (kind : PartKind) (number place : ℕ) → 
 part_is part file kind number place f k n p =
     ap (λ x. part_of x part.kind part.number part.place) f ∙ ap (λ x. part_of file x part.number part.place) k
     ∙ ap (λ x. part_of file kind x part.place) n ∙ ap (λ x. part_of file kind number x) p
-
--- the table with one part more
-pub tabled : (met : List Bool) (parts : List Part) (part : Part) → part.place < length met → slice_index_or met part.place false ≡ false → IsTable met parts
-    → IsTable (set met part.place true) (parts ++ part ∷ [])
-tabled met parts part within unmet table = record {
-  all = λ other has. ⊎_elim (λ old. still other.place (table.all other old)) (λ new. here other.place (ap (λ (p : Part). p.place) (only_one part other new))) (Contains-append_cases parts (part ∷ []) other has);
-  has = λ place is. by_test place (place == part.place) refl is;
-  once = all_pairs_push (λ one later. one.place ≢ later.place) parts part table.once (λ k d h same. not_yet _ (k, h, get_or_default parts k _ d h) same);
-}
-  where
-    not_yet : (other : Part) → Contains parts other → other.place ≡ part.place → ⊥
-    not_yet other has same = let is = table.all other has in let at = ap (λ p. slice_index_or met p false) same in cc
-
-    here : (place : ℕ) → place ≡ part.place → slice_index_or (set met part.place true) place false ≡ true
-    here place same = subst (λ p. slice_index_or (set met part.place true) p false ≡ true) (sym same) (get_or-set_same met part.place true false within)
-
-    still : (place : ℕ) → slice_index_or met place false ≡ true → slice_index_or (set met part.place true) place false ≡ true
-    still place is = by_place (place == part.place) refl
-      where
-        by_place : (same : Bool) → (place == part.place) ≡ same → slice_index_or (set met part.place true) place false ≡ true
-        by_place true at = here place (grind (arith, nat_tests))
-        by_place false at = let differ : place ≢ part.place = grind (arith, nat_tests) in get_or-set_other met part.place place true false differ ∙ is
-
-    by_test : (place : ℕ) (same : Bool) → (place == part.place) ≡ same → slice_index_or (set met part.place true) place false ≡ true
-        → (other : Part) × Contains (parts ++ part ∷ []) other × (other.place ≡ place)
-    by_test place true at is =
-        let same : part.place ≡ place = grind (arith, nat_tests) in
-        (part, Contains-append_right parts (part ∷ []) part (first_one part), same)
-    by_test place false at is =
-        let differ : place ≢ part.place = grind (arith, nat_tests) in
-        let old = table.has place (sym (get_or-set_other met part.place place true false differ) ∙ is) in
-        (old.0, Contains-append_left parts (part ∷ []) old.0 old.1, old.2)
 
 -- one pointer further: it is the one that parts of a rank are named by
 module _ (store : List (List ℕ)) (file : ℕ) (first : Option (ℕ × ℕ)) (below : ℕ) (parts : List Part) (walked : IsWalked store file first below parts)
@@ -324,19 +286,6 @@ module _ (file number holder : ℕ) (unit : List ℕ) (old_met met : List Bool) 
       let named : pointer ≡ pair_of (unit_at store holder) pair = is ∙ sym (ap (λ u. pair_of u pair) at) in
       refused_pair store file first entry number holder here met parts (so_far.table table) pair low (so_far.walked store first at here before) fault
       (subst (λ p. IsRefusedAt met holder p fault) named why)
-
--- the start of a walk
-not_met : (n k : ℕ) → slice_index_or (replicate n false) k false ≡ false
-not_met zero k = refl
-not_met (suc n) zero = refl
-not_met (suc n) (suc k) = not_met n k
-
-pub empty_table : (n : ℕ) → IsTable (replicate n false) []
-empty_table n = record {
-  all = λ part has. absurd (omega (arith, has.1));
-  has = λ place is. let none = not_met n place in absurd cc;
-  once = λ i j d a b. absurd (omega (arith, b));
-}
 
 pub length-pointed : (file : ℕ) (kind : PartKind) (number : ℕ) (place : Option ℕ) → length (pointed file kind number place) ≡ length (option_to_list place)
 length-pointed file kind number None = refl

@@ -1,10 +1,11 @@
 -- What is known at each moment of a walk over a file.
 use Rattle.std.specs.Prelude.{◌≡◌, ◌≢◌, ◌⊎◌, ◌↔◌, ◌<◌, ℕ, suc, ◌+◌, ◌*◌, Bool, true, false, List, [], ◌∷◌, Option, Some, None, not, count_by, ◌≤◌, slice_index_or, AllPairs, Contains}
 use Rattle.a2_device.specs.Device.{unit_at}
-use Rattle.a2_device.specs.declared.part.Part.{Part}
-use Rattle.a2_device.specs.declared.part.PartKind.{PartKind}
-use Rattle.a2_device.specs.declared.fault.Fault.{Fault}
-use Rattle.a2_device.specs.declared.fault.Fault.TheVariants.{OutOfRange, Shared}
+use Rattle.vol_parts.specs.Table.{IsTable}
+use Rattle.vol_parts.specs.declared.part.Part.{Part}
+use Rattle.vol_parts.specs.declared.part.PartKind.{PartKind}
+use Rattle.vol_parts.specs.declared.fault.Fault.{Fault}
+use Rattle.vol_parts.specs.declared.fault.Fault.TheVariants.{OutOfRange, Shared}
 use Rattle.dos_vtoc.specs.Vtoc.{link_of}
 use Rattle.dos_tslist.specs.Pointers.{pair_of}
 use Rattle.dos_tslist.specs.Reach.{InFile, ListAt, rank, is_wild, place_named}
@@ -16,12 +17,6 @@ part_of file kind number place = record { file = file; kind = kind; number = num
 abbrev pub pointed : ℕ → PartKind → ℕ → Option ℕ → List Part
 pointed file kind number None = []
 pointed file kind number (Some place) = part_of file kind number place ∷ []
-
--- the table has the places of the parts so far, each of one part
-pub record IsTable (met : List Bool) (parts : List Part) : Type 0 where
-  pub all : (part : Part) → Contains parts part → slice_index_or met part.place false ≡ true
-  pub has : (place : ℕ) → slice_index_or met place false ≡ true → (part : Part) × Contains parts part × (part.place ≡ place)
-  pub once : AllPairs (λ part later. part.place ≢ later.place) parts
 
 -- the parts so far are those of the file whose rank is below a number, in order, and no pointer followed was wild
 pub record IsWalked (store : List (List ℕ)) (file : ℕ) (first : Option (ℕ × ℕ)) (below : ℕ) (parts : List Part) : Type 0 where

@@ -2,21 +2,23 @@
 ghost use Rattle.std.specs.Prelude.{◌≡◌, ◌≢◌, ◌⊎◌, ◌<◌, ◌≤◌, ◌+◌, ◌*◌, ◌++◌, [], ◌∷◌, ℕ, suc, List, Option, Some, true, false, not, length, count_by, OnOk, IfOk, IfErr, IfSome, IsTrue, All, AllPairs, Contains, slice_index_or, slice_index, slice_set, vec_items};
 ghost use Rattle.a2_device.specs.Device.{OnlyReads, unit_at};
 ghost use Rattle.a2_device.specs.Reading.{met_device};
-ghost use Rattle.a2_device.specs.declared.part.Part.{Part};
-ghost use Rattle.a2_device.specs.declared.part.PartKind.TheVariants.{List as AList, Body};
-ghost use Rattle.a2_device.specs.declared.fault.Fault.{Fault};
-ghost use Rattle.a2_device.specs.declared.fault.Fault.TheVariants.{OutOfRange, Shared};
-ghost use Rattle.a2_device.specs.declared.fault.WalkError.TheVariants.{Fault as AFault, Device as ADevice};
+ghost use Rattle.vol_parts.specs.declared.part.Part.{Part};
+ghost use Rattle.vol_parts.specs.declared.part.PartKind.TheVariants.{List as AList, Body};
+ghost use Rattle.vol_parts.specs.declared.fault.Fault.{Fault};
+ghost use Rattle.vol_parts.specs.declared.fault.Fault.TheVariants.{OutOfRange, Shared};
+ghost use Rattle.vol_parts.specs.declared.fault.WalkError.TheVariants.{Fault as AFault, Device as ADevice};
 ghost use Rattle.dos_vtoc.specs.Vtoc.{link_of};
 ghost use Rattle.dos_tslist.specs.Pointers.{pair_of};
 ghost use Rattle.dos_tslist.specs.Reach.{IsPartsOf, HasNoWild, FileFaultAt, ListAt, entry_pointer, is_wild, place_named};
-ghost use Rattle.dos_tslist.specs.Walk.{pointed, part_of, IsTable, IsWalked, IsRefusedAt, IsPairing};
+ghost use Rattle.dos_tslist.specs.Walk.{pointed, part_of, IsWalked, IsRefusedAt, IsPairing};
+ghost use Rattle.vol_parts.specs.Table.{IsTable};
 
 use crate::pointers::pointer_at;
 use crate::{PAIRS, next, pair};
-use a2_device::{Device, Fault, Part, PartKind, WalkError};
+use a2_device::Device;
 use dos_catalog::Entry;
 use std::alloc::{AllocError, Allocator, Global};
+use vol_parts::{Fault, Part, PartKind, WalkError};
 
 const PLACES: usize = 560;
 

@@ -11,8 +11,6 @@
 
 mod file_walk;
 mod pointers;
-#[cfg(test)]
-mod tests;
 
 pub use file_walk::walk;
 pub use pointers::{PAIRS, next, pair, set_next, set_pair};

@@ -7,8 +7,6 @@
 
 mod count;
 mod marks;
-#[cfg(test)]
-mod tests;
 mod vtoc;
 
 pub use marks::{set_free, set_used};

@@ -4,8 +4,8 @@ ghost use Rattle.dos_vtoc.specs.Vtoc.{HasGeometry, IsFreeFrom, IsNextFree, link_
 
 use crate::count::free_in_map;
 use crate::marks::{FREE_BITS, set_free, set_used};
-use a2_device::Fault;
 use std::marker::Model;
+use vol_parts::Fault;
 
 /// The place of the VTOC: track 17, sector 0.
 pub const VTOC_PLACE: u32 = 272;

@@ -5,12 +5,12 @@ use Rattle.std.proofs.Math.Seq.{set-append_seam}
 use Rattle.std.proofs.lemmas.List.{get_or-drop, map_more, length-map, length-take-le, append_assoc}
 use Rattle.dos_catalog.specs.declared.entry.Entry.{Entry}
 use Rattle.vol_format.specs.Directory.{Listed, entries, entry_of}
-use Rattle.vol_layout.specs.Dos.{dos_directory, dos_entry}
-use Rattle.vol_layout.specs.DosDirectory.{entry_of-dos, length-numbered}
+use Rattle.dos_format.specs.Dos.{dos_directory, dos_entry}
+use Rattle.dos_format.specs.lemmas.DosDirectory.{entry_of-dos, length-numbered}
 use Rattle.file_cmds.specs.declared.listing.ListEntry.{ListEntry}
 use Rattle.file_cmds.specs.Catalog.{list_entry}
 use Rattle.file_cmds.specs.DosFiles.{dos_shown, dos_matches, dos_body}
-use Rattle.file_cmds.specs.DosListing.{list_entry-dos}
+use Rattle.file_cmds.specs.lemmas.DosListing.{list_entry-dos}
 
 -- the name, one byte more of it
 pub name_more : (path : List ℕ) (i : ℕ) → i < length path → length path ≤ 30

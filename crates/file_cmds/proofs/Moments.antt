@@ -4,7 +4,7 @@ use Rattle.std.specs.Prelude.{◌↔◌, Option, Some, None, IsSome, if◌then�
 use Rattle.std.proofs.lemmas.Bool.{false≢true}
 use Rattle.pro_dir.specs.Dates.{IsMoment}
 use Rattle.file_cmds.specs.ProMoment.{is_moment, minute_of, named_minute}
-use Rattle.file_cmds.specs.ProMomentLaw.{moment_named}
+use Rattle.file_cmds.specs.lemmas.ProMomentLaw.{moment_named}
 
 pub no_minute : {X : Type 0} (bytes : List ℕ) (result : Option X) → (IsSome result ↔ IsMoment bytes) → result ≡ None → None ≡ minute_of bytes
 no_minute bytes result known none = by_test (is_moment bytes) refl

@@ -7,8 +7,8 @@ use Rattle.pro_dir.specs.Entry.{long}
 use Rattle.pro_dir.specs.Paths.{path_of}
 use Rattle.pro_dir.specs.Volume.{Directory as Tree, total_blocks}
 use Rattle.vol_format.specs.Directory.{Listed, entries, entry_of}
-use Rattle.pro_layout.specs.Pro.{no_slot, entry_number, directory_with}
-use Rattle.pro_layout.specs.ProDirectory.{length-listed, listed_at}
+use Rattle.pro_format.specs.Pro.{no_slot, entry_number, directory_with}
+use Rattle.pro_format.specs.lemmas.ProDirectory.{length-listed, listed_at}
 use Rattle.file_cmds.specs.declared.listing.ListEntry.{ListEntry}
 use Rattle.file_cmds.specs.ProFiles.{pro_shown, pro_matches, pro_body}
 use Rattle.file_cmds.specs.ProListing.{pro_list_entry, list_entry-pro, long_behind}

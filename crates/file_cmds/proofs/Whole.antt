@@ -3,7 +3,7 @@ use Rattle.std.specs.Prelude.{◌≡◌, ◌<◌, ℕ, List, length, Contains}
 use Rattle.std.specs.List.{All}
 use Rattle.std.proofs.Common.{◌∙◌, ap, subst, arith, get_or}
 use Rattle.a2_device.specs.Device.{DeviceState}
-use Rattle.a2_device.specs.declared.part.Part.{Part}
+use Rattle.vol_parts.specs.declared.part.Part.{Part}
 use Rattle.vol_format.specs.Directory.{Directory, entries}
 use Rattle.vol_format.specs.Meaning.{Meaning}
 use Rattle.vol_format.specs.Reach.{IsPartsOf}

@@ -8,7 +8,7 @@ use Rattle.pro_bitmap.specs.Bitmap.{FreeMap, is_free, free_count_of}
 use Rattle.pro_dir.specs.declared.entry.Entry.{Entry}
 use Rattle.pro_dir.specs.Entry.{word, long, is_directory}
 use Rattle.pro_dir.specs.Volume.{Directory as Tree, total_blocks}
-use Rattle.pro_layout.specs.Pro.{pro_entry, pro_free, without_key, directory_with}
+use Rattle.pro_format.specs.Pro.{pro_entry, pro_free, without_key, directory_with}
 use Rattle.file_cmds.specs.declared.listing.ListEntry.{ListEntry}
 use Rattle.file_cmds.specs.Listing.{free_count}
 use Rattle.file_cmds.specs.ProFiles.{is_locked, pro_shown}

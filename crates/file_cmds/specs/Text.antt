@@ -1,8 +1,8 @@
 -- The text of a file.
 use Rattle.std.specs.Prelude.{◌≡◌, ◌≢◌, ◌↔◌, ◌<◌, ◌+◌, ◌-◌, ◌*◌, ℕ, Bool, true, false, List, [], ◌∷◌, ◌++◌, replicate, AllPairs, Contains}
 use Rattle.a2_device.specs.Device.{unit_at}
-use Rattle.a2_device.specs.declared.part.Part.{Part}
-use Rattle.a2_device.specs.declared.part.PartKind.TheVariants.{Body}
+use Rattle.vol_parts.specs.declared.part.Part.{Part}
+use Rattle.vol_parts.specs.declared.part.PartKind.TheVariants.{Body}
 use Rattle.vol_format.specs.declared.link.Link.TheVariants.{Wild, OtherType}
 use Rattle.vol_format.specs.Directory.{Directory, root_of}
 use Rattle.vol_format.specs.Meaning.{Meaning, link_from}

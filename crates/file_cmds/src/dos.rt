@@ -5,9 +5,9 @@ ghost use Rattle.file_cmds.specs.DosFiles.{dos_matches, dos_name, number_at, dos
 
 use crate::{FileFormat, ListEntry, StoredName};
 use dos_catalog::Entry;
+use dos_format::{Dos33, DosVolume};
 use pro_dir::ProDate;
 use std::alloc::{AllocError, Allocator};
-use vol_layout::{Dos33, DosVolume};
 
 /// The bytes of a name.
 const NAME_BYTES: usize = 30;

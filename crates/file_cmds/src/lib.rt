@@ -32,10 +32,3 @@ pub use listing::{ListEntry, Listing};
 pub use name::StoredName;
 pub use pro_text::pro_listing_text;
 pub use reading::read;
-
-#[cfg(test)]
-mod pro_tests;
-#[cfg(test)]
-mod read_tests;
-#[cfg(test)]
-mod tests;

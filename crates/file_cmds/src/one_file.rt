@@ -3,8 +3,9 @@ ghost use Rattle.std.specs.Prelude.{◌≡◌, ◌<◌, ◌≤◌, IfOk};
 ghost use Rattle.vol_format.specs.Directory.{entries};
 ghost use Rattle.file_cmds.specs.OneFile.{file_alone, of_one_file};
 
-use a2_device::{Device, Part, WalkError};
+use a2_device::Device;
 use vol_format::{Format, Holder, Link};
+use vol_parts::{Part, WalkError};
 
 /// A format whose volumes have one file: that of an entry of a volume that was read. Each place is available, and none is marked free.
 #[derive(Drop)]
@@ -18,7 +19,7 @@ pub struct OneFile<'a, F: Format> {
 }
 
 impl<F: Format> Format for OneFile<'_, F> {
-    ghost use Rattle.file_cmds.specs.FileAlone.{alone_is_readable, alone_is_directory};
+    ghost use Rattle.file_cmds.specs.lemmas.FileAlone.{alone_is_readable, alone_is_directory};
 
     type Volume = ();
 

@@ -5,7 +5,7 @@ ghost use Rattle.file_cmds.specs.ProListing.{pro_list_entry};
 
 use crate::{FileFormat, ListEntry, StoredName};
 use pro_dir::Entry;
-use pro_layout::{ProVolume, Prodos};
+use pro_format::{ProVolume, Prodos};
 use std::alloc::{AllocError, Allocator};
 
 // What is shown of an entry that has this path.

@@ -1,29 +1,14 @@
 // The text of a file's parts.
 ghost use Rattle.std.specs.Prelude.{◌≡◌, ◌<◌, ◌-◌, ◌*◌, ◌++◌, length, replicate, All, IfOk, OnOk, IsTrue};
 ghost use Rattle.a2_device.specs.Device.{OnlyReads, unit_at};
-ghost use Rattle.a2_device.specs.declared.part.Part.{Part};
-ghost use Rattle.file_cmds.specs.Stop.{is_device_stop};
+ghost use Rattle.vol_parts.specs.declared.part.Part.{Part};
+ghost use Rattle.vol_parts.specs.Stop.{is_device_stop};
 ghost use Rattle.file_cmds.specs.Text.{whole_text};
 ghost use Rattle.file_cmds.specs.Walked.{stored_of, number_after, text_with};
-ghost use Rattle.file_cmds.specs.declared.text.Stop.TheVariants.{Memory};
 
-use a2_device::{Device, Part, PartKind};
+use a2_device::Device;
 use std::alloc::{AllocError, Allocator};
-
-/// Why a text is not read to its end.
-#[derive(Clone, Copy, Debug, PartialEq, Eq)]
-pub enum Stop {
-    Device,
-    Memory,
-}
-
-impl From<AllocError> for Stop {
-    ghost from_gives = { λ _ e. e ≡ Memory };
-
-    fn from(_: AllocError) -> Self {
-        Stop::Memory
-    }
-}
+use vol_parts::{Part, PartKind, Stop};
 
 // Puts so many units of zeros behind a text.
 fn add_zeros<A: Allocator>(

@@ -6,12 +6,12 @@ use Rattle.std.proofs.lemmas.List.FromFn.{length-range_with_len, get_or-range_wi
 use Rattle.std.proofs.lemmas.List.Elements.{All-head, All-push, Contains-get_or}
 use Rattle.std.proofs.lemmas.List.Quantifiers.{all_pairs_push}
 use Rattle.std.proofs.lemmas.Bool.{cases_eq, cases_lt, eq-eqb, ne_eqb}
-use Rattle.part_layout.specs.declared.moves.Move.{Move}
-use Rattle.part_layout.specs.Layouts.{Placement, IsTarget, IsMisplaced, misplaced, holes}
-use Rattle.part_layout.specs.Plans.{IsPlan, after, starts, starts_after}
-use Rattle.part_layout.specs.Rings.{IsRing, AreAllRings, IsDeficit}
-use Rattle.part_layout.proofs.LowerBound.{misplaced_each}
-use Rattle.part_layout.proofs.RingLemmas.{ring_misplaced, target_no_ring}
+use Rattle.vol_layout.specs.declared.moves.Move.{Move}
+use Rattle.vol_layout.specs.Layouts.{Placement, IsTarget, IsMisplaced, misplaced, holes}
+use Rattle.vol_layout.specs.Plans.{IsPlan, after, starts, starts_after}
+use Rattle.vol_layout.specs.Rings.{IsRing, AreAllRings, IsDeficit}
+use Rattle.vol_layout.proofs.LowerBound.{misplaced_each}
+use Rattle.vol_layout.proofs.RingLemmas.{ring_misplaced, target_no_ring}
 use Rattle.move_plan.specs.declared.planner.Planner.{Planner}
 use Rattle.move_plan.specs.Planning.{BeginsWithLeast}
 use Rattle.move_plan.specs.Runs.{IsFresh, IsFilled}

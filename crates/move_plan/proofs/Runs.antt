@@ -4,14 +4,14 @@ use Rattle.std.specs.List.{Contains}
 use Rattle.std.proofs.lemmas.List.{length-set, get_or_default}
 use Rattle.std.proofs.lemmas.List.Elements.{Contains-get_or}
 use Rattle.std.proofs.lemmas.Bool.{cases_eq, eq-eqb, ne_eqb}
-use Rattle.part_layout.specs.declared.moves.Move.{Move}
-use Rattle.part_layout.specs.Layouts.{Placement, IsLayout, misplaced}
-use Rattle.part_layout.specs.Plans.{IsLegal}
+use Rattle.vol_layout.specs.declared.moves.Move.{Move}
+use Rattle.vol_layout.specs.Layouts.{Placement, IsLayout, misplaced}
+use Rattle.vol_layout.specs.Plans.{IsLegal}
 use Rattle.move_plan.specs.declared.planner.Planner.{Planner}
 use Rattle.move_plan.specs.Underway.{HasTrail}
 use Rattle.move_plan.specs.Runs.{IsAt, MakesMove, IsRunning, FillsHole}
 use Rattle.move_plan.proofs.Counts.{misplaced_home}
-use Rattle.part_layout.proofs.PlanLemmas.{Contains-moved}
+use Rattle.vol_layout.proofs.PlanLemmas.{Contains-moved}
 use Rattle.move_plan.proofs.Steps.{IsUnderway-home, HasTrail-push}
 
 -- a move home keeps the planner underway

@@ -1,13 +1,13 @@
 -- What one move keeps.
 use Rattle.std.proofs.Common.{◌≡◌, ◌≢◌, ℕ, ◌+◌, ◌<◌, ◌≤◌, eqb, cond, List, [], ◌∷◌, ◌++◌, length, get_or, set, arith, refl, ap, subst, ◌∙◌, inl, inr}
 use Rattle.std.specs.List.{Contains}
-use Rattle.part_layout.specs.declared.moves.Move.{Move}
-use Rattle.part_layout.specs.Layouts.{Placement, misplaced}
-use Rattle.part_layout.specs.Plans.{IsLegal, after, moved, starts_after}
-use Rattle.part_layout.specs.Rings.{IsRing, SameParts}
-use Rattle.part_layout.proofs.RingLemmas.{ring_kept, ring_occupies, ring_leads, ring_misplaced, ring_of_both, same_ring}
-use Rattle.part_layout.proofs.PlanLemmas.{IsPlan-push, after-push}
-use Rattle.part_layout.proofs.Lists.{has, Contains-has, has-Contains}
+use Rattle.vol_layout.specs.declared.moves.Move.{Move}
+use Rattle.vol_layout.specs.Layouts.{Placement, misplaced}
+use Rattle.vol_layout.specs.Plans.{IsLegal, after, moved, starts_after}
+use Rattle.vol_layout.specs.Rings.{IsRing, SameParts}
+use Rattle.vol_layout.proofs.RingLemmas.{ring_kept, ring_occupies, ring_leads, ring_misplaced, ring_of_both, same_ring}
+use Rattle.vol_layout.proofs.PlanLemmas.{IsPlan-push, after-push}
+use Rattle.vol_layout.proofs.Lists.{has, Contains-has, has-Contains}
 use Rattle.std.proofs.lemmas.List.Elements.{All-push}
 use Rattle.std.proofs.lemmas.List.Quantifiers.{all_pairs_push, Any-push}
 use Rattle.std.proofs.lemmas.Bool.{cases_Bool, both_ways}

@@ -4,12 +4,12 @@ use Rattle.std.specs.List.{All, Contains}
 use Rattle.std.proofs.lemmas.List.{get_or_default, get_or-set_same, get_or-set_other, length-set, length-take, length-drop, get_or-take, get_or-drop}
 use Rattle.std.proofs.lemmas.List.Elements.{Contains-get_or}
 use Rattle.std.proofs.lemmas.Bool.{cases_eq, eq-eqb}
-use Rattle.part_layout.specs.declared.moves.Move.{Move}
-use Rattle.part_layout.specs.Layouts.{Placement, IsLayout}
-use Rattle.part_layout.specs.Plans.{IsLegal}
-use Rattle.part_layout.specs.Rings.{IsRing, turned}
-use Rattle.part_layout.proofs.RingLemmas.{ring_misplaced, ring_turns, turned_at, turned_last}
-use Rattle.part_layout.proofs.PlanLemmas.{Contains-moved}
+use Rattle.vol_layout.specs.declared.moves.Move.{Move}
+use Rattle.vol_layout.specs.Layouts.{Placement, IsLayout}
+use Rattle.vol_layout.specs.Plans.{IsLegal}
+use Rattle.vol_layout.specs.Rings.{IsRing, turned}
+use Rattle.vol_layout.proofs.RingLemmas.{ring_misplaced, ring_turns, turned_at, turned_last}
+use Rattle.vol_layout.proofs.PlanLemmas.{Contains-moved}
 use Rattle.move_plan.specs.declared.planner.Planner.{Planner}
 use Rattle.move_plan.specs.Underway.{IsUnderway, HasTrail}
 use Rattle.move_plan.specs.Runs.{IsAt, MakesMove}

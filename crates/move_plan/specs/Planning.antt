@@ -1,6 +1,6 @@
 -- When there is no plan, and how a plan tells its rings.
 use Rattle.std.specs.Prelude.{◌≡◌, ◌≢◌, ℕ, ◌<◌, ◌≤◌, List, [], length, slice_index, All, AllPairs}
-use Rattle.part_layout.specs.Layouts.{Placement, misplaced}
+use Rattle.vol_layout.specs.Layouts.{Placement, misplaced}
 
 -- some part is misplaced, and there is no place without a part
 abbrev pub LacksFreePlace : Placement → Type 0

@@ -1,8 +1,8 @@
 -- What a turn of a ring leaves.
 use Rattle.std.specs.Prelude.{◌≡◌, ◌≢◌, ℕ, ◌+◌, ◌<◌, ◌≤◌, ◌⊎◌, ◌==◌, if◌then◌else◌, max, List, [], ◌∷◌, ◌++◌, length, slice_index, All, Contains}
-use Rattle.part_layout.specs.Layouts.{Placement, IsLayout, holes, misplaced}
-use Rattle.part_layout.specs.Plans.{starts}
-use Rattle.part_layout.specs.Rings.{turned}
+use Rattle.vol_layout.specs.Layouts.{Placement, IsLayout, holes, misplaced}
+use Rattle.vol_layout.specs.Plans.{starts}
+use Rattle.vol_layout.specs.Rings.{turned}
 use Rattle.move_plan.specs.declared.planner.Planner.{Planner}
 use Rattle.move_plan.specs.Planning.{AreInRisingOrder, BeginsWithLeast}
 use Rattle.move_plan.specs.Underway.{IsUnderway, HasTrail}

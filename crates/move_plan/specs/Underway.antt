@@ -1,9 +1,9 @@
 -- What holds after some of the moves of a plan.
 use Rattle.std.specs.Prelude.{◌≡◌, ℕ, ◌+◌, ◌⊎◌, List, [], ◌∷◌, length, slice_index, All, AllPairs, Any}
-use Rattle.part_layout.specs.declared.moves.Move.{Move}
-use Rattle.part_layout.specs.Layouts.{Placement, misplaced}
-use Rattle.part_layout.specs.Plans.{IsPlan, after, moved, starts_after}
-use Rattle.part_layout.specs.Rings.{IsRing, SameParts}
+use Rattle.vol_layout.specs.declared.moves.Move.{Move}
+use Rattle.vol_layout.specs.Layouts.{Placement, misplaced}
+use Rattle.vol_layout.specs.Plans.{IsPlan, after, moved, starts_after}
+use Rattle.vol_layout.specs.Rings.{IsRing, SameParts}
 
 -- these moves lead from `start` to `now`, and have broken these rings; each other ring still stands
 pub record IsUnderway (start now : Placement) (moves : List Move) (broken : List (List ℕ)) : Type 0 where

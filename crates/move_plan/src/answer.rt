@@ -4,9 +4,9 @@ ghost use Rattle.std.specs.Prelude.{◌≡◌};
 ghost use Rattle.move_plan.specs.declared.answer.PlanError.TheVariants.{Memory};
 
 use crate::ring::Ring;
-use part_layout::Move;
 use std::alloc::{AllocError, Allocator, Global};
 use thiserror::Error;
+use vol_layout::Move;
 
 /// Moves that bring each part to the place of its number, and what had to move.
 #[derive(Drop)]

@@ -18,17 +18,17 @@ mod planner;
 mod ring;
 
 ghost use Rattle.std.specs.Prelude.{◌≡◌, ◌≢◌, ◌≤◌, List, [], length, max, All, OnOk, IfOk, Err};
-ghost use Rattle.part_layout.specs.Layouts.{IsTarget, holes, misplaced};
-ghost use Rattle.part_layout.specs.Plans.{IsPlan, after, starts};
-ghost use Rattle.part_layout.specs.Rings.{AreAllRings, IsDeficit};
-ghost use Rattle.part_layout.specs.declared.moves.Move.{Move};
+ghost use Rattle.vol_layout.specs.Layouts.{IsTarget, holes, misplaced};
+ghost use Rattle.vol_layout.specs.Plans.{IsPlan, after, starts};
+ghost use Rattle.vol_layout.specs.Rings.{AreAllRings, IsDeficit};
+ghost use Rattle.vol_layout.specs.declared.moves.Move.{Move};
 ghost use Rattle.move_plan.specs.Planning.{AreInRisingOrder, BeginsWithLeast, LacksFreePlace};
 
 pub use answer::{Plan, PlanError};
-use part_layout::Layout;
 use planner::Planner;
 pub use ring::Ring;
 use std::alloc::{AllocError, Allocator};
+use vol_layout::Layout;
 
 /// The plan for a layout: the fewest moves that bring each part to the place of its number. Each goes
 /// into the place that the move before it left, but for as many as there are holes, or one where
@@ -87,8 +87,3 @@ fn misplaced_parts<A: Allocator>(alloc: A, at: &[u32]) -> Result<Vec<u32, A>, Al
     }
     Ok(parts)
 }
-
-#[cfg(test)]
-mod search;
-#[cfg(test)]
-mod tests;

@@ -1,13 +1,13 @@
 //! A plan in the making: the moves so far, and the layout to which they lead.
 
 ghost use Rattle.std.specs.Prelude.{◌<◌, ◌≤◌, length, All, Contains, OnOk, IfOk, vec_capacity};
-ghost use Rattle.part_layout.specs.Layouts.{IsLayout};
-ghost use Rattle.part_layout.specs.Plans.{IsLegal};
-ghost use Rattle.part_layout.specs.Rings.{IsRing};
+ghost use Rattle.vol_layout.specs.Layouts.{IsLayout};
+ghost use Rattle.vol_layout.specs.Plans.{IsLegal};
+ghost use Rattle.vol_layout.specs.Rings.{IsRing};
 
 use crate::ring::{Ring, ring_from};
-use part_layout::{Layout, Move};
 use std::alloc::{AllocError, Allocator};
+use vol_layout::{Layout, Move};
 
 /// The layout after the moves so far, these moves, the rings that they turned, and the spare place.
 #[derive(Drop)]

@@ -1,8 +1,8 @@
 //! Rings of parts that stand in one another's places.
 
 ghost use Rattle.std.specs.Prelude.{◌≡◌, ◌≢◌, ◌<◌, length, slice_index, All, IfOk};
-ghost use Rattle.part_layout.specs.Layouts.{AreDistinct};
-ghost use Rattle.part_layout.specs.Rings.{IsRing};
+ghost use Rattle.vol_layout.specs.Layouts.{AreDistinct};
+ghost use Rattle.vol_layout.specs.Rings.{IsRing};
 
 use std::alloc::{AllocError, Allocator, Global};
 use std::marker::Model;

@@ -2,14 +2,15 @@
 ghost use Rattle.std.specs.Prelude.{◌≡◌, ◌≢◌, ◌≤◌, ◌<◌, ◌+◌, ◌-◌, ◌/◌, ◌%◌, ◌^◌, ℕ, length, true, false, IfOk, IfErr, IfSome, IfNone, IsTrue};
 ghost use Rattle.a2_device.specs.Device.{OnlyReads, unit_at};
 ghost use Rattle.a2_device.specs.Reading.{met_device};
-ghost use Rattle.a2_device.specs.declared.fault.Fault.{Fault};
-ghost use Rattle.a2_device.specs.declared.fault.WalkError.TheVariants.{Fault as AFault};
+ghost use Rattle.vol_parts.specs.declared.fault.Fault.{Fault};
+ghost use Rattle.vol_parts.specs.declared.fault.WalkError.TheVariants.{Fault as AFault};
 ghost use Rattle.pro_bitmap.specs.Bitmap.{FreeMap, IsWhole, IsFreeFrom, IsNextFree, units_of, units_in, unit_in, place_of, is_free, is_free_in, free_count_of, byte_of, with_byte, marked, released};
 
 use crate::count::free_in_unit;
-use a2_device::{Device, WalkError};
+use a2_device::Device;
 use std::alloc::{Allocator, Global};
 use std::marker::Model;
+use vol_parts::WalkError;
 
 /// The bytes of a block.
 pub(crate) const BLOCK_BYTES: usize = 512;

@@ -7,7 +7,5 @@
 
 mod bitmap;
 mod count;
-#[cfg(test)]
-mod tests;
 
 pub use bitmap::Bitmap;

@@ -5,11 +5,11 @@ use Rattle.std.specs.Option.{option_or}
 use Rattle.std.specs.List.{Contains}
 use Rattle.std.proofs.lemmas.Grind.{flat_map-append}
 use Rattle.a2_device.specs.Device.{unit_at}
-use Rattle.a2_device.specs.declared.fault.WalkError.{WalkError}
+use Rattle.vol_parts.specs.declared.fault.WalkError.{WalkError}
 use Rattle.pro_dir.specs.declared.entry.Entry.{Entry}
 use Rattle.pro_dir.specs.Entry.{entries_of, entries_in, free_slots_of, free_slots_in}
 use Rattle.pro_dir.specs.Tree.{CanLink, HasBadLink, next_of}
-use Rattle.pro_dir.specs.TreeLaws.{leads_on}
+use Rattle.pro_dir.specs.lemmas.TreeLaws.{leads_on}
 use Rattle.pro_dir.specs.Walk.{IsTable, IsFollowing, IsReadOut, IsVolumeKey, is_met, first_free_of}
 use Rattle.pro_dir.proofs.Slots.{first_free_of-is, first-append}
 

@@ -10,7 +10,7 @@ use Rattle.pro_dir.specs.declared.entry.Entry.{Entry}
 use Rattle.pro_dir.specs.declared.reading.FreeSlot.{FreeSlot}
 use Rattle.pro_dir.specs.Entry.{entries_in, free_slots_in, is_directory, key_of}
 use Rattle.pro_dir.specs.Tree.{HasBlocks, HasKind, HasSizes, IsListed, IsRun}
-use Rattle.pro_dir.specs.TreeLaws.{listed_more, not_twice, one_run}
+use Rattle.pro_dir.specs.lemmas.TreeLaws.{listed_more, not_twice, one_run}
 use Rattle.pro_dir.specs.Walk.{IsKeyOf, IsListing, IsReadOut, IsTable, KeepsFree, kept_for, kept_slots}
 use Rattle.pro_dir.proofs.Table.{only}
 

@@ -2,11 +2,10 @@ pub mod Entry
 pub mod Dates
 pub mod Writes
 pub mod Tree
-pub mod TreeLaws
 pub mod Volume
-pub mod VolumeLaws
 pub mod Listed
 pub mod Within
 pub mod Paths
 pub mod Parents
 pub mod Walk
+pub mod lemmas

@@ -14,8 +14,6 @@ mod parents;
 mod path;
 mod reading;
 mod slot;
-#[cfg(test)]
-mod tests;
 mod tree;
 mod volume;
 

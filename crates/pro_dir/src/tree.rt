@@ -3,9 +3,9 @@ ghost use Rattle.std.specs.Prelude.{◌≡◌, ◌≢◌, ◌≤◌, ◌<◌, �
 ghost use Rattle.std.specs.Option.{option_or};
 ghost use Rattle.a2_device.specs.Device.{OnlyReads, unit_at};
 ghost use Rattle.a2_device.specs.Reading.{met_device};
-ghost use Rattle.a2_device.specs.declared.fault.Fault.{Fault};
-ghost use Rattle.a2_device.specs.declared.fault.Fault.TheVariants.{DirLink as ADirLink};
-ghost use Rattle.a2_device.specs.declared.fault.WalkError.TheVariants.{Fault as AFault};
+ghost use Rattle.vol_parts.specs.declared.fault.Fault.{Fault};
+ghost use Rattle.vol_parts.specs.declared.fault.Fault.TheVariants.{DirLink as ADirLink};
+ghost use Rattle.vol_parts.specs.declared.fault.WalkError.TheVariants.{Fault as AFault};
 ghost use Rattle.pro_dir.specs.declared.reading.Reading.{Reading as AReading};
 ghost use Rattle.pro_dir.specs.Entry.{entries_of, entries_in, free_slots_in, is_directory, key_of};
 ghost use Rattle.pro_dir.specs.Tree.{next_of, CanLink, HasKind, HasSizes, IsDirectory, HasBadLink, SubdirectoryFaultAt, IsCutOff, IsTree, TreeFaultAt};
@@ -14,9 +14,10 @@ ghost use Rattle.pro_dir.specs.Within.{IsInSlot};
 
 use crate::entry::{BLOCK_BYTES, Entry};
 use crate::reading::{FreeSlot, Reading};
-use a2_device::{Device, Fault, WalkError};
+use a2_device::Device;
 use byteorder::{ByteOrder, LittleEndian};
 use std::alloc::{AllocError, Allocator, Global};
+use vol_parts::{Fault, WalkError};
 
 /// The key block of the volume's directory.
 pub(crate) const VOLUME_KEY: u32 = 2;

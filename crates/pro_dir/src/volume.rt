@@ -2,8 +2,8 @@
 ghost use Rattle.std.specs.Prelude.{◌≡◌, ◌≤◌, ◌<◌, ◌+◌, ◌↔◌, ℕ, List, false, length, slice_get, IfOk, IfErr, IsTrue};
 ghost use Rattle.a2_device.specs.Device.{OnlyReads, unit_at};
 ghost use Rattle.a2_device.specs.Reading.{met_device};
-ghost use Rattle.a2_device.specs.declared.fault.Fault.{Fault};
-ghost use Rattle.a2_device.specs.declared.fault.WalkError.TheVariants.{Fault as AFault};
+ghost use Rattle.vol_parts.specs.declared.fault.Fault.{Fault};
+ghost use Rattle.vol_parts.specs.declared.fault.WalkError.TheVariants.{Fault as AFault};
 ghost use Rattle.pro_dir.specs.Entry.{name_of, slot_bytes, free_slots_in};
 ghost use Rattle.pro_dir.specs.Parents.{AreParents};
 ghost use Rattle.pro_dir.specs.Tree.{HasKind, HasSizes, IsRun};
@@ -14,9 +14,10 @@ use crate::entry::{BLOCK_BYTES, ENTRY_BYTES, Entry, NAME};
 use crate::parents::parents_of;
 use crate::reading::FreeSlot;
 use crate::tree::{Tree, VOLUME_KEY, has_kind, has_sizes};
-use a2_device::{Device, Fault, WalkError};
+use a2_device::Device;
 use byteorder::{ByteOrder, LittleEndian};
 use std::alloc::{Allocator, Global};
+use vol_parts::{Fault, WalkError};
 
 /// The storage type in the header of the volume's directory.
 const VOLUME: u8 = 0x0f;

@@ -1,3 +1,2 @@
-pub mod Table
 pub mod Steps
 pub mod Ends

@@ -1,15 +1,8 @@
 pub mod Pointers
-pub mod PointerLaws
 pub mod Reach
-pub mod ReachLaws
-pub mod Roots
 pub mod Content
-pub mod Written
-pub mod ContentLaws
 pub mod File
-pub mod FileLaws
-pub mod FileReach
 pub mod Parts
 pub mod Walk
 pub mod Above
-pub mod AboveLaws
+pub mod lemmas

@@ -1,8 +1,9 @@
 -- What is known at each moment of a walk over a file.
 use Rattle.std.specs.Prelude.{◌≡◌, ◌≢◌, ◌⊎◌, ◌<◌, ℕ, ◌+◌, Bool, true, false, List, [], ◌∷◌, Option, Some, None, slice_index_or, AllPairs, Contains}
-use Rattle.a2_device.specs.declared.part.Part.{Part}
-use Rattle.a2_device.specs.declared.fault.Fault.{Fault}
-use Rattle.a2_device.specs.declared.fault.Fault.TheVariants.{OutOfRange, Shared, StorageType}
+use Rattle.vol_parts.specs.Table.{IsTable}
+use Rattle.vol_parts.specs.declared.part.Part.{Part}
+use Rattle.vol_parts.specs.declared.fault.Fault.{Fault}
+use Rattle.vol_parts.specs.declared.fault.Fault.TheVariants.{OutOfRange, Shared, StorageType}
 use Rattle.vol_format.specs.declared.link.Link.{Link}
 use Rattle.vol_format.specs.declared.link.Link.TheVariants.{Wild, Directory as ToDirectory, OtherType, To}
 use Rattle.pro_tree.specs.File.{InFile}
@@ -22,12 +23,6 @@ pub record IsTame (link : Link) : Type 0 where
   pub wild : link ≢ Wild
   pub directory : link ≢ ToDirectory
   pub other : link ≢ OtherType
-
--- the table has the places of the parts so far, each of one part
-pub record IsTable (met : List Bool) (parts : List Part) : Type 0 where
-  pub all : (part : Part) → Contains parts part → slice_index_or met part.place false ≡ true
-  pub has : (place : ℕ) → slice_index_or met place false ≡ true → (part : Part) × Contains parts part × (part.place ≡ place)
-  pub once : AllPairs (λ part later. part.place ≢ later.place) parts
 
 -- why a pointer is refused: it is wild, its file has no parts, or it names a place that was met
 abbrev pub IsRefusedAt : List Bool → ℕ → Link → Fault → Type 0

@@ -2,7 +2,7 @@
 ghost use Rattle.std.specs.Prelude.{◌≡◌, ◌<◌, ℕ, length, IfSome, IfNone};
 ghost use Rattle.pro_tree.specs.Above.{IsAbove, is_above};
 
-use a2_device::{Part, PartKind};
+use vol_parts::{Part, PartKind};
 
 // Whether blocks of a kind name parts of another.
 fn is_above(above: PartKind, below: PartKind) -> bool

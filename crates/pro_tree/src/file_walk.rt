@@ -2,18 +2,20 @@
 ghost use Rattle.std.specs.Prelude.{◌≡◌, ◌≢◌, ◌<◌, ◌+◌, ◌*◌, ◌++◌, [], ◌∷◌, ℕ, List, true, false, length, OnOk, IfOk, IfErr, IsTrue, AllPairs, Contains, slice_set, vec_items, replicate};
 ghost use Rattle.a2_device.specs.Device.{OnlyReads, unit_at};
 ghost use Rattle.a2_device.specs.Reading.{met_device};
-ghost use Rattle.a2_device.specs.declared.part.Part.{Part};
-ghost use Rattle.a2_device.specs.declared.part.PartKind.TheVariants.{Master as AMaster, Index as AnIndex};
-ghost use Rattle.a2_device.specs.declared.fault.Fault.{Fault};
-ghost use Rattle.a2_device.specs.declared.fault.WalkError.TheVariants.{Fault as AFault, Device as ADevice};
+ghost use Rattle.vol_parts.specs.declared.part.Part.{Part};
+ghost use Rattle.vol_parts.specs.declared.part.PartKind.TheVariants.{Master as AMaster, Index as AnIndex};
+ghost use Rattle.vol_parts.specs.declared.fault.Fault.{Fault};
+ghost use Rattle.vol_parts.specs.declared.fault.WalkError.TheVariants.{Fault as AFault, Device as ADevice};
 ghost use Rattle.vol_format.specs.declared.link.Link.TheVariants.{To};
 ghost use Rattle.pro_tree.specs.Parts.{IsPartsOf, HasNoWild, FileFaultAt, rank};
-ghost use Rattle.pro_tree.specs.Walk.{IsTable, IsTame, IsRefusedAt, IsReached, IsTaking, part_named, parts_named};
+ghost use Rattle.pro_tree.specs.Walk.{IsTame, IsRefusedAt, IsReached, IsTaking, part_named, parts_named};
+ghost use Rattle.vol_parts.specs.Table.{IsTable};
 
 use crate::links::{child, root};
-use a2_device::{Device, Fault, Part, PartKind, WalkError};
+use a2_device::Device;
 use std::alloc::{AllocError, Allocator, Global};
 use vol_format::Link;
+use vol_parts::{Fault, Part, PartKind, WalkError};
 
 const BLOCK: usize = 512;
 

@@ -1,7 +1,7 @@
 // What is read of an index where a pointer was written, and which parts a file has. Each law is a function with
 // nothing to do: its contract is the law.
 ghost use Rattle.std.specs.Prelude.{◌≡◌, ◌≢◌, ◌<◌, ◌↔◌, ℕ, List, length};
-ghost use Rattle.a2_device.specs.declared.part.Part.{Part};
+ghost use Rattle.vol_parts.specs.declared.part.Part.{Part};
 ghost use Rattle.pro_tree.specs.File.{InFile, PlacedAt};
 ghost use Rattle.pro_tree.specs.Pointers.{pointer_of, with_pointer};
 

@@ -23,10 +23,6 @@ mod file_walk;
 mod laws;
 mod links;
 mod pointers;
-#[cfg(test)]
-mod tests;
-#[cfg(test)]
-mod walk_tests;
 
 pub use above::part_above;
 pub use file_walk::walk;

@@ -8,8 +8,6 @@
 mod error;
 mod form;
 mod reserved;
-#[cfg(test)]
-mod tests;
 mod words;
 
 pub use error::ReserveError;

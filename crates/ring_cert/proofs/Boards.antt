@@ -4,9 +4,9 @@ use Rattle.std.specs.List.{Contains}
 use Rattle.std.proofs.lemmas.Bool.{cases_eq, cases_lt, false≢true}
 use Rattle.std.proofs.lemmas.List.{get_or-set_same, get_or-set_other, length-set, get_or-replicate, get_or_past, length-replicate, take_more}
 use Rattle.std.proofs.lemmas.List.Elements.{Contains-append_left, Contains-push, Contains-push_cases}
-use Rattle.part_layout.specs.Layouts.{AreDistinct}
-use Rattle.part_layout.proofs.Lists.{Contains-nil}
-use Rattle.part_layout.proofs.PlanLemmas.{Contains-moved}
+use Rattle.vol_layout.specs.Layouts.{AreDistinct}
+use Rattle.vol_layout.proofs.Lists.{Contains-nil}
+use Rattle.vol_layout.proofs.PlanLemmas.{Contains-moved}
 use Rattle.ring_cert.specs.Boards.{TellsTaken}
 
 -- no place is taken yet

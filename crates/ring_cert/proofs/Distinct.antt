@@ -4,9 +4,9 @@ use Rattle.std.specs.List.{All, Contains, concat}
 use Rattle.std.proofs.lemmas.List.{get_or_default}
 use Rattle.std.proofs.lemmas.List.Elements.{All-head, All-tail, All-cons, Contains-append_cases, Contains-append_left, Contains-append_right}
 use Rattle.std.proofs.lemmas.List.Kept.{AllPairs-cons}
-use Rattle.part_layout.specs.Layouts.{AreDistinct}
-use Rattle.part_layout.specs.Rings.{AreApart}
-use Rattle.part_layout.proofs.Lists.{Contains-cons, Contains-cases, Contains-nil}
+use Rattle.vol_layout.specs.Layouts.{AreDistinct}
+use Rattle.vol_layout.specs.Rings.{AreApart}
+use Rattle.vol_layout.proofs.Lists.{Contains-cons, Contains-cases, Contains-nil}
 
 pub distinct_head : (x : ℕ) (xs : List ℕ) → AreDistinct (x ∷ xs) → Contains xs x → ⊥
 distinct_head x xs distinct (i, h, e) = distinct 0 (suc i) x (omega arith) (omega arith) (sym e)

@@ -2,12 +2,12 @@
 use Rattle.std.proofs.Common.{◌≡◌, ℕ, ◌<◌, List, [], length, take, drop, arith, refl, sym, ◌∙◌, inl, inr, subst, ◌≤◌, Result, Ok, Err, OnOk, IfErr, IsOkUnless}
 use Rattle.std.specs.List.{All, concat}
 use Rattle.std.proofs.lemmas.List.{get_or_default, get_or-take, length-take-le, take-append-drop, drop_more}
-use Rattle.part_layout.specs.declared.moves.Move.{Move}
-use Rattle.part_layout.specs.Layouts.{Placement, AreDistinct, IsMisplaced, IsTarget}
-use Rattle.part_layout.specs.Plans.{IsPlan, after}
-use Rattle.part_layout.specs.Rings.{IsRing}
-use Rattle.part_layout.proofs.PlanLemmas.{plan_parts}
-use Rattle.part_layout.proofs.LowerBound.{bound}
+use Rattle.vol_layout.specs.declared.moves.Move.{Move}
+use Rattle.vol_layout.specs.Layouts.{Placement, AreDistinct, IsMisplaced, IsTarget}
+use Rattle.vol_layout.specs.Plans.{IsPlan, after}
+use Rattle.vol_layout.specs.Rings.{IsRing}
+use Rattle.vol_layout.proofs.PlanLemmas.{plan_parts}
+use Rattle.vol_layout.proofs.LowerBound.{bound}
 use Rattle.ring_cert.specs.Certificates.{Certificate}
 use Rattle.ring_cert.specs.Good.{IsFirstNot, IsFirstRepeat, IsFirstIllegal, IsFirstFault, IsGood, IsRightSoFar, TellsEachOnce, TellsPlan, EndsAtTarget, AddsUp, RepeatsFirst}
 use Rattle.ring_cert.specs.declared.certificate.CertFault.{CertFault}

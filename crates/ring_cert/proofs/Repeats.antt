@@ -7,8 +7,8 @@ use Rattle.std.proofs.Math.Seq.{take-append-add}
 use Rattle.std.proofs.Math.Bool.{or-false}
 use Rattle.std.proofs.lemmas.List.Folds.{list_any-append, concat-append}
 use Rattle.std.proofs.lemmas.Bool.{both_ways}
-use Rattle.part_layout.specs.Layouts.{AreDistinct}
-use Rattle.part_layout.proofs.Lists.{Contains-has, has-Contains}
+use Rattle.vol_layout.specs.Layouts.{AreDistinct}
+use Rattle.vol_layout.proofs.Lists.{Contains-has, has-Contains}
 use Rattle.ring_cert.specs.declared.seen.Seen.{Seen}
 use Rattle.ring_cert.specs.Seen.{HasMet, is_seen}
 use Rattle.ring_cert.specs.Good.{IsFirstRepeat}

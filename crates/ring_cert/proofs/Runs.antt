@@ -3,7 +3,7 @@ use Rattle.std.proofs.Common.{◌≡◌, ℕ, ◌<◌, List, [], ◌∷◌, ◌+
 use Rattle.std.specs.List.{All, flat_map}
 use Rattle.std.proofs.lemmas.List.{append_cancel_left, flat_map_more, length-append}
 use Rattle.std.proofs.lemmas.List.Elements.{All-head, All-tail, All-nil, All-push, All-cons}
-use Rattle.part_layout.specs.declared.moves.Move.{Move}
+use Rattle.vol_layout.specs.declared.moves.Move.{Move}
 use Rattle.ring_cert.specs.Certificates.{IsSmall, IsRingTold, IsMoveTold, word, line, ring_line, move_line, size_line}
 use Rattle.ring_cert.specs.Reading.{BeginsWithNoDigit, Lacks, LacksTwo}
 use Rattle.ring_cert.proofs.Spelling.{line_apart, words_same, word_same, no_word, line_begins, end_begins}

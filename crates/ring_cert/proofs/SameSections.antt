@@ -2,7 +2,7 @@
 use Rattle.std.proofs.Common.{◌≡◌, ℕ, List, [], ◌∷◌, ◌++◌, length, arith, sym, ap, ◌∙◌, append_assoc, codes, inl, inr}
 use Rattle.std.specs.List.{All, flat_map}
 use Rattle.std.proofs.lemmas.List.{append_cancel_left, append-nil, length-append, nil_from_length}
-use Rattle.part_layout.specs.declared.moves.Move.{Move}
+use Rattle.vol_layout.specs.declared.moves.Move.{Move}
 use Rattle.ring_cert.specs.Certificates.{IsSmall, IsRingTold, IsMoveTold, at_line, off_line, ring_line, bound_line, move_line, size_line, first_line, last_line, layout_text, claim_text, plan_text}
 use Rattle.ring_cert.specs.Reading.{LayoutFits, ClaimFits, PlanFits}
 use Rattle.ring_cert.proofs.Runs.{run_split, one_line_same, ring_line_same, move_line_same, size_line_same}

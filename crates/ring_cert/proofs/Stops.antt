@@ -5,7 +5,7 @@ use Rattle.std.proofs.lemmas.Fmt.{decimal_digit}
 use Rattle.std.proofs.lemmas.List.{append_cancel_left, length-append, length-replicate}
 use Rattle.std.proofs.lemmas.List.Concat.{flat_map-append}
 use Rattle.std.proofs.lemmas.List.Elements.{All-nil, All-append, All-replicate}
-use Rattle.part_layout.specs.declared.moves.Move.{Move}
+use Rattle.vol_layout.specs.declared.moves.Move.{Move}
 use Rattle.ring_cert.specs.Certificates.{AreWholeLines, IsSmall, IsRingTold, IsMoveTold, word, line, at_line, off_line, ring_line, bound_line, move_line, size_line, first_line, last_line, layout_text, claim_text, plan_text}
 use Rattle.ring_cert.specs.Reading.{BeginsOtherwise, Lacks, LacksTwo, IsLeft, LayoutFits, layout_lines, ClaimFits, claim_lines, PlanFits}
 use Rattle.ring_cert.proofs.Runs.{run_split, one_line_same, ring_line_same, move_line_same, size_line_same, size_apart, one_small, move_small, line_heads}

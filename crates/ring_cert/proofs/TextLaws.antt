@@ -1,12 +1,12 @@
 -- The laws of texts, and that the certificate of a shortest plan is good.
 use Rattle.std.proofs.Common.{◌≡◌, ℕ, ◌+◌, List, [], ◌++◌, length, refl, sym, ◌∙◌, subst}
 use Rattle.std.proofs.lemmas.List.{append-nil}
-use Rattle.part_layout.specs.declared.moves.Move.{Move}
-use Rattle.part_layout.specs.Layouts.{Placement, IsTarget, misplaced}
-use Rattle.part_layout.specs.Plans.{IsPlan, after}
-use Rattle.part_layout.specs.Rings.{AreAllRings, IsDeficit}
-use Rattle.part_layout.proofs.LowerBound.{misplaced_distinct, misplaced_each, apart_from_once}
-use Rattle.part_layout.proofs.Deficits.{deficit_is_one}
+use Rattle.vol_layout.specs.declared.moves.Move.{Move}
+use Rattle.vol_layout.specs.Layouts.{Placement, IsTarget, misplaced}
+use Rattle.vol_layout.specs.Plans.{IsPlan, after}
+use Rattle.vol_layout.specs.Rings.{AreAllRings, IsDeficit}
+use Rattle.vol_layout.proofs.LowerBound.{misplaced_distinct, misplaced_each, apart_from_once}
+use Rattle.vol_layout.proofs.Deficits.{deficit_is_one}
 use Rattle.ring_cert.specs.Certificates.{Certificate, HasText, certificate_of, certificate_text}
 use Rattle.ring_cert.specs.Good.{IsGood}
 use Rattle.ring_cert.proofs.Texts.{text_same}

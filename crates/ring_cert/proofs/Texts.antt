@@ -3,7 +3,7 @@ use Rattle.std.proofs.Common.{◌≡◌, ◌≢◌, ℕ, List, [], ◌∷◌, �
 use Rattle.std.specs.List.{All}
 use Rattle.std.proofs.lemmas.List.{append-nil, length-append}
 use Rattle.std.proofs.lemmas.List.Elements.{All-nil}
-use Rattle.part_layout.specs.declared.moves.Move.{Move}
+use Rattle.vol_layout.specs.declared.moves.Move.{Move}
 use Rattle.ring_cert.specs.Certificates.{AreWholeLines, Certificate, HasText, IsSmall, IsRingTold, IsMoveTold, certificate_text, layout_text, claim_text, plan_text}
 use Rattle.ring_cert.specs.Reading.{HasNoFeed, BeginsOtherwise, IsLeft, IsLeftOver, LayoutFits, layout_lines, ClaimFits, claim_lines, PlanFits, StopsAt, StopsReading}
 use Rattle.ring_cert.specs.declared.sections.Stop.{Stop}

@@ -3,12 +3,12 @@ use Rattle.std.proofs.Common.{◌≡◌, ℕ, ◌+◌, ◌<◌, ◌≤◌, List,
 use Rattle.std.specs.List.{range_with_len}
 use Rattle.std.proofs.lemmas.List.{get_or_default, get_or-map, length-map, same_lists, take_more}
 use Rattle.std.proofs.lemmas.List.FromFn.{length-range_with_len, get_or-range_with_len}
-use Rattle.part_layout.specs.declared.moves.Move.{Move}
-use Rattle.part_layout.specs.Layouts.{Placement, AreDistinct, IsTarget}
-use Rattle.part_layout.specs.Plans.{IsLegal, IsPlan, after, moved}
-use Rattle.part_layout.specs.Rings.{IsRing, turned}
-use Rattle.part_layout.proofs.RingLemmas.{length_turned}
-use Rattle.part_layout.proofs.PlanLemmas.{IsPlan-push, after-push}
+use Rattle.vol_layout.specs.declared.moves.Move.{Move}
+use Rattle.vol_layout.specs.Layouts.{Placement, AreDistinct, IsTarget}
+use Rattle.vol_layout.specs.Plans.{IsLegal, IsPlan, after, moved}
+use Rattle.vol_layout.specs.Rings.{IsRing, turned}
+use Rattle.vol_layout.proofs.RingLemmas.{length_turned}
+use Rattle.vol_layout.proofs.PlanLemmas.{IsPlan-push, after-push}
 
 -- the first i parts of a ring stand at the places of those that follow them
 pub record FollowsTo (at ring : List ℕ) (i : ℕ) : Type 0 where

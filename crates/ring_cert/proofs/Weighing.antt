@@ -5,7 +5,7 @@ use Rattle.std.specs.Option.{is_none}
 use Rattle.std.proofs.lemmas.Bool.{false≢true}
 use Rattle.std.proofs.lemmas.List.{get_or_default}
 use Rattle.std.proofs.lemmas.List.Elements.{All-more}
-use Rattle.part_layout.specs.Rings.{IsRing}
+use Rattle.vol_layout.specs.Rings.{IsRing}
 use Rattle.ring_cert.specs.declared.seen.Seen.{Seen}
 use Rattle.ring_cert.specs.Good.{IsFirstNot}
 use Rattle.ring_cert.specs.Seen.{HasMet}

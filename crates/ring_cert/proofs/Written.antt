@@ -1,7 +1,7 @@
 -- What is written at the end of a text.
 use Rattle.std.proofs.Common.{List, [], ap, append_assoc, arith, codes, drop, get_or, length, set, sym, take, ℕ, ◌%◌, ◌++◌, ◌+◌, ◌-◌, ◌/◌, ◌<◌, ◌^◌, ◌∙◌, ◌∷◌, ◌≡◌, ◌≢◌, ◌≤◌}
 use Rattle.std.specs.List.{All, flat_map}
-use Rattle.part_layout.specs.declared.moves.Move.{Move}
+use Rattle.vol_layout.specs.declared.moves.Move.{Move}
 use Rattle.std.specs.Fmt.{decimal}
 use Rattle.std.proofs.lemmas.Fmt.{decimal_digit, decimal_nonempty, decimal_step, length-decimal-le}
 use Rattle.std.proofs.lemmas.List.{append-nil, drop_all, drop-set, flat_map_more, length-drop, length_push, length-set, take_all, take_more}

@@ -1,6 +1,6 @@
 -- The fields of a board: where the parts stand, and which places are taken.
 use Rattle.std.specs.Prelude.{◌≡◌, ◌↔◌, ℕ, Bool, true, false, List, length, slice_index_or, Contains}
-use Rattle.part_layout.specs.Layouts.{Placement, IsLayout}
+use Rattle.vol_layout.specs.Layouts.{Placement, IsLayout}
 use Rattle.ring_cert.specs.declared.board.Board.TheInside.{Inside}
 
 -- what callers see of the fields

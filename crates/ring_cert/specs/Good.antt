@@ -1,10 +1,10 @@
 -- When a certificate is good for a layout, and what is wrong with one that is not.
 use Rattle.std.specs.Prelude.{◌≡◌, ℕ, ◌+◌, ◌<◌, List, length, take, slice_index, slice_index_or, All, Contains, ◌⊎◌}
 use Rattle.std.specs.List.{concat}
-use Rattle.part_layout.specs.declared.moves.Move.{Move}
-use Rattle.part_layout.specs.Layouts.{Placement, AreDistinct, IsMisplaced, IsTarget}
-use Rattle.part_layout.specs.Plans.{IsLegal, IsPlan, after}
-use Rattle.part_layout.specs.Rings.{IsRing, AreApart}
+use Rattle.vol_layout.specs.declared.moves.Move.{Move}
+use Rattle.vol_layout.specs.Layouts.{Placement, AreDistinct, IsMisplaced, IsTarget}
+use Rattle.vol_layout.specs.Plans.{IsLegal, IsPlan, after}
+use Rattle.vol_layout.specs.Rings.{IsRing, AreApart}
 use Rattle.ring_cert.specs.Certificates.{Certificate}
 use Rattle.ring_cert.specs.declared.certificate.CertFault.{CertFault}
 use Rattle.ring_cert.specs.declared.certificate.CertFault.TheVariants.{OtherLayout, NotMisplaced, Repeated, NotARing, IllegalMove, NotAtTarget, Sum, Memory}

@@ -1,7 +1,7 @@
 -- Why moves that are made one after the other stop.
 use Rattle.std.specs.Prelude.{List}
-use Rattle.part_layout.specs.declared.moves.Move.{Move}
-use Rattle.part_layout.specs.Layouts.{Placement}
+use Rattle.vol_layout.specs.declared.moves.Move.{Move}
+use Rattle.vol_layout.specs.Layouts.{Placement}
 use Rattle.ring_cert.specs.Good.{IsFirstIllegal}
 use Rattle.ring_cert.specs.declared.certificate.CertFault.{CertFault}
 use Rattle.ring_cert.specs.declared.certificate.CertFault.TheVariants.{OtherLayout, NotMisplaced, Repeated, NotARing, IllegalMove, NotAtTarget, Sum, Memory}

@@ -1,7 +1,7 @@
 -- What the readers of words and lines answer.
 use Rattle.std.specs.Prelude.{◌≡◌, ◌≢◌, ℕ, ◌<◌, List, [], ◌∷◌, ◌++◌, length, slice_index, All}
 use Rattle.std.specs.Int.{IsInRange}
-use Rattle.part_layout.specs.declared.moves.Move.{Move}
+use Rattle.vol_layout.specs.declared.moves.Move.{Move}
 use Rattle.ring_cert.specs.declared.sections.Stop.{Stop}
 use Rattle.ring_cert.specs.declared.sections.Stop.TheVariants.{Fault, OutOfMemory}
 use Rattle.ring_cert.specs.Certificates.{AreWholeLines, HasText, CanBegin, Certificate, certificate_text, IsSmall, IsRingTold, IsMoveTold, layout_text, claim_text, line, word}

@@ -1,8 +1,8 @@
 -- Why lists are not rings without a common part.
 use Rattle.std.specs.Prelude.{ℕ, List}
 use Rattle.std.specs.List.{concat}
-use Rattle.part_layout.specs.Layouts.{AreDistinct}
-use Rattle.part_layout.specs.Rings.{IsRing}
+use Rattle.vol_layout.specs.Layouts.{AreDistinct}
+use Rattle.vol_layout.specs.Rings.{IsRing}
 use Rattle.ring_cert.specs.Good.{IsFirstNot, IsFirstRepeat}
 use Rattle.ring_cert.specs.declared.certificate.CertFault.{CertFault}
 use Rattle.ring_cert.specs.declared.certificate.CertFault.TheVariants.{OtherLayout, NotMisplaced, Repeated, NotARing, IllegalMove, NotAtTarget, Sum, Memory}

@@ -3,7 +3,7 @@ use Rattle.std.specs.Prelude.{◌≡◌, ◌==◌, ℕ, Bool, false, List, lengt
 use Rattle.std.specs.List.{list_any}
 use Rattle.std.specs.Ordering.{nat_cmp}
 use Rattle.std.specs.BTreeSet.{contains}
-use Rattle.part_layout.specs.Layouts.{AreDistinct}
+use Rattle.vol_layout.specs.Layouts.{AreDistinct}
 use Rattle.ring_cert.specs.declared.seen.Seen.{Seen}
 
 -- whether a number was met: those of parts stand in the table, the others in the set

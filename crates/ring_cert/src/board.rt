@@ -1,12 +1,12 @@
 //! Where parts stand while moves are made.
 
 ghost use Rattle.std.specs.Prelude.{◌≡◌, ◌<◌, ◌↔◌, All, IfOk, IsTrue, length, true, false};
-ghost use Rattle.part_layout.specs.Plans.{IsLegal, moved};
+ghost use Rattle.vol_layout.specs.Plans.{IsLegal, moved};
 ghost use Rattle.ring_cert.specs.Boards.{TellsTaken};
 
-use part_layout::{Layout, Move};
 use std::alloc::{AllocError, Allocator};
 use std::marker::Model;
+use vol_layout::{Layout, Move};
 
 /// The place of each part, and which places are taken: of a layout no more than making moves needs, in less than half its memory.
 #[derive(Drop)]
@@ -16,7 +16,7 @@ pub struct Board<A: Allocator> {
 }
 
 impl<A: Allocator> Model for Board<A> {
-    ghost use Rattle.part_layout.specs.Layouts.{Placement};
+    ghost use Rattle.vol_layout.specs.Layouts.{Placement};
 
     ghost Value = { Placement };
 

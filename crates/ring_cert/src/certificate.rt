@@ -5,9 +5,9 @@ ghost use Rattle.ring_cert.specs.declared.certificate.CertError.TheVariants as e
 ghost use Rattle.ring_cert.specs.declared.certificate.CertFault.TheVariants as fault;
 
 use crate::parts::Parts;
-use part_layout::Move;
 use std::alloc::{AllocError, Allocator, Global};
 use thiserror::Error;
+use vol_layout::Move;
 
 /// What the lines of a certificate tell, in their order.
 #[derive(Drop)]

@@ -2,10 +2,10 @@
 //! contract is the law.
 
 ghost use Rattle.std.specs.Prelude.{◌≡◌, ◌++◌, ℕ, List, [], length};
-ghost use Rattle.part_layout.specs.Layouts.{IsTarget, Placement, misplaced};
-ghost use Rattle.part_layout.specs.Plans.{IsPlan, after};
-ghost use Rattle.part_layout.specs.Rings.{AreAllRings, IsDeficit};
-ghost use Rattle.part_layout.specs.declared.moves.Move.{Move};
+ghost use Rattle.vol_layout.specs.Layouts.{IsTarget, Placement, misplaced};
+ghost use Rattle.vol_layout.specs.Plans.{IsPlan, after};
+ghost use Rattle.vol_layout.specs.Rings.{AreAllRings, IsDeficit};
+ghost use Rattle.vol_layout.specs.declared.moves.Move.{Move};
 ghost use Rattle.ring_cert.specs.Certificates.{Certificate, HasText, certificate_of, certificate_text};
 ghost use Rattle.ring_cert.specs.Good.{IsGood};
 

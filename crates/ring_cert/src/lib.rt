@@ -28,6 +28,3 @@ pub use parts::Parts;
 pub use printing::print;
 pub use reading::read;
 pub use verifying::verify;
-
-#[cfg(test)]
-mod tests;

@@ -7,8 +7,8 @@ ghost use Rattle.ring_cert.specs.Reading.{LayoutFits};
 
 use crate::words::MOST_DIGITS;
 use move_plan::{Plan, Ring};
-use part_layout::{Layout, Move};
 use std::alloc::{AllocError, Allocator};
+use vol_layout::{Layout, Move};
 
 /// The text of the certificate of a plan: its misplaced parts and its rings as they stand in it, and their number as the bound.
 pub fn print<A: Allocator, B: Allocator, C: Allocator>(

@@ -8,8 +8,8 @@ ghost use Rattle.ring_cert.specs.Reading.{ClaimFits, Lacks, LayoutFits, PlanFits
 
 use crate::parts::Parts;
 use crate::words::{after, one_number_at, ring_at, two_numbers_at};
-use part_layout::Move;
 use std::alloc::{AllocError, Allocator};
+use vol_layout::Move;
 
 /// Why reading stopped.
 #[derive(Clone, Copy)]

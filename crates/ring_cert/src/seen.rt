@@ -1,7 +1,7 @@
 //! The search for a number that was told before.
 
 ghost use Rattle.std.specs.Prelude.{◌≡◌, ℕ, ◌==◌, ◌||◌, ◌++◌, not, List, [], IfOk, OnOk, MatchOption};
-ghost use Rattle.part_layout.specs.Layouts.{AreDistinct};
+ghost use Rattle.vol_layout.specs.Layouts.{AreDistinct};
 ghost use Rattle.ring_cert.specs.Good.{IsFirstRepeat};
 
 use std::alloc::{AllocError, Allocator};

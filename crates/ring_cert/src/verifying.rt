@@ -1,10 +1,10 @@
 //! Whether a certificate is good for a layout.
 
 ghost use Rattle.std.specs.Prelude.{◌≡◌, ℕ, ◌<◌, ◌≤◌, ◌↔◌, List, [], length, IsTrue, All, MatchOption, OnOk, IfOk, IfErr, IsOkUnless, slice_index};
-ghost use Rattle.part_layout.specs.Layouts.{AreDistinct, IsMisplaced, IsTarget};
-ghost use Rattle.part_layout.specs.Plans.{IsPlan, after};
-ghost use Rattle.part_layout.specs.Rings.{IsRing, turned};
-ghost use Rattle.part_layout.specs.declared.moves.Move.{Move};
+ghost use Rattle.vol_layout.specs.Layouts.{AreDistinct, IsMisplaced, IsTarget};
+ghost use Rattle.vol_layout.specs.Plans.{IsPlan, after};
+ghost use Rattle.vol_layout.specs.Rings.{IsRing, turned};
+ghost use Rattle.vol_layout.specs.declared.moves.Move.{Move};
 ghost use Rattle.std.specs.List.{concat};
 ghost use Rattle.ring_cert.specs.Good.{AddsUp, IsFirstFault, IsFirstNot, IsGood, IsOfLayout, IsRightSoFar};
 ghost use Rattle.ring_cert.specs.MoveFaults.{IsFaultOfMove};
@@ -16,8 +16,8 @@ use crate::board::Board;
 use crate::certificate::{Cert, CertFault};
 use crate::parts::Parts;
 use crate::seen::Seen;
-use part_layout::{Layout, Move};
 use std::alloc::Allocator;
+use vol_layout::{Layout, Move};
 
 /// The fewest parts of a ring.
 const SHORTEST_RING: usize = 2;

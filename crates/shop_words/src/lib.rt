@@ -19,8 +19,6 @@ mod optimizing;
 mod reading;
 mod refusal;
 mod table;
-#[cfg(test)]
-mod tests;
 mod words;
 
 pub use fault::WordsFault;

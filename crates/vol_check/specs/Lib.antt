@@ -1,5 +1,4 @@
 pub mod Answer
-pub mod Stop
 pub mod Told
 pub mod Walk
 pub mod Walking

@@ -12,9 +12,10 @@ ghost use Rattle.vol_check.specs.Walk.{lists, IsSound};
 use crate::standing::{count_files, layout_of, lost_of};
 use crate::walk::{Walk, walk_files};
 use crate::{CheckError, Checked, Faults};
-use a2_device::{Device, WalkError};
+use a2_device::Device;
 use std::alloc::{AllocError, Allocator};
 use vol_format::Format;
+use vol_parts::WalkError;
 
 // The header, the directory and the map of a volume, or what is wrong with them.
 fn read_volume<D: Device, F: Format, A: Allocator + Copy>(

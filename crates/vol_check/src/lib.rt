@@ -11,8 +11,6 @@ mod checked;
 mod checker;
 mod error;
 mod standing;
-#[cfg(test)]
-mod tests;
 mod walk;
 
 pub use checked::Checked;

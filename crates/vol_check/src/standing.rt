@@ -2,12 +2,12 @@
 ghost use Rattle.std.specs.Prelude.{◌≡◌, ◌<◌, ◌≢◌, ◌≤◌, false, not, length, filter, All, AllPairs, IfOk, ◌&&◌, slice_index, slice_index_or};
 ghost use Rattle.vol_format.specs.Directory.{files, is_system, is_free};
 ghost use Rattle.vol_format.specs.Standing.{index_in, layout_of};
-ghost use Rattle.part_layout.specs.Layouts.{AreDistinct, IsInRange};
+ghost use Rattle.vol_layout.specs.Layouts.{AreDistinct, IsInRange};
 
-use a2_device::Part;
-use part_layout::{Layout, LayoutError};
 use std::alloc::{AllocError, Allocator};
 use vol_format::{Format, Link};
+use vol_layout::{Layout, LayoutError};
+use vol_parts::Part;
 
 // How many places are available.
 pub fn count_available<F: Format>(format: &F, volume: &F::Volume) -> u32

@@ -2,39 +2,16 @@
 ghost use Rattle.std.specs.Prelude.{◌≡◌, ◌<◌, ◌≤◌, ◌+◌, [], false, replicate, length, OnOk, IfOk, IsTrue};
 ghost use Rattle.a2_device.specs.Device.{OnlyReads, unit_at};
 ghost use Rattle.vol_format.specs.Directory.{entries};
-ghost use Rattle.vol_check.specs.Stop.{is_device_stop};
-ghost use Rattle.a2_device.specs.declared.part.Part.{Part};
+ghost use Rattle.vol_parts.specs.Stop.{is_device_stop};
+ghost use Rattle.vol_parts.specs.declared.part.Part.{Part};
 ghost use Rattle.vol_check.specs.declared.walk.Pending.TheVariants.{Visit};
-ghost use Rattle.vol_check.specs.declared.walk.Stop.TheVariants.{Memory};
 ghost use Rattle.vol_check.specs.Walking.{IsWalking, None};
 ghost use Rattle.vol_check.specs.Walk.{lists, IsSound, is_admitted, admitted, noted, followed, after_visit, after_next, next_unit};
 
-use a2_device::{Device, Fault, Part};
-use std::alloc::{AllocError, AllocFailed, Allocator};
+use a2_device::Device;
+use std::alloc::{AllocError, Allocator};
 use vol_format::{Format, Link};
-
-/// Why a walk ends early.
-#[derive(Clone, Copy, Debug, PartialEq, Eq)]
-pub enum Stop {
-    Device,
-    Memory,
-}
-
-impl From<AllocError> for Stop {
-    ghost from_gives = { λ _ e. e ≡ Memory };
-
-    fn from(_: AllocError) -> Self {
-        Stop::Memory
-    }
-}
-
-impl<T: Drop> From<AllocFailed<T>> for Stop {
-    ghost from_gives = { λ _ e. e ≡ Memory };
-
-    fn from(_: AllocFailed<T>) -> Self {
-        Stop::Memory
-    }
-}
+use vol_parts::{Fault, Part, Stop};
 
 /// What a pointer that was read leaves to do: to look at a part, or to tell a fault when its turn comes.
 #[derive(Clone, Copy, Debug, PartialEq, Eq)]

@@ -2,7 +2,7 @@
 use Rattle.std.proofs.Common.{refl, ◌≡◌, ◌⊎◌, ℕ, Bool, true, false, List, [], ◌∷◌, ap, sym, ◌∙◌, arith, ⊎_elim, inl, inr}
 use Rattle.std.specs.Prelude.{filter, if◌then◌else◌}
 use Rattle.std.specs.List.{Contains}
-use Rattle.part_layout.proofs.Lists.{Contains-cons, Contains-cases}
+use Rattle.vol_layout.proofs.Lists.{Contains-cons, Contains-cases}
 
 pub in_filter : (p : ℕ → Bool) (xs : List ℕ) (y : ℕ) → Contains xs y → p y ≡ true → Contains (filter p xs) y
 in_filter p [] y has passes = has

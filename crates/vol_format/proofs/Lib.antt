@@ -1,3 +1,4 @@
+pub mod Bits
 pub mod Filters
 pub mod Numbers
 pub mod Frames

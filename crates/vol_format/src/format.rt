@@ -1,14 +1,15 @@
 // The trait of formats.
 use crate::{Holder, Link};
-use a2_device::{Device, Part, WalkError};
+use a2_device::Device;
+use vol_parts::{Part, WalkError};
 
 /// A format of volumes. It says what a volume's units mean; each reader is exact over the directory that `volume` read.
 pub trait Format {
     ghost use Rattle.std.specs.Prelude.{◌≡◌, ◌<◌, true, false, length, slice_get, IsTrue, IfOk, IfErr, IfSome, IfNone, List, ℕ};
     ghost use Rattle.a2_device.specs.Device.{OnlyReads};
     ghost use Rattle.a2_device.specs.Reading.{met_device};
-    ghost use Rattle.a2_device.specs.declared.fault.Fault.{Fault};
-    ghost use Rattle.a2_device.specs.declared.fault.WalkError.TheVariants.{Fault as AFault};
+    ghost use Rattle.vol_parts.specs.declared.fault.Fault.{Fault};
+    ghost use Rattle.vol_parts.specs.declared.fault.WalkError.TheVariants.{Fault as AFault};
     ghost use Rattle.vol_format.specs.Directory.{Directory, entries, entry_of, root_of, is_system, is_free};
     ghost use Rattle.vol_format.specs.Meaning.{Meaning};
     ghost use Rattle.vol_format.specs.Laws.{IsReadable, IsDirectory};

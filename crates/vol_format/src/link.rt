@@ -1,5 +1,5 @@
 // What pointers name, and where they stand.
-use a2_device::Part;
+use vol_parts::Part;
 
 /// What a pointer names.
 #[derive(Clone, Copy, Debug, PartialEq, Eq)]

@@ -1,13 +1,13 @@
 // The trait of formats that are written.
 use crate::{Format, Holder};
-use a2_device::Part;
-use part_layout::Layout;
 use std::alloc::Allocator;
+use vol_layout::Layout;
+use vol_parts::Part;
 
 /// A format whose pointers and marks can be written, so that parts can be moved.
 pub trait WritableFormat: Format {
     ghost use Rattle.std.specs.Prelude.{◌≡◌, ◌<◌, true, false, length, All, List, ℕ};
-    ghost use Rattle.a2_device.specs.declared.part.Part.{Part};
+    ghost use Rattle.vol_parts.specs.declared.part.Part.{Part};
     ghost use Rattle.vol_format.specs.Accepted.{IsAccepted};
     ghost use Rattle.vol_format.specs.Directory.{Directory, entries, map_place, IsSameFrame};
     ghost use Rattle.vol_format.specs.Holding.{IsHolder, with_slot};

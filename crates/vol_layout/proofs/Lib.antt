@@ -1,2 +1,9 @@
-pub mod Readers
-pub mod Holders
+pub mod Lists
+pub mod RingLemmas
+pub mod RingPaths
+pub mod LowerBound
+pub mod Deficits
+pub mod Existence
+pub mod PlanLemmas
+pub mod ShortestPlans
+mod TableLemmas

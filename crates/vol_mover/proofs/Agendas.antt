@@ -1,11 +1,11 @@
 -- The write that an agenda shows, and the first of its tasks.
 use Rattle.std.specs.Prelude.{◌≡◌, ℕ, List, [], ◌∷◌, Some}
 use Rattle.std.proofs.Common.{refl, ap}
-use Rattle.part_layout.specs.declared.moves.Move.{Move}
-use Rattle.move_agenda.specs.Agenda.{next_write, next_marks}
-use Rattle.move_agenda.specs.Tasks.{Task, Map, Copy, Pointer}
-use Rattle.move_agenda.specs.declared.write.Write.{Write}
-use Rattle.move_agenda.specs.declared.write.Write.TheVariants.{Map as MapWrite, Copy as CopyWrite, Pointer as PointerWrite}
+use Rattle.vol_layout.specs.declared.moves.Move.{Move}
+use Rattle.plan_writes.specs.Agenda.{next_write, next_marks}
+use Rattle.plan_writes.specs.Tasks.{Task, Map, Copy, Pointer}
+use Rattle.plan_writes.specs.declared.write.Write.{Write}
+use Rattle.plan_writes.specs.declared.write.Write.TheVariants.{Map as MapWrite, Copy as CopyWrite, Pointer as PointerWrite}
 
 -- the write of a task
 abbrev pub write_of : Task → Write

@@ -3,9 +3,9 @@ use Rattle.std.specs.Prelude.{◌≡◌, ◌⊎◌, ◌↔◌, ◌<◌, ◌≤�
 use Rattle.std.proofs.Common.{refl, sym, ◌∙◌, ap, subst, arith}
 use Rattle.std.proofs.lemmas.List.{get_or_default}
 use Rattle.a2_device.specs.Device.{DeviceState, OnlyReads}
-use Rattle.part_layout.specs.Layouts.{Placement, IsLayout, IsTarget}
-use Rattle.part_layout.specs.Plans.{IsPlan, after}
-use Rattle.part_layout.specs.Rings.{IsDeficit}
+use Rattle.vol_layout.specs.Layouts.{Placement, IsLayout, IsTarget}
+use Rattle.vol_layout.specs.Plans.{IsPlan, after}
+use Rattle.vol_layout.specs.Rings.{IsDeficit}
 use Rattle.move_plan.specs.declared.answer.Plan.{Plan}
 use Rattle.vol_format.specs.Accepted.{IsAccepted}
 use Rattle.vol_format.specs.Directory.{Directory}
@@ -16,8 +16,8 @@ use Rattle.vol_format.specs.Standing.{IsLost}
 use Rattle.vol_check.specs.Told.{Told, IsToldOf}
 use Rattle.vol_opening.specs.Opening.{IsPlanOf, IsAllowed}
 use Rattle.vol_opening.specs.declared.opening.Options.{Options}
-use Rattle.move_agenda.specs.Tasks.{Task, IsAgenda, at_first, moves_of}
-use Rattle.move_agenda.specs.Work.{IsWork}
+use Rattle.plan_writes.specs.Tasks.{Task, IsAgenda, at_first, moves_of}
+use Rattle.plan_writes.specs.Work.{IsWork}
 use Rattle.vol_mover.specs.Begun.{IsBegun, TakesWrites}
 use Rattle.vol_mover.specs.Open.{IsOpen}
 use Rattle.vol_mover.specs.Present.{Present, IsSession}

@@ -2,14 +2,14 @@
 use Rattle.std.specs.Prelude.{◌≡◌, ◌≢◌, ◌≤◌, ℕ, ◌+◌, ◌*◌, ◌==◌, not, max, List, [], ◌∷◌, length, slice_index, slice_index_or, Contains, Any}
 use Rattle.std.proofs.Common.{refl, ap, arith}
 use Rattle.std.proofs.lemmas.List.FromFn.{length-range_with_len}
-use Rattle.part_layout.specs.Layouts.{misplaced, targets, holes}
-use Rattle.part_layout.specs.Plans.{starts}
-use Rattle.part_layout.specs.Rings.{IsRing, AreAllRings, IsDeficit}
-use Rattle.part_layout.specs.declared.moves.Move.{Move}
-use Rattle.part_layout.proofs.Deficits.{misplaced_all, length_partners, deficit_is_one}
-use Rattle.part_layout.proofs.LowerBound.{apart_from_once}
-use Rattle.part_layout.proofs.RingLemmas.{ring_misplaced}
-use Rattle.move_agenda.specs.Work.{IsWork}
+use Rattle.vol_layout.specs.Layouts.{misplaced, targets, holes}
+use Rattle.vol_layout.specs.Plans.{starts}
+use Rattle.vol_layout.specs.Rings.{IsRing, AreAllRings, IsDeficit}
+use Rattle.vol_layout.specs.declared.moves.Move.{Move}
+use Rattle.vol_layout.proofs.Deficits.{misplaced_all, length_partners, deficit_is_one}
+use Rattle.vol_layout.proofs.LowerBound.{apart_from_once}
+use Rattle.vol_layout.proofs.RingLemmas.{ring_misplaced}
+use Rattle.plan_writes.specs.Work.{IsWork}
 use Rattle.vol_mover.specs.Begun.{TakesWrites}
 use Rattle.vol_mover.proofs.FewTasks.{filter_fewer}
 

@@ -3,12 +3,12 @@ use Rattle.std.specs.Prelude.{◌≤◌, ◌==◌, ℕ, ◌+◌, ◌*◌, Bool, 
 use Rattle.std.proofs.Common.{refl, arith}
 use Rattle.std.proofs.lemmas.List.{length-append}
 use Rattle.std.proofs.lemmas.List.Filters.{length-filter_both}
-use Rattle.part_layout.specs.Plans.{moved}
-use Rattle.part_layout.specs.declared.moves.Move.{Move}
+use Rattle.vol_layout.specs.Plans.{moved}
+use Rattle.vol_layout.specs.declared.moves.Move.{Move}
 use Rattle.vol_format.specs.Directory.{Directory, map_place}
-use Rattle.vol_moves.specs.declared.mark.Mark.{Mark}
-use Rattle.move_agenda.specs.Tasks.{Task, Map, Copy, Pointer, place_of}
-use Rattle.move_agenda.specs.Writes.{with_mark, freed, releases, outside, change, changes_between, writes_after, writes_of}
+use Rattle.write_laws.specs.declared.mark.Mark.{Mark}
+use Rattle.plan_writes.specs.Tasks.{Task, Map, Copy, Pointer, place_of}
+use Rattle.plan_writes.specs.Writes.{with_mark, freed, releases, outside, change, changes_between, writes_after, writes_of}
 
 pub filter_fewer : (p : ℕ → Bool) (xs : List ℕ) → length (filter p xs) ≤ length xs
 filter_fewer p xs = omega (arith, length-filter_both p (λ x. not (p x)) (λ x. refl) xs)

@@ -1,13 +1,13 @@
 -- What a step leaves on the device.
 use Rattle.std.specs.Prelude.{◌⊎◌, ◌≡◌, ◌≤◌, ℕ, ◌+◌, List, [], ◌∷◌, length, slice_set}
 use Rattle.std.proofs.Common.{refl, sym, subst, arith, inl, inr}
-use Rattle.part_layout.specs.Plans.{moved}
-use Rattle.part_layout.specs.Rings.{IsDeficit}
-use Rattle.part_layout.specs.declared.moves.Move.{Move}
+use Rattle.vol_layout.specs.Plans.{moved}
+use Rattle.vol_layout.specs.Rings.{IsDeficit}
+use Rattle.vol_layout.specs.declared.moves.Move.{Move}
 use Rattle.vol_format.specs.Directory.{Directory}
 use Rattle.vol_format.specs.Laws.{IsReadable}
 use Rattle.vol_format.specs.Meaning.{Meaning}
-use Rattle.move_agenda.specs.Tasks.{Course, Task, Map, Copy, Pointer, IsFewLost, IsAgenda, course_after, moves_of}
+use Rattle.plan_writes.specs.Tasks.{Course, Task, Map, Copy, Pointer, IsFewLost, IsAgenda, course_after, moves_of}
 use Rattle.vol_mover.specs.Open.{IsOpen}
 use Rattle.vol_mover.specs.Present.{Present, IsSession, IsShortest}
 use Rattle.vol_mover.specs.Steps.{IsNextWrite, Leaves, MovesOne}

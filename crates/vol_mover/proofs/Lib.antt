@@ -10,11 +10,11 @@ pub mod Numbers
 pub mod Agendas
 pub mod Preparing
 pub mod Stepping
+pub mod Failures
 pub mod Running
 pub mod FewTasks
 pub mod Deficits
 pub mod Beginning
 pub mod Begins
 pub mod Reporting
-pub mod Resumes
 pub mod Fields

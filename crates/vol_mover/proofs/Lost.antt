@@ -4,13 +4,13 @@ use Rattle.std.proofs.Common.{sym, ◌∙◌, ap, subst, arith, inl, inr}
 use Rattle.std.proofs.lemmas.Bool.{cases_eq}
 use Rattle.std.proofs.lemmas.Bool.Decides.{nat_tests}
 use Rattle.std.proofs.Math.ListN.{length-set}
-use Rattle.part_layout.proofs.Lists.{Contains-cons, Contains-cases}
+use Rattle.vol_layout.proofs.Lists.{Contains-cons, Contains-cases}
 use Rattle.vol_format.specs.Directory.{Directory, is_free, remapped}
 use Rattle.vol_format.proofs.Filters.{in_filter, out_of_filter}
-use Rattle.vol_moves.specs.Marked.{marked}
-use Rattle.vol_moves.specs.declared.mark.Mark.{Mark}
-use Rattle.vol_moves.proofs.Marks.{other_mark, marked_free, marked_used}
-use Rattle.move_agenda.specs.Tasks.{without, lost_after}
+use Rattle.write_laws.specs.Marked.{marked}
+use Rattle.write_laws.specs.declared.mark.Mark.{Mark}
+use Rattle.write_laws.proofs.Marks.{other_mark, marked_free, marked_used}
+use Rattle.plan_writes.specs.Tasks.{without, lost_after}
 
 not_same : (x place : ℕ) → not (x == place) ≡ true → x ≢ place
 not_same x place is = grind (arith, nat_tests)

@@ -2,10 +2,10 @@
 use Rattle.std.specs.Prelude.{◌≡◌, ◌≢◌, ◌⊎◌, ◌↔◌, ◌<◌, ℕ, List, [], ◌∷◌, length, slice_index, slice_set, Contains, Some}
 use Rattle.std.proofs.Common.{sym, ◌∙◌, ap, subst, arith, inl, inr}
 use Rattle.a2_device.specs.Device.{unit_at}
-use Rattle.a2_device.specs.declared.part.Part.{Part}
-use Rattle.part_layout.specs.Plans.{IsLegal, moved}
-use Rattle.part_layout.specs.declared.moves.Move.{Move}
-use Rattle.part_layout.proofs.Lists.{Contains-cases}
+use Rattle.vol_parts.specs.declared.part.Part.{Part}
+use Rattle.vol_layout.specs.Plans.{IsLegal, moved}
+use Rattle.vol_layout.specs.declared.moves.Move.{Move}
+use Rattle.vol_layout.proofs.Lists.{Contains-cases}
 use Rattle.vol_format.specs.Directory.{Directory}
 use Rattle.vol_format.specs.Holding.{IsHolder, with_slot}
 use Rattle.vol_format.specs.Laws.{IsReadable, IsMovable, IsWritable}
@@ -13,11 +13,11 @@ use Rattle.vol_format.specs.Meaning.{Meaning}
 use Rattle.vol_format.specs.Standing.{Stands, IsLost, part_now}
 use Rattle.vol_format.specs.declared.link.Holder.{Holder}
 use Rattle.vol_format.proofs.Frames.{same_available, same_places}
-use Rattle.vol_moves.specs.Moved.{IsReady, HasMoved, pointed, pointed_store}
-use Rattle.vol_moves.proofs.Losing.{left_lost}
-use Rattle.vol_moves.proofs.Moves.{part_moved, part_stands}
-use Rattle.vol_moves.proofs.SystemUnits.{pointer_system}
-use Rattle.move_agenda.specs.Tasks.{Course, Pointer, course_after, place_of}
+use Rattle.write_laws.specs.Moved.{IsReady, HasMoved, pointed, pointed_store}
+use Rattle.write_laws.proofs.Losing.{left_lost}
+use Rattle.write_laws.proofs.Moves.{part_moved, part_stands}
+use Rattle.write_laws.proofs.SystemUnits.{pointer_system}
+use Rattle.plan_writes.specs.Tasks.{Course, Pointer, course_after, place_of}
 use Rattle.vol_mover.specs.Open.{IsOpen}
 use Rattle.vol_mover.specs.Volume.{SameVolume}
 use Rattle.vol_mover.proofs.Volumes.{same_volume}

@@ -1,39 +1,45 @@
 -- The work of a session that was run, as an optimizer reports it.
-use Rattle.std.specs.Prelude.{◌≡◌, ◌≢◌, ◌⊎◌, ◌↔◌, ◌<◌, ◌≤◌, ℕ, ◌+◌, Bool, true, false, List, [], ◌∷◌, ◌++◌, length, take, min, Result, Ok, Err, IfOk, IfErr, IsTrue}
+use Rattle.std.specs.Prelude.{◌≡◌, ◌⊎◌, ◌↔◌, ◌<◌, ◌≤◌, ℕ, ◌+◌, Bool, true, false, List, [], ◌∷◌, ◌++◌, length, take, min, slice_set, Result, Ok, Err, IfOk, IfErr, IsTrue}
 use Rattle.std.proofs.Common.{refl, sym, ◌∙◌, ap, subst, arith, inl, inr, append_assoc}
 use Rattle.std.proofs.lemmas.List.{length-append}
 use Rattle.std.proofs.Math.Seq.{take-append_seam}
-use Rattle.a2_device.specs.Device.{DeviceState, IsSameDevice}
-use Rattle.part_layout.specs.Layouts.{misplaced}
-use Rattle.part_layout.specs.Plans.{after}
-use Rattle.part_layout.specs.Rings.{IsDeficit}
-use Rattle.part_layout.specs.declared.moves.Move.{Move}
+use Rattle.a2_device.specs.Device.{DeviceState, IsSameDevice, OnlyReads}
+use Rattle.vol_layout.specs.Layouts.{Placement, misplaced}
+use Rattle.vol_layout.specs.Plans.{after}
+use Rattle.vol_layout.specs.Rings.{IsDeficit}
+use Rattle.vol_layout.specs.declared.moves.Move.{Move}
 use Rattle.move_plan.specs.declared.answer.Plan.{Plan}
-use Rattle.ring_cert.specs.Certificates.{certificate_of, certificate_text}
+use Rattle.ring_cert.specs.Certificates.{HasText, certificate_of, certificate_text}
+use Rattle.ring_cert.specs.Good.{IsGood}
 use Rattle.vol_format.specs.Directory.{Directory}
 use Rattle.vol_format.specs.Laws.{IsReadable, IsDirectory}
 use Rattle.vol_format.specs.Meaning.{Meaning}
 use Rattle.vol_opening.specs.Opening.{IsPlanOf}
+use Rattle.vol_opening.specs.Refused.{is_device_error}
 use Rattle.vol_opening.specs.declared.opening.Options.{Options}
-use Rattle.move_agenda.specs.Tasks.{Course, Task, Map, Copy, Pointer, IsAgenda, IsFewLost, course_after, moves_of}
+use Rattle.plan_writes.specs.Tasks.{Course, Task, Map, Copy, Pointer, IsAgenda, IsFewLost, course_after, moves_of}
 use Rattle.vol_mover.specs.Begun.{IsBegun, start_of}
+use Rattle.vol_mover.specs.Failing.{CannotFail, FailsStep, WorksOn}
 use Rattle.vol_mover.specs.Open.{IsOpen}
-use Rattle.vol_mover.specs.Optimizing.{HasWorked, StopsWork, IsRefused}
+use Rattle.vol_mover.specs.Optimizing.{HasWorked, StopsWork, IsNoFailure, IsRefused}
 use Rattle.vol_mover.specs.Present.{Present, IsSession}
 use Rattle.vol_mover.specs.Report.{IsWorked, IsReported, IsStopped, course_of}
 use Rattle.vol_mover.specs.Runs.{IsRun, course_after_all, map_writes_of}
-use Rattle.vol_mover.specs.Steps.{IsStep, Leaves, StepsWrites}
+use Rattle.vol_mover.specs.Steps.{IsStep, Leaves}
 use Rattle.vol_mover.specs.Volume.{SameVolume}
 use Rattle.vol_mover.specs.declared.progress.StepError.{StepError}
 use Rattle.vol_mover.specs.declared.progress.StepError.TheVariants.{Closed, Read, Write}
 use Rattle.vol_mover.specs.declared.report.OptError.{OptError}
 use Rattle.vol_mover.specs.declared.report.OptError.TheVariants.{Open, Step, Memory}
 use Rattle.vol_mover.specs.declared.report.Report.{Report}
-use Rattle.part_layout.proofs.Lists.{length_distinct}
+use Rattle.ring_cert.proofs.TextLaws.{shortest_is_good}
+use Rattle.vol_layout.proofs.Lists.{length_distinct}
+use Rattle.vol_layout.proofs.LowerBound.{bound_of_deficit}
 use Rattle.vol_mover.proofs.Deficits.{few_claims}
+use Rattle.vol_mover.proofs.Failures.{no_failed_read, no_failed_write, works-none, works-reads, works-then}
 use Rattle.vol_mover.proofs.Left.{agenda_few}
 use Rattle.vol_mover.proofs.Running.{courses-append}
-use Rattle.vol_mover.proofs.Stepping.{same_then}
+use Rattle.vol_mover.proofs.Stepping.{reads_keep, same_then}
 use Rattle.vol_mover.proofs.Volumes.{same_volume-trans}
 
 -- where the parts stand after some writes
@@ -63,6 +69,16 @@ empty : (tasks : List Task) → length tasks ≡ 0 → tasks ≡ []
 empty [] e = refl
 empty (task ∷ tasks) e = absurd (omega (arith, e))
 
+-- the certificate of a plan
+good_certificate : {A : Type 0} (layout : Placement) (plan : Plan A) → IsPlanOf layout plan → HasText (certificate_of layout plan.misplaced.items plan.rings.items plan.moves.items)
+    → IsGood layout (certificate_of layout plan.misplaced.items plan.rings.items plan.moves.items)
+good_certificate layout plan planned = subst
+    (λ xs. HasText (certificate_of layout xs plan.rings.items plan.moves.items) → IsGood layout (certificate_of layout xs plan.rings.items plan.moves.items))
+    (sym planned.misplaced)
+    (λ has.
+    shortest_is_good layout plan.rings.items plan.moves.items (certificate_of layout (misplaced layout.at) plan.rings.items plan.moves.items) planned.legal planned.target
+    planned.deficit planned.rings has has refl)
+
 module _ (format : Meaning) (laws : IsReadable format) (options : Options) (old : DeviceState) (first : Present) (begun : IsBegun format options old first) where
   -- the device at first, where it is honest
   first_device : IsTrue old.honest → first.device ≡ old
@@ -85,7 +101,7 @@ module _ (format : Meaning) (laws : IsReadable format) (options : Options) (old 
     last_lost = ap (λ (p : Present). p.lost_at_first) run.only
 
     last_honest : IsTrue old.honest → IsTrue last.device.honest
-    last_honest honest = subst IsTrue (sym run.device.honest) (first_honest honest)
+    last_honest honest = subst IsTrue (sym run.works.device.honest) (first_honest honest)
 
     last_opened : last.closed ≡ false
     last_opened = ap (λ (p : Present). p.closed) run.only ∙ begun.opened
@@ -102,14 +118,15 @@ module _ (format : Meaning) (laws : IsReadable format) (options : Options) (old 
     same_now honest = subst (λ (d : DeviceState). SameVolume format d.store last.device.store) (first_device honest)
         (run.same (first_honest honest) begun.opened (start_of first) begun.session)
 
-    writes_now : IsTrue old.honest → last.device.writes ≡ old.writes + length made
-    writes_now honest = run.writes (first_honest honest) ∙ ap (λ (d : DeviceState). d.writes + length made) (first_device honest)
+    works_now : WorksOn old last.device (length made)
+    works_now = subst (WorksOn old last.device) (omega arith)
+        (works-then old first.device last.device 0 (length made) (works-reads old first.device begun.reads) run.works)
 
     worked : IsWorked format options old last.device first made last.tasks
     worked = record {
       begun = begun;
       tasks = run.tasks;
-      device = same_then old first.device last.device begun.reads.same run.device;
+      device = same_then old first.device last.device begun.reads.same run.works.device;
       stands = open_now;
       same = same_now;
       few = agenda_few first.opening first.lost_at_first (course_of first made) last.tasks agenda_now;
@@ -150,8 +167,9 @@ module _ (format : Meaning) (laws : IsReadable format) (options : Options) (old 
   pub reported : {A : Type 0} (limit : ℕ) (plan : Plan A) (text : List ℕ) (new : DeviceState) (report : Report A) → HasWorked format limit first plan text new report
       → IsPlanOf (record { at = first.at; places = first.places }) plan → moves_of first.tasks ≡ plan.moves.items
       → text ≡ certificate_text (certificate_of (record { at = first.at; places = first.places }) plan.misplaced.items plan.rings.items plan.moves.items)
+      → HasText (certificate_of (record { at = first.at; places = first.places }) plan.misplaced.items plan.rings.items plan.moves.items)
       → IsReported format options limit old new report
-  reported limit plan text new report has planned moves_is text_is =
+  reported limit plan text new report has planned moves_is text_is fits =
       let last = has.last in
       let made = has.made in
       let run = has.run in
@@ -169,10 +187,12 @@ module _ (format : Meaning) (laws : IsReadable format) (options : Options) (old 
         planned = planned;
         plan_moves = moves_is;
         cert = has.cert ∙ text_is;
+        good = good_certificate (record { at = first.at; places = first.places }) plan planned fits;
+        shortest = λ other legal end. bound_of_deficit first.at first.places (length plan.moves.items) other planned.deficit legal end;
         rings = has.rings;
         misplaced = has.misplaced;
         count = counted last made run limit has.within has.all;
-        writes = λ honest. ap (λ (d : DeviceState). d.writes) has.device ∙ writes_now last made run honest;
+        works = subst (λ d. WorksOn old d (length made)) (sym has.device) (works_now last made run);
         moves = count;
         map_writes = has.map_writes ∙ run.map_writes ∙ ap (λ n. n + map_writes_of made) no_map_writes ∙ omega arith;
         layout = courses_at first.opening (start_of first) made ∙ ap (after first.at) (sym front);
@@ -191,47 +211,67 @@ module _ (format : Meaning) (laws : IsReadable format) (options : Options) (old 
   -- a step failed after these writes
   module _ (limit : ℕ) (mid last : Present) (made : List Task) (run : IsRun format first mid made) (within : length made < limit) (error : StepError)
       (step : IsStep format mid last (Err error)) where
-    not_closed : error ≢ Closed
-    not_closed is =
-        let shut = step.closed.0 (ap (λ e. Err e) is) in
-        let opened = last_opened mid made run in
-        absurd (cc (shut, opened))
-
-    tried : IsTrue old.honest → last.device.writes ≤ old.writes + length made + 1
-    tried honest = by_error error (step.writes (last_honest mid made run honest))
-      where
-        by_error : (e : StepError) → StepsWrites (Err e) mid.device.writes last.device.writes → last.device.writes ≤ old.writes + length made + 1
-        by_error Closed same = omega (arith, same, writes_now mid made run honest)
-        by_error Read same = omega (arith, same, writes_now mid made run honest)
-        by_error Write more = omega (arith, more, writes_now mid made run honest)
-
     last_same : IsSameDevice old last.device
-    last_same = same_then old first.device last.device begun.reads.same (same_then first.device mid.device last.device run.device step.device)
+    last_same = same_then old first.device last.device begun.reads.same (same_then first.device mid.device last.device run.works.device step.device)
 
     abbrev Left : Type 0
     Left = IsStopped format options limit old last.device error
 
-    -- whatever the device: the writes that were made before
-    lying : (old.honest ≡ true → ⊥) → Left
-    lying dishonest = record {
+    -- what failed
+    fails : (e : StepError) → IsStep format mid last (Err e) → FailsStep format first (course_of first made) e mid.device last.device
+    fails Closed shut = let closed = shut.closed.0 refl in let opened = last_opened mid made run in absurd (cc (closed, opened))
+    fails Read unread = unread.read refl
+    fails Write unwritten = (
+      unwritten.faults,
+      λ honest.
+          let at = unwritten.refused honest refl (course_of first made) (session_now mid made run) in
+          let next = at.2 in
+          record {
+            task = next.task;
+            place = at.0;
+            unit = at.1;
+            next = subst (λ d. IsOpen format d (slice_set mid.device.store at.0 at.1) first.parts (course_after d (course_of first made) next.task)) (last_opening mid made run)
+                (subst (λ parts. IsOpen format mid.opening (slice_set mid.device.store at.0 at.1) parts (course_after mid.opening (course_of first made) next.task))
+                (last_parts mid made run) next.is_open);
+            refused = at.3;
+          },
+    )
+
+    -- whatever stands, and whatever the device: with these writes made, and these left
+    stopped_at : (done more : List Task) → first.tasks ≡ done ++ more → IsFewLost (length first.opening.map_units) first.lost_at_first (course_of first done) more
+        → (IsTrue old.honest → IsOpen format first.opening last.device.store first.parts (course_of first done)) → (IsTrue old.honest → SameVolume format old.store last.device.store)
+        → (done ≡ made) ⊎ ((error ≡ Write) × (task : Task) × (done ≡ made ++ task ∷ [])) → Left
+    stopped_at done more tasks few is_open same stands = record {
       first = first;
-      made = made;
-      left = mid.tasks;
+      before = made;
+      mid = mid.device;
+      works = works_now mid made run;
+      within = within;
+      fails = fails error step;
+      made = done;
+      left = more;
       worked = record {
         begun = begun;
-        tasks = run.tasks;
+        tasks = tasks;
         device = last_same;
-        stands = λ honest. absurd (dishonest honest);
-        same = λ honest. absurd (dishonest honest);
-        few = agenda_few first.opening first.lost_at_first (course_of first made) mid.tasks (agenda_now mid made run);
-        layout = courses_at first.opening (start_of first) made;
+        stands = is_open;
+        same = same;
+        few = few;
+        layout = courses_at first.opening (start_of first) done;
       };
-      within = omega (arith, within);
-      writes = tried;
-      failed = not_closed;
+      stands = stands;
     }
 
-    module _ (honest : IsTrue old.honest) where
+    few_now : IsFewLost (length first.opening.map_units) first.lost_at_first (course_of first made) mid.tasks
+    few_now = agenda_few first.opening first.lost_at_first (course_of first made) mid.tasks (agenda_now mid made run)
+
+    -- the store is the one before the step
+    kept : (IsTrue old.honest → last.device.store ≡ mid.device.store) → Left
+    kept store = stopped_at made mid.tasks run.tasks few_now
+        (λ honest. subst (λ s. IsOpen format first.opening s first.parts (course_of first made)) (sym (store honest)) (open_now mid made run honest))
+        (λ honest. subst (λ s. SameVolume format old.store s) (sym (store honest)) (same_now mid made run honest)) (inl refl)
+
+    module _ (is_write : error ≡ Write) (honest : IsTrue old.honest) where
       left : Leaves format mid (course_of first made) last.device.store
       left = step.leaves (last_honest mid made run honest) (last_opened mid made run) (course_of first made) (session_now mid made run)
 
@@ -241,48 +281,75 @@ module _ (format : Meaning) (laws : IsReadable format) (options : Options) (old 
           same_volume-trans format laws old.store mid.device.store last.device.store opened.directory opened.accepted.described (same_now mid made run honest) left.same
 
       -- with these writes and one more, or without
-      stopped_at : (done more : List Task) → left.now ≡ course_of first done → first.tasks ≡ done ++ more → left.tasks ≡ more → length made ≤ length done → length done ≤ limit → Left
-      stopped_at done more now tasks rest least most = record {
-        first = first;
-        made = done;
-        left = more;
-        worked = record {
-          begun = begun;
-          tasks = tasks;
-          device = last_same;
-          stands = λ _.
-              subst (IsOpen format first.opening last.device.store first.parts) now
-              (subst (λ d. IsOpen format d last.device.store first.parts left.now) (last_opening mid made run)
-              (subst (λ parts. IsOpen format mid.opening last.device.store parts left.now) (last_parts mid made run) left.is_open));
-          same = λ _. same_left;
-          few = subst (IsFewLost (length first.opening.map_units) first.lost_at_first (course_of first done)) rest
-              (subst (λ course. IsFewLost (length first.opening.map_units) first.lost_at_first course left.tasks) now
-              (subst (λ (d : Directory). IsFewLost (length d.map_units) first.lost_at_first left.now left.tasks) (last_opening mid made run)
-              (subst (λ n. IsFewLost (length mid.opening.map_units) n left.now left.tasks) (last_lost mid made run) left.few)));
-          layout = courses_at first.opening (start_of first) done;
-        };
-        within = most;
-        writes = λ h. omega (arith, tried h, least);
-        failed = not_closed;
-      }
+      reached_at : (done more : List Task) → left.now ≡ course_of first done → first.tasks ≡ done ++ more → left.tasks ≡ more
+          → (done ≡ made) ⊎ ((error ≡ Write) × (task : Task) × (done ≡ made ++ task ∷ [])) → Left
+      reached_at done more now tasks rest stands = stopped_at done more tasks
+          (subst (IsFewLost (length first.opening.map_units) first.lost_at_first (course_of first done)) rest
+          (subst (λ course. IsFewLost (length first.opening.map_units) first.lost_at_first course left.tasks) now
+          (subst (λ (d : Directory). IsFewLost (length d.map_units) first.lost_at_first left.now left.tasks) (last_opening mid made run)
+          (subst (λ n. IsFewLost (length mid.opening.map_units) n left.now left.tasks) (last_lost mid made run) left.few))))
+          (λ _.
+          subst (IsOpen format first.opening last.device.store first.parts) now
+          (subst (λ d. IsOpen format d last.device.store first.parts left.now) (last_opening mid made run)
+          (subst (λ parts. IsOpen format mid.opening last.device.store parts left.now) (last_parts mid made run) left.is_open)))
+          (λ _. same_left) stands
 
-      truthful : Left
-      truthful = elim left.reached [
-        | inl same ↦ stopped_at made mid.tasks same.0 run.tasks same.1 (omega arith) (omega (arith, within))
+      unwritten : Left
+      unwritten = elim left.reached [
+        | inl same ↦ reached_at made mid.tasks same.0 run.tasks same.1 (inl refl)
         | inr next ↦
             let task = next.0 in
-            stopped_at (made ++ task ∷ []) left.tasks
+            reached_at (made ++ task ∷ []) left.tasks
             (next.2 ∙ ap (λ d. course_after d (course_of first made) task) (last_opening mid made run) ∙ sym (courses-append first.opening (start_of first) made task))
-            (run.tasks ∙ ap (λ (tasks : List Task). made ++ tasks) next.1 ∙ sym (append_assoc made (task ∷ []) left.tasks)) refl
-            (omega (arith, length-append made (task ∷ []))) (omega (arith, within, length-append made (task ∷ [])))
+            (run.tasks ∙ ap (λ (tasks : List Task). made ++ tasks) next.1 ∙ sym (append_assoc made (task ∷ []) left.tasks)) refl (inr (is_write, task, refl))
       ]
 
     pub stopped : IsStopped format options limit old last.device error
-    stopped = by_honest old.honest refl
+    stopped = by_error error refl
       where
-        by_honest : (honest : Bool) → old.honest ≡ honest → Left
-        by_honest true is = truthful is
-        by_honest false is = lying (λ honest. absurd (cc (honest, is)))
+        by_honest : error ≡ Write → (honest : Bool) → old.honest ≡ honest → Left
+        by_honest is true truthful = unwritten is truthful
+        by_honest is false lying = kept (λ honest. absurd (cc (honest, lying)))
+
+        by_error : (e : StepError) → error ≡ e → Left
+        by_error Closed is = kept (λ honest. ap (λ (p : Present). p.device.store) (step.still (inl (ap (λ e. Err e) is))))
+        by_error Read is = kept (λ honest. (reads_keep true mid.device last.device (step.read (ap (λ e. Err e) is)) (last_honest mid made run honest)).0)
+        by_error Write is = by_honest is old.honest refl
+
+-- Where nothing can fail, no step does.
+pub no_stop : (format : Meaning) (options : Options) (limit : ℕ) (old new : DeviceState) (error : StepError) → CannotFail old → IsStopped format options limit old new error → ⊥
+no_stop format options limit old new error sound stopped = by_error error stopped.fails
+  where
+    at_most : length stopped.before ≤ length stopped.made
+    at_most = elim stopped.stands [
+      | inl same ↦ let count : length stopped.made ≡ length stopped.before = ap (λ (tasks : List Task). length tasks) same in omega (arith, count)
+      | inr more ↦
+          let count : length stopped.made ≡ length (stopped.before ++ more.1 ∷ []) = ap (λ (tasks : List Task). length tasks) more.2 in
+          omega (arith, count, length-append stopped.before (more.1 ∷ []))
+    ]
+
+    few : length stopped.before < 4294967296
+    few =
+        let count : length stopped.first.tasks ≡ length (stopped.made ++ stopped.left) = ap (λ (tasks : List Task). length tasks) stopped.worked.tasks in
+        omega (arith, at_most, count, length-append stopped.made stopped.left, stopped.worked.begun.session.counted)
+
+    by_error : (e : StepError) → FailsStep format stopped.first (course_of stopped.first stopped.before) e stopped.mid new → ⊥
+    by_error Closed none = none
+    by_error Read reads = no_failed_read old sound stopped.mid (length stopped.before) few stopped.works new reads
+    by_error Write (told, at) =
+        let failed = at (subst IsTrue (sym stopped.works.device.honest) sound.honest) in
+        no_failed_write old sound stopped.mid (length stopped.before) few stopped.works failed.place failed.unit new failed.refused
+
+-- Where nothing can fail, no error tells a failure.
+pub no_failure : {A : Type 0} (format : Meaning) (options : Options) (limit : ℕ) (old new : DeviceState) (error : OptError A) → CannotFail old
+    → IsRefused format options limit old new error → IsNoFailure error
+no_failure format options limit old new (Open error) sound refused = by_failed (is_device_error {T = Unit {0}} (Err error)) refl refused.0
+  where
+    by_failed : (failed : Bool) → is_device_error {T = Unit {0}} (Err error) ≡ failed → OnlyReads failed old new → is_device_error {T = Unit {0}} (Err error) ≡ false
+    by_failed true is reads = absurd (no_failed_read old sound old 0 (omega arith) (works-none old) new reads)
+    by_failed false is reads = is
+no_failure format options limit old new (Step error) sound stopped = no_stop format options limit old new error sound stopped
+no_failure format options limit old new Memory sound refused = tt
 
 -- the numbers that a certificate tells are small
 pub small_claims : {A : Type 0} (format : Meaning) (options : Options) (old : DeviceState) (first : Present) → IsBegun format options old first → IsDirectory format first.opening

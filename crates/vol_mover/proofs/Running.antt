@@ -1,18 +1,20 @@
 -- Steps one after the other.
-use Rattle.std.specs.Prelude.{◌≡◌, ℕ, ◌+◌, false, List, [], ◌∷◌, ◌++◌, Ok, IsTrue}
+use Rattle.std.specs.Prelude.{◌≡◌, ℕ, ◌+◌, false, List, [], ◌∷◌, ◌++◌, length, Ok, IsTrue}
 use Rattle.std.proofs.Common.{refl, sym, ◌∙◌, ap, subst, arith, append_assoc}
 use Rattle.std.proofs.lemmas.List.{length-append}
-use Rattle.a2_device.specs.Device.{DeviceState}
+use Rattle.a2_device.specs.Device.{DeviceState, written}
 use Rattle.vol_format.specs.Directory.{Directory}
 use Rattle.vol_format.specs.Laws.{IsReadable}
 use Rattle.vol_format.specs.Meaning.{Meaning}
-use Rattle.move_agenda.specs.Tasks.{Course, Task, Map, Copy, Pointer, course_after}
+use Rattle.plan_writes.specs.Tasks.{Course, Task, Map, Copy, Pointer, course_after}
+use Rattle.vol_mover.specs.Failing.{WorksOn}
 use Rattle.vol_mover.specs.Present.{Present, IsSession}
 use Rattle.vol_mover.specs.Runs.{course_after_all, map_writes_of, IsRun}
 use Rattle.vol_mover.specs.Steps.{IsStep, advanced}
 use Rattle.vol_mover.specs.declared.progress.Progress.TheVariants.{Wrote as HasWritten}
 use Rattle.vol_mover.specs.declared.progress.Wrote.{Wrote}
-use Rattle.vol_mover.proofs.Stepping.{same_device, same_then, first_task}
+use Rattle.vol_mover.proofs.Failures.{works-none, works-one, works-then}
+use Rattle.vol_mover.proofs.Stepping.{first_task}
 use Rattle.vol_mover.proofs.Volumes.{same_volume-refl, same_volume-trans}
 
 pub courses-append : (directory : Directory) (course : Course) (made : List Task) (task : Task)
@@ -28,12 +30,11 @@ map_writes-append (Pointer move ∷ made) task = map_writes-append made task
 
 pub nothing_run : (format : Meaning) → IsReadable format → (old : Present) → IsRun format old old []
 nothing_run format laws old = record {
-  device = same_device old.device;
+  works = works-none old.device;
   tasks = refl;
   only = refl;
   map_writes = omega arith;
   session = λ course session. session;
-  writes = λ honest. omega arith;
   same = λ honest opened course session. same_volume-refl format laws old.device.store;
 }
 
@@ -70,7 +71,7 @@ module _ (format : Meaning) (laws : IsReadable format) (old mid new : Present) (
   one_opening = ap (λ (p : Present). p.opening) run.only
 
   still_honest : IsTrue old.device.honest → IsTrue mid.device.honest
-  still_honest honest = subst IsTrue (sym run.device.honest) honest
+  still_honest honest = subst IsTrue (sym run.works.device.honest) honest
 
   -- the write that was made
   pub run_on : (task : Task) × IsRun format old new (made ++ task ∷ [])
@@ -84,12 +85,12 @@ module _ (format : Meaning) (laws : IsReadable format) (old mid new : Present) (
       ap (λ (p : Present). p.map_writes) only ∙ advanced_map_writes mid new.device new.unit rest task in (
         task,
         record {
-          device = same_then old.device mid.device new.device run.device step.device;
+          works = subst (WorksOn old.device new.device) (sym (length-append made (task ∷ [])))
+              (works-then old.device mid.device new.device (length made) 1 run.works (works-one mid.device new.device step.device step.faults wrote));
           tasks = run.tasks ∙ ap (λ (t : List Task). made ++ t) goes.2 ∙ sym (append_assoc made (task ∷ []) rest) ∙ ap (λ (t : List Task). (made ++ task ∷ []) ++ t) (sym tasks);
           only = advanced_then old mid new run.only (by_task task rest only);
           map_writes = omega (arith, count, run.map_writes, map_writes-append made task);
           session = λ course is. after course is task rest goes.2;
-          writes = λ honest. let more = step.writes (still_honest honest) in omega (arith, more, run.writes honest, length-append made (task ∷ []));
           same = λ honest opened course is.
               let closed : mid.closed ≡ false = ap (λ (p : Present). p.closed) run.only ∙ opened in
               let left = step.leaves (still_honest honest) closed (course_after_all old.opening course made) (run.session course is) in
@@ -99,6 +100,11 @@ module _ (format : Meaning) (laws : IsReadable format) (old mid new : Present) (
         },
       )
     where
+      wrote : IsTrue mid.device.honest → (place : ℕ) × (unit : List ℕ) × (new.device ≡ written place unit mid.device)
+      wrote honest =
+          let made_it = step.wrote honest kind refl (course_after_all old.opening start made) (run.session start session) in
+          (made_it.0, made_it.1, made_it.3)
+
       by_task : (task : Task) (rest : List Task) → new ≡ record (advanced mid task rest) { device = new.device; unit = new.unit } → IsAdvanced mid new
       by_task task rest only = subst (IsAdvanced mid) (sym only) (is_advanced mid new.device new.unit rest task)
 

@@ -3,12 +3,12 @@ use Rattle.std.specs.Prelude.{◌≡◌, ◌<◌, ℕ, ◌+◌, true, false, Lis
 use Rattle.std.proofs.Common.{sym, ◌∙◌, ap, subst, arith}
 use Rattle.std.proofs.lemmas.List.{length-set}
 use Rattle.a2_device.specs.Device.{DeviceState, IsSameDevice}
-use Rattle.part_layout.specs.Plans.{moved}
-use Rattle.part_layout.specs.declared.moves.Move.{Move}
-use Rattle.part_layout.proofs.PlanLemmas.{IsLayout-moved}
-use Rattle.part_layout.proofs.ShortestPlans.{rest_is_shortest}
+use Rattle.vol_layout.specs.Plans.{moved}
+use Rattle.vol_layout.specs.declared.moves.Move.{Move}
+use Rattle.vol_layout.proofs.PlanLemmas.{IsLayout-moved}
+use Rattle.vol_layout.proofs.ShortestPlans.{rest_is_shortest}
 use Rattle.vol_format.specs.Meaning.{Meaning}
-use Rattle.move_agenda.specs.Tasks.{Course, Task, Map, Copy, Pointer, course_after, moves_of}
+use Rattle.plan_writes.specs.Tasks.{Course, Task, Map, Copy, Pointer, course_after, moves_of}
 use Rattle.vol_mover.specs.Open.{IsOpen}
 use Rattle.vol_mover.specs.Present.{Present, IsSession, IsShortest, copies}
 use Rattle.vol_mover.specs.Resuming.{CanResume}

@@ -4,8 +4,8 @@ use Rattle.std.proofs.Common.{refl, sym, ◌∙◌, ap, subst, arith, inl, inr}
 use Rattle.a2_device.specs.Device.{DeviceState, IsSameDevice, OnlyReads, FailsRead, written, counted}
 use Rattle.vol_format.specs.Laws.{IsReadable}
 use Rattle.vol_format.specs.Meaning.{Meaning}
-use Rattle.move_agenda.specs.Agenda.{next_write}
-use Rattle.move_agenda.specs.Tasks.{Course, Task, Map, Copy, Pointer, course_after}
+use Rattle.plan_writes.specs.Agenda.{next_write}
+use Rattle.plan_writes.specs.Tasks.{Course, Task, Map, Copy, Pointer, IsAgenda, course_after}
 use Rattle.vol_mover.specs.Open.{IsOpen}
 use Rattle.vol_mover.specs.Present.{Present, IsSession}
 use Rattle.vol_mover.specs.Steps.{IsNextWrite, IsStep, RefusesWrite, StepsLayout, advanced, kind_of}
@@ -44,6 +44,7 @@ module _ (format : Meaning) (laws : IsReadable format) (old : Present) where
     closed = (λ e. closed, λ e. refl);
     done = (λ e. absurd (cc), λ both. let opened = both.0 in absurd (cc (closed, opened)));
     still = λ either. refl;
+    all_done = λ e. absurd (cc);
     read = λ e. absurd (cc);
     goes_on = λ course session. (refl, session);
     layout = refl;
@@ -60,6 +61,7 @@ module _ (format : Meaning) (laws : IsReadable format) (old : Present) where
     closed = (λ e. absurd (cc), λ closed. absurd (cc (closed, opened)));
     done = (λ e. (opened, nothing_left old.tasks none), λ both. refl);
     still = λ either. refl;
+    all_done = λ e course session. subst (IsAgenda old.opening old.lost_at_first course) (nothing_left old.tasks none) session.agenda;
     read = λ e. absurd (cc);
     goes_on = λ course session. (refl, session);
     layout = refl;
@@ -119,6 +121,7 @@ module _ (format : Meaning) (laws : IsReadable format) (old : Present) (opened :
       | inl e ↦ absurd (cc)
       | inr e ↦ absurd (cc)
     ];
+    all_done = λ e. absurd (cc);
     read = λ e. reads;
     goes_on = λ course session. (refl, read_session format old course session device unit reads.same size (λ honest. (reads_keep true old.device device reads honest).0));
     layout = refl;
@@ -142,6 +145,7 @@ module _ (format : Meaning) (laws : IsReadable format) (old : Present) (opened :
         | inl e ↦ absurd (cc)
         | inr e ↦ absurd (cc)
       ];
+      all_done = λ e. absurd (cc);
       read = λ e. absurd (cc);
       goes_on = λ course session. (refl, closed_session format old course session device unit same size);
       layout = refl;
@@ -173,6 +177,7 @@ module _ (format : Meaning) (laws : IsReadable format) (old : Present) (opened :
         | inl e ↦ absurd (cc)
         | inr e ↦ absurd (cc)
       ];
+      all_done = λ e. absurd (cc);
       read = λ e. absurd (cc);
       goes_on = λ course session. (
         task,

@@ -1,15 +1,15 @@
 -- A session that was opened and has made nothing yet.
 use Rattle.std.specs.Prelude.{◌≡◌, ◌≢◌, ◌⊎◌, ◌≤◌, ℕ, ◌+◌, ◌*◌, true, false, List, [], length, max, IsTrue}
 use Rattle.a2_device.specs.Device.{DeviceState, OnlyReads}
-use Rattle.part_layout.specs.Layouts.{misplaced, holes}
-use Rattle.part_layout.specs.Rings.{IsDeficit}
+use Rattle.vol_layout.specs.Layouts.{misplaced, holes}
+use Rattle.vol_layout.specs.Rings.{IsDeficit}
 use Rattle.move_plan.specs.Planning.{LacksFreePlace}
 use Rattle.vol_format.specs.Accepted.{IsAccepted}
 use Rattle.vol_format.specs.Meaning.{Meaning}
 use Rattle.vol_format.specs.Reach.{IsPartsOf}
 use Rattle.vol_format.specs.Standing.{layout_of, lost_places}
 use Rattle.vol_opening.specs.declared.opening.Options.{Options}
-use Rattle.move_agenda.specs.Tasks.{Course, at_first}
+use Rattle.plan_writes.specs.Tasks.{Course, at_first}
 use Rattle.vol_mover.specs.Present.{Present, IsSession}
 
 -- How many writes bring the parts of a layout home and mark the lost places free. Where some part is misplaced: two a move, one before each hole run, or before the

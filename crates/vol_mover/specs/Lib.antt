@@ -2,6 +2,7 @@ pub mod Volume
 pub mod Open
 pub mod Present
 pub mod Steps
+pub mod Failing
 pub mod Resuming
 pub mod Runs
 pub mod Shown

@@ -1,11 +1,11 @@
 -- How an optimizer ends.
-use Rattle.std.specs.Prelude.{◌≡◌, ◌⊎◌, ◌↔◌, ◌<◌, ◌≤◌, ℕ, List, [], length, Err, IsTrue}
+use Rattle.std.specs.Prelude.{◌≡◌, ◌⊎◌, ◌↔◌, ◌<◌, ◌≤◌, ℕ, false, List, [], length, Err, IsTrue}
 use Rattle.a2_device.specs.Device.{DeviceState, OnlyReads}
 use Rattle.move_plan.specs.declared.answer.Plan.{Plan}
 use Rattle.vol_format.specs.Meaning.{Meaning}
 use Rattle.vol_opening.specs.Refused.{is_device_error, IsRefusal}
 use Rattle.vol_opening.specs.declared.opening.Options.{Options}
-use Rattle.move_agenda.specs.Tasks.{Task}
+use Rattle.plan_writes.specs.Tasks.{Task}
 use Rattle.vol_mover.specs.Begun.{IsBegun}
 use Rattle.vol_mover.specs.Present.{Present}
 use Rattle.vol_mover.specs.Report.{IsStopped}
@@ -36,6 +36,12 @@ StopsWork format limit first device (Step error) =
     (made : List Task) × (mid : Present) × (last : Present) × IsRun format first mid made × (length made < limit) × IsStep format mid last (Err error)
     × (device ≡ last.device)
 StopsWork format limit first device error = ⊥
+
+-- an error of which no device is the cause
+abbrev pub IsNoFailure : {A : Type 0} → OptError A → Type 0
+IsNoFailure (Open error) = is_device_error {T = Unit {0}} (Err error) ≡ false
+IsNoFailure (Step error) = ⊥
+IsNoFailure Memory = Unit {0}
 
 -- The volume was not opened; or there was no room for the certificate, and the volume was opened, but nothing written; or a step failed.
 abbrev pub IsRefused : {A : Type 0} → Meaning → Options → ℕ → DeviceState → DeviceState → OptError A → Type 0

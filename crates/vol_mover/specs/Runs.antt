@@ -1,9 +1,9 @@
 -- Steps one after the other.
 use Rattle.std.specs.Prelude.{◌≡◌, ◌⊎◌, ◌<◌, ◌≤◌, ℕ, ◌+◌, false, List, [], ◌∷◌, ◌++◌, length, Result, Ok, Err, IsTrue}
-use Rattle.a2_device.specs.Device.{IsSameDevice}
 use Rattle.vol_format.specs.Directory.{Directory}
 use Rattle.vol_format.specs.Meaning.{Meaning}
-use Rattle.move_agenda.specs.Tasks.{Course, Task, Map, course_after}
+use Rattle.plan_writes.specs.Tasks.{Course, Task, Map, course_after}
+use Rattle.vol_mover.specs.Failing.{WorksOn}
 use Rattle.vol_mover.specs.Present.{Present, IsSession}
 use Rattle.vol_mover.specs.Steps.{IsStep}
 use Rattle.vol_mover.specs.Volume.{SameVolume}
@@ -20,15 +20,14 @@ map_writes_of [] = 0
 map_writes_of (Map at marks ∷ tasks) = map_writes_of tasks + 1
 map_writes_of (task ∷ tasks) = map_writes_of tasks
 
--- A session that has made these of its writes: the others are left, and the course is the one after them; and of an honest device, each was one write, and the volume
--- is the same.
+-- A session that has made these of its writes: the others are left, the course is the one after them, and nothing of the device has failed; and of an honest device,
+-- the volume is the same.
 pub record IsRun (format : Meaning) (old new : Present) (made : List Task) : Type 0 where
-  pub device : IsSameDevice old.device new.device
+  pub works : WorksOn old.device new.device (length made)
   pub tasks : old.tasks ≡ made ++ new.tasks
   pub only : new ≡ record old { device = new.device; at = new.at; tasks = new.tasks; map_writes = new.map_writes; moves = new.moves; unit = new.unit }
   pub map_writes : new.map_writes ≡ old.map_writes + map_writes_of made
   pub session : (course : Course) → IsSession format old course → IsSession format new (course_after_all old.opening course made)
-  pub writes : IsTrue old.device.honest → new.device.writes ≡ old.device.writes + length made
   pub same : IsTrue old.device.honest → old.closed ≡ false → (course : Course) → IsSession format old course → SameVolume format old.device.store new.device.store
 
 -- Up to so many writes: as many, or all that were left; or fewer, and then a step that answered an error.

@@ -1,11 +1,11 @@
 -- What a step of a session does.
 use Rattle.std.specs.Prelude.{◌≡◌, ◌⊎◌, ◌↔◌, ◌≤◌, ◌<◌, ℕ, ◌+◌, Bool, true, false, if◌then◌else◌, List, [], ◌∷◌, length, slice_set, Result, Ok, Err, IfOk, IsErr, is_err, IsTrue}
 use Rattle.a2_device.specs.Device.{DeviceState, IsSameDevice, OnlyReads, FailsWrite, last_count, counted, written}
-use Rattle.part_layout.specs.Plans.{IsLegal, moved}
-use Rattle.part_layout.specs.Rings.{IsDeficit}
-use Rattle.part_layout.specs.declared.moves.Move.{Move}
+use Rattle.vol_layout.specs.Plans.{IsLegal, moved}
+use Rattle.vol_layout.specs.Rings.{IsDeficit}
+use Rattle.vol_layout.specs.declared.moves.Move.{Move}
 use Rattle.vol_format.specs.Meaning.{Meaning}
-use Rattle.move_agenda.specs.Tasks.{Course, Task, Map as MapTask, Copy as CopyTask, Pointer as PointerTask, course_after, IsFewLost}
+use Rattle.plan_writes.specs.Tasks.{Course, Task, Map as MapTask, Copy as CopyTask, Pointer as PointerTask, course_after, IsDone, IsFewLost}
 use Rattle.vol_mover.specs.Open.{IsOpen}
 use Rattle.vol_mover.specs.Present.{Present, IsSession}
 use Rattle.vol_mover.specs.Volume.{SameVolume}
@@ -98,6 +98,10 @@ pub record Prepares (format : Meaning) (old new : Present) (result : Result ℕ 
   pub write : IsTrue old.device.honest → old.closed ≡ false → (course : Course) → IsSession format old course
       → IfOk result (λ place. IsNextWrite format old course place new.unit)
 
+-- a session whose work is done: each part stands at its target, and no place is lost
+abbrev pub HasFinished : Meaning → Present → Type 0
+HasFinished format present = (course : Course) × IsSession format present course × IsDone course
+
 -- What a step does, and what it answers when.
 pub record IsStep (format : Meaning) (old new : Present) (result : Result Progress StepError) : Type 0 where
   -- every device
@@ -106,6 +110,7 @@ pub record IsStep (format : Meaning) (old new : Present) (result : Result Progre
   pub closed : (result ≡ Err Closed) ↔ (old.closed ≡ true)
   pub done : (result ≡ Ok Done) ↔ ((old.closed ≡ false) × (old.tasks ≡ []))
   pub still : (result ≡ Err Closed) ⊎ (result ≡ Ok Done) → new ≡ old
+  pub all_done : result ≡ Ok Done → (course : Course) → IsSession format old course → IsDone course
   pub read : result ≡ Err Read → OnlyReads true old.device new.device
   pub goes_on : (course : Course) → IsSession format old course → StepsTo format result old new course
   pub layout : StepsLayout result old.places old.at new.at

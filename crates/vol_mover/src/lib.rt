@@ -21,10 +21,6 @@ mod readers;
 mod report;
 mod run;
 mod session;
-#[cfg(test)]
-mod session_tests;
-#[cfg(test)]
-mod tests;
 mod units;
 
 pub use optimizer::optimize;

@@ -1,9 +1,9 @@
 // The opening of a session.
 ghost use Rattle.std.specs.Prelude.{◌≡◌, ◌<◌, ◌+◌, false, IsTrue, OnOk, IfOk, IfErr, Err, length};
 ghost use Rattle.a2_device.specs.Device.{OnlyReads};
-ghost use Rattle.move_agenda.specs.Tasks.{IsAgenda, at_first, moves_of};
-ghost use Rattle.move_agenda.specs.Work.{IsWork};
-ghost use Rattle.part_layout.specs.Layouts.{IsLayout};
+ghost use Rattle.plan_writes.specs.Tasks.{IsAgenda, at_first, moves_of};
+ghost use Rattle.plan_writes.specs.Work.{IsWork};
+ghost use Rattle.vol_layout.specs.Layouts.{IsLayout};
 ghost use Rattle.vol_opening.specs.Opening.{IsPlanOf, IsToldIn};
 ghost use Rattle.vol_opening.specs.Refused.{is_device_error, IsRefusal};
 ghost use Rattle.vol_mover.specs.Begun.{IsBegun};
@@ -11,8 +11,8 @@ ghost use Rattle.vol_mover.specs.Shown.{present};
 
 use crate::Session;
 use a2_device::Device;
-use move_agenda::Agenda;
 use move_plan::Plan;
+use plan_writes::Agenda;
 use std::alloc::{AllocError, Allocator};
 use vol_format::WritableFormat;
 use vol_opening::{OpenError, Opening, Options};

@@ -1,7 +1,8 @@
 // The optimizer: a session from its opening to its end, or up to so many writes.
 ghost use Rattle.std.specs.Prelude.{◌≡◌, ◌<◌, ℕ, Err, IsTrue, IfOk, IfErr, length};
-ghost use Rattle.move_agenda.specs.Tasks.{Course};
-ghost use Rattle.vol_mover.specs.Optimizing.{HasWorked, StopsWork, IsRefused};
+ghost use Rattle.plan_writes.specs.Tasks.{Course};
+ghost use Rattle.vol_mover.specs.Failing.{CannotFail};
+ghost use Rattle.vol_mover.specs.Optimizing.{HasWorked, StopsWork, IsNoFailure, IsRefused};
 ghost use Rattle.vol_mover.specs.Present.{IsSession};
 ghost use Rattle.vol_mover.specs.Report.{IsReported};
 ghost use Rattle.vol_mover.specs.Shown.{present};
@@ -57,6 +58,7 @@ pub fn optimize<D: Device, F: WritableFormat, A: Allocator + Copy>(
     requires places { (F.meaning format.now).Takes (D.state device).places }
     ensures reported { IfOk result (λ done. IsReported (F.meaning format.now) options limit (D.state device) (D.state done.0) done.1) }
     ensures refused { IfErr result (λ refused. IsRefused (F.meaning format.now) options limit (D.state device) (D.state refused.1) refused.0) }
+    ensures sound { CannotFail (D.state device) → IfErr result (λ refused. IsNoFailure refused.0) }
 {
     let (session, plan) = match begin(alloc, device, format, options) {
         Ok(begun) => begun,

@@ -1,17 +1,18 @@
 // A session without its device.
 ghost use Rattle.std.specs.Prelude.{◌≡◌};
 ghost use Rattle.a2_device.specs.Device.{DeviceState};
-ghost use Rattle.move_agenda.specs.Tasks.{Course};
+ghost use Rattle.plan_writes.specs.Tasks.{Course};
 ghost use Rattle.vol_mover.specs.Present.{IsSession};
 ghost use Rattle.vol_mover.specs.Resuming.{CanResume};
 ghost use Rattle.vol_mover.specs.Shown.{present, resumed};
 
 use crate::Session;
-use a2_device::{Device, Part};
-use move_agenda::Agenda;
-use part_layout::Layout;
+use a2_device::Device;
+use plan_writes::Agenda;
 use std::alloc::{Allocator, Global};
 use vol_format::WritableFormat;
+use vol_layout::Layout;
+use vol_parts::Part;
 
 /// A session without its device, which can go on over a device of the same store.
 #[derive(Drop)]

@@ -1,7 +1,7 @@
 // What is left of a session's work.
 ghost use Rattle.std.specs.Prelude.{◌≡◌, length};
-ghost use Rattle.move_agenda.specs.Tasks.{Course, moves_of};
-ghost use Rattle.part_layout.specs.Rings.{IsDeficit};
+ghost use Rattle.plan_writes.specs.Tasks.{Course, moves_of};
+ghost use Rattle.vol_layout.specs.Rings.{IsDeficit};
 ghost use Rattle.vol_mover.specs.Present.{IsSession};
 ghost use Rattle.vol_mover.specs.Shown.{present};
 

@@ -1,6 +1,6 @@
 // Steps one after the other.
 ghost use Rattle.std.specs.Prelude.{◌≡◌, ℕ};
-ghost use Rattle.move_agenda.specs.Tasks.{Course};
+ghost use Rattle.plan_writes.specs.Tasks.{Course};
 ghost use Rattle.vol_mover.specs.Present.{IsSession};
 ghost use Rattle.vol_mover.specs.Runs.{RunsTo};
 ghost use Rattle.vol_mover.specs.Shown.{present};

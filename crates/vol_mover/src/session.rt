@@ -1,22 +1,23 @@
 // A session over a device.
-ghost use Rattle.std.specs.Prelude.{◌≡◌, ◌<◌, ℕ, ◌+◌, [], ◌∷◌, List, Some, length, true, false, OnOk, OnErr, IsErr, Err, IsTrue};
+ghost use Rattle.std.specs.Prelude.{◌≡◌, ◌<◌, ℕ, ◌+◌, [], ◌∷◌, List, Some, length, true, false, OnOk, OnErr, IsErr, Ok, Err, IsTrue};
 ghost use Rattle.a2_device.specs.Device.{IsSameDevice, faults_after, written};
-ghost use Rattle.move_agenda.specs.Agenda.{next_write};
-ghost use Rattle.move_agenda.specs.Tasks.{Course, Task, place_of};
-ghost use Rattle.move_agenda.specs.declared.write.Write.TheVariants.{Map as MapWrite, Copy as CopyWrite, Pointer as PointerWrite};
-ghost use Rattle.part_layout.specs.Plans.{IsLegal};
-ghost use Rattle.part_layout.specs.declared.moves.Move.{Move};
+ghost use Rattle.plan_writes.specs.Agenda.{next_write};
+ghost use Rattle.plan_writes.specs.Tasks.{Course, Task, place_of};
+ghost use Rattle.plan_writes.specs.declared.write.Write.TheVariants.{Map as MapWrite, Copy as CopyWrite, Pointer as PointerWrite};
+ghost use Rattle.vol_layout.specs.Plans.{IsLegal};
+ghost use Rattle.vol_layout.specs.declared.moves.Move.{Move};
 ghost use Rattle.vol_mover.specs.Present.{IsSession};
 ghost use Rattle.vol_mover.specs.Shown.{present};
-ghost use Rattle.vol_mover.specs.Steps.{IsStep, Prepares, RefusesWrite, advanced, kind_of};
+ghost use Rattle.vol_mover.specs.Steps.{HasFinished, IsStep, Prepares, RefusesWrite, advanced, kind_of};
 
 use crate::units::{make_marks, read_unit};
 use crate::{Progress, StepError, Wrote};
-use a2_device::{Device, Part};
-use move_agenda::{Agenda, Write};
-use part_layout::{Layout, Move};
+use a2_device::Device;
+use plan_writes::{Agenda, Write};
 use std::alloc::{Allocator, Global};
 use vol_format::WritableFormat;
+use vol_layout::{Layout, Move};
+use vol_parts::Part;
 
 /// A session over a volume: the device, what was read of it, and the writes that are still to be made.
 #[derive(Drop)]
@@ -53,6 +54,7 @@ impl<'a, D: Device, F: WritableFormat, A: Allocator> Session<'a, D, F, A> {
         } }
         ensures step { IsStep (F.meaning self.old.format.now) (present D.state F.directory self.old) (present D.state F.directory self.new) result }
         ensures session { (course : Course) × IsSession (F.meaning self.new.format.now) (present D.state F.directory self.new) course }
+        ensures done { result ≡ Ok Progress.Done → HasFinished (F.meaning self.new.format.now) (present D.state F.directory self.new) }
     {
         if self.closed {
             return Err(StepError::Closed);

@@ -1,13 +1,13 @@
 // Units that are read, and marks made in them.
 ghost use Rattle.std.specs.Prelude.{◌≡◌, ◌<◌, ℕ, length, All, Err, OnOk, IsErr, IsTrue, is_err};
 ghost use Rattle.a2_device.specs.Device.{OnlyReads, unit_at};
-ghost use Rattle.vol_moves.specs.Marked.{with_marks};
-ghost use Rattle.vol_moves.specs.declared.mark.Mark.{Mark};
+ghost use Rattle.write_laws.specs.Marked.{with_marks};
+ghost use Rattle.write_laws.specs.declared.mark.Mark.{Mark};
 
 use crate::StepError;
 use a2_device::Device;
 use vol_format::WritableFormat;
-use vol_moves::Mark;
+use write_laws::Mark;
 
 // Reads a unit.
 pub fn read_unit<D: Device>(device: &mut D, place: u32, unit: &mut [u8]) -> Result<(), StepError>

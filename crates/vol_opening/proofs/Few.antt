@@ -1,7 +1,7 @@
 -- There are no more lost places than available ones.
 use Rattle.std.specs.Prelude.{◌<◌, ◌≤◌, ℕ, ◌==◌, Bool, not, ◌&&◌, List, length, filter}
 use Rattle.std.specs.List.{list_any}
-use Rattle.a2_device.specs.declared.part.Part.{Part}
+use Rattle.vol_parts.specs.declared.part.Part.{Part}
 use Rattle.std.proofs.Common.{refl, ap, arith}
 use Rattle.std.proofs.lemmas.List.Filters.{length-filter_both}
 use Rattle.vol_format.specs.Directory.{Directory, is_free}

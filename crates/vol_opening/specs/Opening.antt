@@ -1,8 +1,8 @@
 -- What an opening tells of an accepted volume.
 use Rattle.std.specs.Prelude.{◌≡◌, ◌≢◌, ◌⊎◌, true, [], length, max, All}
-use Rattle.part_layout.specs.Layouts.{Placement, IsTarget, holes, misplaced}
-use Rattle.part_layout.specs.Plans.{IsPlan, after, starts}
-use Rattle.part_layout.specs.Rings.{AreAllRings, IsDeficit}
+use Rattle.vol_layout.specs.Layouts.{Placement, IsTarget, holes, misplaced}
+use Rattle.vol_layout.specs.Plans.{IsPlan, after, starts}
+use Rattle.vol_layout.specs.Rings.{AreAllRings, IsDeficit}
 use Rattle.move_plan.specs.declared.answer.Plan.{Plan}
 use Rattle.move_plan.specs.Planning.{AreInRisingOrder, BeginsWithLeast, LacksFreePlace}
 use Rattle.vol_format.specs.Directory.{Directory, files}

@@ -7,8 +7,6 @@
 
 mod error;
 mod opening;
-#[cfg(test)]
-mod tests;
 
 pub use error::OpenError;
 pub use opening::{Opening, Options};

@@ -9,12 +9,13 @@ ghost use Rattle.vol_opening.specs.Opening.{Tells, IsToldIn, IsPlanOf, IsAllowed
 ghost use Rattle.vol_opening.specs.Refused.{is_device_error, IsRefusal, RefusesTold};
 
 use crate::OpenError;
-use a2_device::{Device, Part};
+use a2_device::Device;
 use move_plan::{Plan, plan};
-use part_layout::Layout;
 use std::alloc::{Allocator, Global};
 use vol_check::{Checked, check};
 use vol_format::Format;
+use vol_layout::Layout;
+use vol_parts::Part;
 
 /// What the owner allows.
 #[derive(Clone, Copy, Debug, PartialEq, Eq)]

@@ -14,9 +14,9 @@ use Rattle.vol_check.specs.declared.error.CheckError.{CheckError}
 use Rattle.vol_check.specs.declared.error.CheckError.TheVariants as checks
 use Rattle.file_cmds.specs.DosText.{Text}
 use Rattle.shop_words.specs.declared.job.FileSystem.{FileSystem}
-use Rattle.image_jobs.specs.declared.reply.Reply.{Reply}
+use Rattle.job_reply.specs.declared.reply.Reply.{Reply}
 use Rattle.volume_jobs.specs.CheckReply.{IsChecked, TellsRefusal}
-use Rattle.image_jobs.specs.Reply.{reply_to_image}
+use Rattle.job_reply.specs.Reply.{reply_to_image}
 use Rattle.volume_jobs.specs.Refusals.{reply_to_reserve}
 use Rattle.volume_jobs.specs.Volume.{RefusesBytes, form_of}
 use Rattle.volume_jobs.specs.VolumeReply.{IsVolumeReply, NamesPlaces, ReservesNamed}

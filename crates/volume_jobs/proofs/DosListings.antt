@@ -8,12 +8,12 @@ use Rattle.a2_device.specs.Device.{DeviceState}
 use Rattle.a2_device.specs.DosPlaces.{sector_at, sectors_by_place}
 use Rattle.a2_device.specs.ImageDevice.{length-stored_units}
 use Rattle.reserved_places.specs.declared.form.PlaceForm.TheVariants.{Sector}
-use Rattle.vol_layout.specs.Dos.{dos_meaning}
+use Rattle.dos_format.specs.Dos.{dos_meaning}
 use Rattle.file_cmds.specs.DosFiles.{dos_files}
-use Rattle.file_cmds.specs.DosListing.{dos_listing, no_dos_listing}
+use Rattle.file_cmds.specs.lemmas.DosListing.{dos_listing, no_dos_listing}
 use Rattle.shop_words.specs.declared.job.FileSystem.{FileSystem}
 use Rattle.shop_words.specs.declared.job.FileSystem.TheVariants.{Dos}
-use Rattle.image_jobs.specs.declared.reply.Reply.{Reply}
+use Rattle.job_reply.specs.declared.reply.Reply.{Reply}
 use Rattle.volume_jobs.specs.CatalogReply.{IsListed}
 use Rattle.volume_jobs.specs.DosCatalogReply.{IsDosCatalogReply, IsDosListed}
 use Rattle.volume_jobs.specs.Volume.{device_of, files_of, form_of}

@@ -8,9 +8,9 @@ use Rattle.a2_device.specs.Device.{DeviceState}
 use Rattle.vol_format.specs.Meaning.{Meaning}
 use Rattle.shop_words.specs.declared.job.FileSystem.{FileSystem}
 use Rattle.shop_words.specs.declared.job.FileSystem.TheVariants.{Dos as Dos_volume, Prodos as Prodos_volume}
-use Rattle.image_jobs.specs.declared.reply.Reply.{Reply}
-use Rattle.image_jobs.specs.Disk.{most_bytes}
-use Rattle.image_jobs.proofs.Fronts.{disk_bytes-lt}
+use Rattle.job_reply.specs.declared.reply.Reply.{Reply}
+use Rattle.job_reply.specs.Disk.{most_bytes}
+use Rattle.job_reply.proofs.Fronts.{disk_bytes-lt}
 use Rattle.volume_jobs.specs.VerifyReply.{IsVerified, most_certificate}
 use Rattle.volume_jobs.specs.Volume.{OfVolume, TakesBytes, meaning_of}
 use Rattle.volume_jobs.specs.VolumeReply.{IsVolumeReply}

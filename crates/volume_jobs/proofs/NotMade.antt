@@ -8,9 +8,9 @@ use Rattle.vol_format.specs.Meaning.{Meaning}
 use Rattle.vol_opening.specs.declared.error.OpenError.{OpenError}
 use Rattle.vol_opening.specs.declared.error.OpenError.TheVariants as opens
 use Rattle.shop_words.specs.declared.job.FileSystem.{FileSystem}
-use Rattle.image_jobs.specs.declared.reply.Refusal.TheVariants as refusals
-use Rattle.image_jobs.specs.declared.reply.Failure.TheVariants as failures
-use Rattle.image_jobs.specs.declared.reply.Reply.{Reply}
+use Rattle.job_reply.specs.declared.reply.Refusal.TheVariants as refusals
+use Rattle.job_reply.specs.declared.reply.Failure.TheVariants as failures
+use Rattle.job_reply.specs.declared.reply.Reply.{Reply}
 use Rattle.file_cmds.specs.Files.{FileMeaning}
 use Rattle.volume_jobs.specs.CatalogReply.{IsListed}
 use Rattle.volume_jobs.specs.ReadReply.{IsRead}
@@ -18,9 +18,9 @@ use Rattle.volume_jobs.specs.Work.{IsWorkReply, WorkView, Catalog, Read, Check, 
 use Rattle.volume_jobs.specs.CheckReply.{IsChecked}
 use Rattle.volume_jobs.specs.PlanReply.{IsPlanned, TellsOpening}
 use Rattle.volume_jobs.specs.VerifyReply.{IsVerdict, IsVerified}
-use Rattle.part_layout.specs.Layouts.{Placement}
-use Rattle.image_jobs.specs.Reply.{IsMade}
-use Rattle.image_jobs.proofs.NotMade.{content_not_made, done_not_made, failed_not_made, faulty_not_made, refused_not_made, unopened_not_made}
+use Rattle.vol_layout.specs.Layouts.{Placement}
+use Rattle.job_reply.specs.Reply.{IsMade}
+use Rattle.job_reply.proofs.NotMade.{content_not_made, done_not_made, failed_not_made, faulty_not_made, refused_not_made, unopened_not_made}
 use Rattle.volume_jobs.specs.VolumeReply.{IsVolumeReply}
 
 pub checked_not_made : (form : PlaceForm) (format : Meaning) (device : DeviceState) (reply : Reply) → IsChecked form format device reply → ¬ IsMade reply

@@ -9,7 +9,7 @@ use Rattle.vol_mover.specs.Report.{IsReported}
 use Rattle.vol_mover.specs.declared.report.OptError.{OptError}
 use Rattle.vol_mover.specs.declared.report.OptError.TheVariants as optimizes
 use Rattle.vol_mover.specs.declared.report.Report.{Report}
-use Rattle.image_jobs.specs.declared.reply.Reply.{Reply}
+use Rattle.job_reply.specs.declared.reply.Reply.{Reply}
 use Rattle.volume_jobs.specs.OptimizeReply.{IsOptimized, TellsReport, TellsStop}
 use Rattle.volume_jobs.proofs.Unopened.{unopened}
 

@@ -5,7 +5,7 @@ use Rattle.a2_image.specs.declared.error.ImageError.{ImageError}
 use Rattle.a2_image.specs.declared.error.ImageError.TheVariants as images
 use Rattle.a2_image.specs.Opening.{RefusesToOpen}
 use Rattle.shop_words.specs.declared.job.FileSystem.TheVariants.{Dos as Dos_volume, Prodos as Prodos_volume}
-use Rattle.image_jobs.specs.Disk.{RefusesDisk}
+use Rattle.job_reply.specs.Disk.{RefusesDisk}
 use Rattle.volume_jobs.specs.Volume.{RefusesBytes}
 
 pub refuses_bytes : (order : Order) (bytes : List ℕ) (error : ImageError) → RefusesToOpen order (length bytes) error → RefusesBytes Prodos_volume order (length bytes) error

@@ -6,7 +6,7 @@ use Rattle.vol_format.specs.Meaning.{Meaning}
 use Rattle.vol_opening.specs.Refused.{IsRefusal}
 use Rattle.vol_opening.specs.declared.error.OpenError.{OpenError}
 use Rattle.vol_opening.specs.declared.error.OpenError.TheVariants as opens
-use Rattle.image_jobs.specs.declared.reply.Reply.{Reply}
+use Rattle.job_reply.specs.declared.reply.Reply.{Reply}
 use Rattle.volume_jobs.specs.PlanReply.{IsUnopenedReply, TellsOpening}
 use Rattle.volume_jobs.proofs.Replies.{unit_lacks}
 

@@ -10,11 +10,11 @@ use Rattle.file_cmds.specs.Files.{FileMeaning}
 use Rattle.file_cmds.specs.Listing.{HasHeaderFault, IsListingOf}
 use Rattle.file_cmds.specs.ProText.{pro_text}
 use Rattle.file_cmds.specs.declared.listing.Listing.{Listing}
-use Rattle.image_jobs.specs.declared.reply.Refusal.TheVariants as refusals
-use Rattle.image_jobs.specs.declared.reply.Failure.TheVariants as failures
-use Rattle.image_jobs.specs.declared.reply.Reply.{Reply}
-use Rattle.image_jobs.specs.declared.reply.Reply.TheVariants.{Refused, Failed}
-use Rattle.image_jobs.specs.Reply.{IsDone, text_of}
+use Rattle.job_reply.specs.declared.reply.Refusal.TheVariants as refusals
+use Rattle.job_reply.specs.declared.reply.Failure.TheVariants as failures
+use Rattle.job_reply.specs.declared.reply.Reply.{Reply}
+use Rattle.job_reply.specs.declared.reply.Reply.TheVariants.{Refused, Failed}
+use Rattle.job_reply.specs.Reply.{IsDone, text_of}
 use Rattle.volume_jobs.specs.Volume.{LacksUnit}
 
 -- the text of a listing: of DOS 3.3, whose places are sectors, or of ProDOS

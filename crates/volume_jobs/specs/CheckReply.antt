@@ -1,7 +1,7 @@
 -- What is told of a volume that is checked.
 use Rattle.std.specs.Prelude.{◌≡◌, ◌⊎◌, ◌↔◌, ℕ, List, Contains, flat_map}
 use Rattle.a2_device.specs.Device.{DeviceState}
-use Rattle.a2_device.specs.declared.fault.Fault.{Fault}
+use Rattle.vol_parts.specs.declared.fault.Fault.{Fault}
 use Rattle.reserved_places.specs.declared.form.PlaceForm.{PlaceForm}
 use Rattle.vol_format.specs.Accepted.{IsAccepted}
 use Rattle.vol_format.specs.Directory.{Directory}
@@ -14,10 +14,10 @@ use Rattle.vol_check.specs.declared.error.CheckError.{CheckError}
 use Rattle.vol_check.specs.declared.error.CheckError.TheVariants as checks
 use Rattle.file_cmds.specs.DosText.{Text}
 use Rattle.volume_jobs.specs.CheckText.{fault_line, told_line}
-use Rattle.image_jobs.specs.declared.reply.Failure.TheVariants as failures
-use Rattle.image_jobs.specs.declared.reply.Reply.{Reply}
-use Rattle.image_jobs.specs.declared.reply.Reply.TheVariants.{Failed}
-use Rattle.image_jobs.specs.Reply.{IsDone, IsFaulty, text_of}
+use Rattle.job_reply.specs.declared.reply.Failure.TheVariants as failures
+use Rattle.job_reply.specs.declared.reply.Reply.{Reply}
+use Rattle.job_reply.specs.declared.reply.Reply.TheVariants.{Failed}
+use Rattle.job_reply.specs.Reply.{IsDone, IsFaulty, text_of}
 use Rattle.volume_jobs.specs.Volume.{LacksUnit}
 
 -- The volume is accepted, and these are its files, their parts, the available places and the lost ones, by number.

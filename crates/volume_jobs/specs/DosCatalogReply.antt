@@ -7,10 +7,10 @@ use Rattle.reserved_places.specs.declared.form.PlaceForm.TheVariants.{Sector}
 use Rattle.file_cmds.specs.Catalog.{HasNoCatalog, IsCatalogOf}
 use Rattle.file_cmds.specs.declared.listing.Listing.{Listing}
 use Rattle.shop_words.specs.declared.job.FileSystem.TheVariants.{Dos}
-use Rattle.image_jobs.specs.declared.reply.Refusal.TheVariants as refusals
-use Rattle.image_jobs.specs.declared.reply.Failure.TheVariants as failures
-use Rattle.image_jobs.specs.declared.reply.Reply.{Reply}
-use Rattle.image_jobs.specs.declared.reply.Reply.TheVariants.{Refused, Failed}
+use Rattle.job_reply.specs.declared.reply.Refusal.TheVariants as refusals
+use Rattle.job_reply.specs.declared.reply.Failure.TheVariants as failures
+use Rattle.job_reply.specs.declared.reply.Reply.{Reply}
+use Rattle.job_reply.specs.declared.reply.Reply.TheVariants.{Refused, Failed}
 use Rattle.volume_jobs.specs.CatalogReply.{TellsListing}
 use Rattle.volume_jobs.specs.Volume.{LacksUnit, OfVolume, TakesBytes}
 

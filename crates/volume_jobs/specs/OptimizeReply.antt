@@ -13,11 +13,11 @@ use Rattle.vol_mover.specs.declared.progress.StepError.{StepError}
 use Rattle.vol_mover.specs.declared.report.Report.{Report}
 use Rattle.vol_mover.specs.declared.report.OptError.{OptError}
 use Rattle.vol_mover.specs.declared.report.OptError.TheVariants as optimizes
-use Rattle.image_jobs.specs.declared.reply.Failure.TheVariants as failures
-use Rattle.image_jobs.specs.declared.reply.Reply.{Reply}
-use Rattle.image_jobs.specs.declared.reply.Reply.TheVariants.{Failed}
+use Rattle.job_reply.specs.declared.reply.Failure.TheVariants as failures
+use Rattle.job_reply.specs.declared.reply.Reply.{Reply}
+use Rattle.job_reply.specs.declared.reply.Reply.TheVariants.{Failed}
 use Rattle.volume_jobs.specs.PlanReply.{IsUnopenedReply, TellsOpening}
-use Rattle.image_jobs.specs.Reply.{IsInterrupted, IsOptimizedReply, made_of, text_of}
+use Rattle.job_reply.specs.Reply.{IsInterrupted, IsOptimizedReply, made_of, text_of}
 
 -- how many moves were made, the rings and the misplaced parts that there were, the writes of the map, and whether all is done
 abbrev pub report_line : ℕ → ℕ → ℕ → ℕ → Bool → Text

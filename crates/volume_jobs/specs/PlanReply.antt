@@ -2,7 +2,7 @@
 use Rattle.std.specs.Prelude.{◌≡◌, ◌⊎◌, ◌↔◌, ℕ, Bool, List, [], ◌∷◌, ◌++◌, Contains, codes, decimal}
 use Rattle.std.specs.declared.alloc.Global.{Global}
 use Rattle.a2_device.specs.Device.{DeviceState}
-use Rattle.part_layout.specs.Layouts.{Placement}
+use Rattle.vol_layout.specs.Layouts.{Placement}
 use Rattle.move_plan.specs.declared.answer.Plan.{Plan}
 use Rattle.ring_cert.specs.Certificates.{certificate_of, certificate_text}
 use Rattle.vol_format.specs.Accepted.{IsAccepted}
@@ -15,11 +15,11 @@ use Rattle.vol_opening.specs.Opening.{IsAllowed, IsPlanOf}
 use Rattle.vol_opening.specs.Refused.{IsRefusal}
 use Rattle.vol_opening.specs.declared.error.OpenError.{OpenError}
 use Rattle.vol_opening.specs.declared.error.OpenError.TheVariants as opens
-use Rattle.image_jobs.specs.declared.reply.Refusal.TheVariants as refusals
-use Rattle.image_jobs.specs.declared.reply.Failure.TheVariants as failures
-use Rattle.image_jobs.specs.declared.reply.Reply.{Reply}
-use Rattle.image_jobs.specs.declared.reply.Reply.TheVariants.{Refused, Failed}
-use Rattle.image_jobs.specs.Reply.{IsContent, IsUnopened, text_of}
+use Rattle.job_reply.specs.declared.reply.Refusal.TheVariants as refusals
+use Rattle.job_reply.specs.declared.reply.Failure.TheVariants as failures
+use Rattle.job_reply.specs.declared.reply.Reply.{Reply}
+use Rattle.job_reply.specs.declared.reply.Reply.TheVariants.{Refused, Failed}
+use Rattle.job_reply.specs.Reply.{IsContent, IsUnopened, text_of}
 use Rattle.volume_jobs.specs.Volume.{LacksUnit}
 
 -- The volume is accepted, and these are its parts, their layout and the lost places, none of which is lost but where they are reclaimed; and it has a free

@@ -3,10 +3,10 @@ use Rattle.file_cmds.specs.declared.error.CmdError.{CmdError}
 use Rattle.file_cmds.specs.declared.error.CmdError.TheVariants as commands
 use Rattle.reserved_places.specs.declared.error.ReserveError.{ReserveError}
 use Rattle.reserved_places.specs.declared.error.ReserveError.TheVariants as reserves
-use Rattle.image_jobs.specs.declared.reply.Refusal.TheVariants as refusals
-use Rattle.image_jobs.specs.declared.reply.Failure.TheVariants as failures
-use Rattle.image_jobs.specs.declared.reply.Reply.{Reply}
-use Rattle.image_jobs.specs.declared.reply.Reply.TheVariants.{Refused, Failed}
+use Rattle.job_reply.specs.declared.reply.Refusal.TheVariants as refusals
+use Rattle.job_reply.specs.declared.reply.Failure.TheVariants as failures
+use Rattle.job_reply.specs.declared.reply.Reply.{Reply}
+use Rattle.job_reply.specs.declared.reply.Reply.TheVariants.{Refused, Failed}
 
 -- the reply to a command's refusal
 abbrev pub reply_to_refusal : CmdError → Reply

@@ -1,7 +1,7 @@
 -- What is told of a certificate.
 use Rattle.std.specs.Prelude.{◌≡◌, ◌≢◌, ◌⊎◌, ◌<◌, ◌≤◌, ℕ, Bool, List, ◌++◌, codes, decimal, length}
 use Rattle.a2_device.specs.Device.{DeviceState}
-use Rattle.part_layout.specs.Layouts.{Placement}
+use Rattle.vol_layout.specs.Layouts.{Placement}
 use Rattle.ring_cert.specs.Certificates.{Certificate, HasText, certificate_text}
 use Rattle.ring_cert.specs.Faults.{IsNoText}
 use Rattle.ring_cert.specs.Good.{IsFirstFault, IsGood}
@@ -12,12 +12,12 @@ use Rattle.ring_cert.specs.declared.certificate.CertFault.TheVariants as faults
 use Rattle.vol_format.specs.Meaning.{Meaning}
 use Rattle.vol_check.specs.Told.{Told}
 use Rattle.file_cmds.specs.DosText.{Text, line}
-use Rattle.image_jobs.specs.declared.reply.Refusal.TheVariants as refusals
-use Rattle.image_jobs.specs.declared.reply.Failure.TheVariants as failures
-use Rattle.image_jobs.specs.declared.reply.Reply.{Reply}
-use Rattle.image_jobs.specs.declared.reply.Reply.TheVariants.{Refused, Failed}
+use Rattle.job_reply.specs.declared.reply.Refusal.TheVariants as refusals
+use Rattle.job_reply.specs.declared.reply.Failure.TheVariants as failures
+use Rattle.job_reply.specs.declared.reply.Reply.{Reply}
+use Rattle.job_reply.specs.declared.reply.Reply.TheVariants.{Refused, Failed}
 use Rattle.volume_jobs.specs.PlanReply.{IsOpened, IsUnopenedReply}
-use Rattle.image_jobs.specs.Reply.{IsDone, IsFaulty, text_of}
+use Rattle.job_reply.specs.Reply.{IsDone, IsFaulty, text_of}
 
 -- the most bytes that are read of a certificate
 abbrev pub most_certificate : ℕ

@@ -12,14 +12,14 @@ use Rattle.a2_device.specs.declared.units.UnitKind.TheVariants as kinds
 use Rattle.reserved_places.specs.declared.form.PlaceForm.{PlaceForm}
 use Rattle.reserved_places.specs.declared.form.PlaceForm.TheVariants as forms
 use Rattle.vol_format.specs.Meaning.{Meaning}
-use Rattle.vol_layout.specs.Dos.{dos_meaning}
-use Rattle.pro_layout.specs.Pro.{pro_meaning}
+use Rattle.dos_format.specs.Dos.{dos_meaning}
+use Rattle.pro_format.specs.Pro.{pro_meaning}
 use Rattle.file_cmds.specs.DosFiles.{dos_files}
 use Rattle.file_cmds.specs.Files.{FileMeaning}
 use Rattle.file_cmds.specs.ProFiles.{pro_files}
 use Rattle.shop_words.specs.declared.job.FileSystem.{FileSystem}
 use Rattle.shop_words.specs.declared.job.FileSystem.TheVariants.{Dos, Prodos}
-use Rattle.image_jobs.specs.Disk.{disk_bytes}
+use Rattle.job_reply.specs.Disk.{disk_bytes}
 
 -- DOS 3.3 has sectors and ProDOS blocks, and so are their places named
 abbrev pub kind_of : FileSystem → UnitKind

@@ -5,7 +5,7 @@ ghost use Rattle.volume_jobs.specs.CheckReply.{IsChecked, TellsAccepted, TellsRe
 
 use crate::check_text::{accepted_line, fault_lines};
 use a2_device::Device;
-use image_jobs::{Failure, Reply};
+use job_reply::{Failure, Reply};
 use reserved_places::PlaceForm;
 use std::alloc::Global;
 use vol_check::{CheckError, Checked, check};

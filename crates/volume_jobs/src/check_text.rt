@@ -3,11 +3,11 @@ ghost use Rattle.std.specs.Prelude.{◌≡◌, Some, IfOk, flat_map, string_byte
 ghost use Rattle.vol_check.specs.Told.{told_of};
 ghost use Rattle.volume_jobs.specs.CheckText.{accepted_text, fault_line, fault_name as name_of, fault_place as place_of, fault_text, told_line, told_place};
 
-use a2_device::Fault;
 use reserved_places::PlaceForm;
 use std::alloc::{AllocError, Global};
 use std::fmt;
 use vol_check::Checked;
+use vol_parts::Fault;
 
 fn fault_name(fault: Fault) -> &'static str
     ensures { result.now ≡ name_of fault }

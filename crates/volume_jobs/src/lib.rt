@@ -1,5 +1,5 @@
 //! The jobs on the volume of an image: `volume_reply` opens the image as a device, by its order and its file system, and
-//! answers what `Work` asks of it by one `Reply` of `image_jobs`.
+//! answers what `Work` asks of it by one `Reply` of `job_reply`.
 //!
 //! The model. `specs/Volume.antt` says which bytes are taken as an image and which device has its units;
 //! `specs/VolumeReply.antt` what is refused before the volume is looked at; `specs/Work.antt` which reply then comes, by the
@@ -14,8 +14,6 @@ mod listing;
 mod optimize;
 mod plan;
 mod reading;
-#[cfg(test)]
-mod tests;
 mod verify;
 mod volume;
 

@@ -5,7 +5,7 @@ ghost use Rattle.volume_jobs.specs.Refusals.{reply_to_refusal};
 
 use a2_device::Device;
 use file_cmds::{CmdError, FileFormat, Listing, catalog, dos_listing_text, pro_listing_text};
-use image_jobs::{Failure, Refusal, Reply};
+use job_reply::{Failure, Refusal, Reply};
 use reserved_places::PlaceForm;
 use std::alloc::Global;
 

@@ -4,7 +4,7 @@ ghost use Rattle.volume_jobs.specs.OptimizeReply.{AreBytesOf, IsOptimized, Tells
 
 use crate::plan::unopened_reply;
 use a2_device::{Device, ImageDevice};
-use image_jobs::{Failure, Reply};
+use job_reply::{Failure, Reply};
 use std::alloc::{AllocError, Global};
 use std::fmt;
 use vol_format::WritableFormat;

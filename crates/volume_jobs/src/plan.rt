@@ -4,7 +4,7 @@ ghost use Rattle.vol_opening.specs.Opening.{IsPlanOf};
 ghost use Rattle.volume_jobs.specs.PlanReply.{IsPlanned, TellsOpening, TellsPlan};
 
 use a2_device::Device;
-use image_jobs::{Failure, Refusal, Reply};
+use job_reply::{Failure, Refusal, Reply};
 use ring_cert::print;
 use std::alloc::Global;
 use vol_format::Format;

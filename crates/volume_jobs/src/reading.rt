@@ -5,7 +5,7 @@ ghost use Rattle.volume_jobs.specs.ReadReply.{IsRead};
 use crate::listing::refusal_reply;
 use a2_device::Device;
 use file_cmds::{FileFormat, read};
-use image_jobs::Reply;
+use job_reply::Reply;
 use std::alloc::Global;
 
 /// The body of a file of the volume on a device, or all of its units.

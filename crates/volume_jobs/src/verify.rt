@@ -4,12 +4,12 @@ ghost use Rattle.volume_jobs.specs.VerifyReply.{IsVerdict, IsVerified, TellsFaul
 
 use crate::plan::unopened_reply;
 use a2_device::Device;
-use image_jobs::{Failure, Refusal, Reply};
-use part_layout::Layout;
+use job_reply::{Failure, Refusal, Reply};
 use ring_cert::{CertError, CertFault, read, verify};
 use std::alloc::Global;
 use std::fmt;
 use vol_format::Format;
+use vol_layout::Layout;
 use vol_opening::{Opening, Options};
 
 /// The most bytes of a certificate's text that is read.

@@ -7,8 +7,8 @@ ghost use Rattle.volume_jobs.specs.Refusals.{reply_to_reserve};
 ghost use Rattle.volume_jobs.specs.Volume.{IsImageOf, RefusesBytes, TakesBytes, device_of, files_of, form_of as form_by, meaning_of};
 ghost use Rattle.volume_jobs.specs.VolumeReply.{IsVolumeReply, NamesPlaces, ReservesNamed};
 ghost use Rattle.volume_jobs.specs.Work.{IsWorkReply, work_view};
-ghost use Rattle.image_jobs.specs.declared.reply.Reply.TheVariants.{Failed as AFailed};
-ghost use Rattle.image_jobs.specs.declared.reply.Failure.TheVariants.{Memory as OfMemory};
+ghost use Rattle.job_reply.specs.declared.reply.Reply.TheVariants.{Failed as AFailed};
+ghost use Rattle.job_reply.specs.declared.reply.Failure.TheVariants.{Memory as OfMemory};
 
 use crate::check::check_reply;
 use crate::listing::catalog_reply;
@@ -18,14 +18,14 @@ use crate::reading::read_reply;
 use crate::verify::verify_reply;
 use a2_device::{Device, ImageDevice};
 use a2_image::{Image, ImageError, Order};
+use dos_format::Dos33;
 use file_cmds::FileFormat;
-use image_jobs::{Failure, Refusal, Reply, open_disk};
-use pro_layout::Prodos;
+use job_reply::{Failure, Refusal, Reply, open_disk};
+use pro_format::Prodos;
 use reserved_places::{PlaceForm, ReserveError, Reserved};
 use shop_words::{FileSystem, VolumeOptions};
 use std::alloc::Global;
 use vol_format::WritableFormat;
-use vol_layout::Dos33;
 
 // The reply to a text of places to reserve that is not taken.
 fn reserve_reply(error: ReserveError) -> Reply

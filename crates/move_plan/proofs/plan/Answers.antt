@@ -1,8 +1,8 @@
 use Rattle.std.proofs.Common.{◌≡◌, ℕ, List, [], Vec, vec_len, true, eqb, arith, sym, ◌∙◌}
 use Rattle.std.proofs.lemmas.Bool.{eqb-true}
 use Rattle.std.proofs.lemmas.List.{nil_from_length}
-use Rattle.part_layout.specs.Layouts.{misplaced}
-use Rattle.part_layout.proofs.LowerBound.{bound_of_deficit}
+use Rattle.vol_layout.specs.Layouts.{misplaced}
+use Rattle.vol_layout.proofs.LowerBound.{bound_of_deficit}
 use Rattle.move_plan.specs.Turns.{IsDone}
 use Rattle.move_plan.proofs.Done.{IsDone-fresh, done_target, done_rings, done_deficit}
 use Rattle.move_plan.proofs.plan.Given.{Over}

@@ -1,4 +1,4 @@
-use Rattle.file_cmds.specs.Exclusive.{text_or_fault, text_or_none, fault_or_none}
+use Rattle.file_cmds.specs.lemmas.Exclusive.{text_or_fault, text_or_none, fault_or_none}
 use Rattle.file_cmds.proofs.law.answers_exclude_one_another.Goals as goal
 
 pub returns-clause-text_or_fault : goal.returns-clause-text_or_fault

@@ -1,6 +1,6 @@
 use Rattle.std.proofs.Common.{◌++◌, ◌∷◌, [], get_or, arith}
 use Rattle.std.proofs.lemmas.List.{length_push}
-use Rattle.part_layout.proofs.RingPaths.{IsPath, IsPath-none, IsPath-more, length_path}
+use Rattle.vol_layout.proofs.RingPaths.{IsPath, IsPath-none, IsPath-more, length_path}
 use Rattle.move_plan.proofs.ring.ring_from.Given.{Over}
 use Rattle.move_plan.proofs.ring.ring_from.Goals as goal
 

@@ -1,5 +1,5 @@
 use Rattle.std.proofs.Common.{◌-◌, length}
-use Rattle.part_layout.proofs.RingPaths.{IsPath}
+use Rattle.vol_layout.proofs.RingPaths.{IsPath}
 use Rattle.move_plan.proofs.ring.ring_from.Given as goal
 
 abbrev pub invariant-loop-next : goal.invariant-loop-next

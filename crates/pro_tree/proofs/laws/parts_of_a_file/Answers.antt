@@ -1,4 +1,4 @@
-use Rattle.pro_tree.specs.FileLaws.{in_file-placed, placed-in_file}
+use Rattle.pro_tree.specs.lemmas.FileLaws.{in_file-placed, placed-in_file}
 use Rattle.pro_tree.proofs.laws.parts_of_a_file.Goals as goal
 
 pub returns : goal.returns

@@ -1,4 +1,4 @@
-use Rattle.pro_tree.specs.PointerLaws.{pointer-other, length-with_pointer}
+use Rattle.pro_tree.specs.lemmas.PointerLaws.{pointer-other, length-with_pointer}
 use Rattle.pro_tree.proofs.laws.set_pointer_keeps_others.Goals as goal
 
 pub returns-clause-others : goal.returns-clause-others

@@ -1,6 +1,6 @@
 use Rattle.std.proofs.Common.{get_or}
 use Rattle.std.proofs.lemmas.List.Elements.{All-more}
-use Rattle.part_layout.specs.declared.moves.Move.{Move}
+use Rattle.vol_layout.specs.declared.moves.Move.{Move}
 use Rattle.ring_cert.specs.Certificates.{IsMoveTold, move_line}
 use Rattle.ring_cert.proofs.Written.{run_written, move_told}
 use Rattle.ring_cert.proofs.printing.push_plan.Goals as goal

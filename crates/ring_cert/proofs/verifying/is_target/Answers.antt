@@ -1,6 +1,6 @@
 use Rattle.std.proofs.Common.{◌<◌, length, false, arith, refl}
 use Rattle.std.proofs.lemmas.Bool.{both_ways}
-use Rattle.part_layout.proofs.RingLemmas.{target_at}
+use Rattle.vol_layout.proofs.RingLemmas.{target_at}
 use Rattle.ring_cert.proofs.Walks.{IsTarget-from}
 use Rattle.ring_cert.proofs.verifying.is_target.Goals as goal
 

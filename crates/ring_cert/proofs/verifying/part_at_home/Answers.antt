@@ -1,7 +1,7 @@
 use Rattle.std.proofs.Common.{arith, rules}
 use Rattle.std.proofs.lemmas.List.{take_all}
 use Rattle.std.proofs.lemmas.List.Elements.{All-more}
-use Rattle.part_layout.specs.Layouts.{IsMisplaced}
+use Rattle.vol_layout.specs.Layouts.{IsMisplaced}
 use Rattle.ring_cert.proofs.verifying.part_at_home.Goals as goal
 
 pub loop-part-preserved : goal.loop-part-preserved

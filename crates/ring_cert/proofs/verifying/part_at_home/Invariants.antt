@@ -1,6 +1,6 @@
 use Rattle.std.proofs.Common.{take}
 use Rattle.std.specs.List.{All}
-use Rattle.part_layout.specs.Layouts.{IsMisplaced}
+use Rattle.vol_layout.specs.Layouts.{IsMisplaced}
 use Rattle.ring_cert.proofs.verifying.part_at_home.Given as goal
 
 abbrev pub invariant-loop-part : goal.invariant-loop-part

@@ -3,7 +3,7 @@ use Rattle.std.specs.List.{concat}
 use Rattle.std.specs.Option.{is_none}
 use Rattle.std.proofs.lemmas.Bool.{both_ways}
 use Rattle.std.proofs.lemmas.List.{get_or_read}
-use Rattle.part_layout.specs.Rings.{IsRing}
+use Rattle.vol_layout.specs.Rings.{IsRing}
 use Rattle.ring_cert.specs.Good.{IsFirstRepeat}
 use Rattle.ring_cert.specs.Seen.{HasMet}
 use Rattle.ring_cert.proofs.Distinct.{distinct_right}

@@ -1,7 +1,7 @@
 use Rattle.std.proofs.Common.{◌≡◌, ◌∙◌, ap, subst, sym, arith}
 use Rattle.a2_device.specs.Device.{OnlyReads}
 use Rattle.a2_device.specs.Reading.{unread, then_reads}
-use Rattle.vol_check.specs.Stop.{is_device_stop, same_stop}
+use Rattle.vol_parts.specs.Stop.{is_device_stop, same_stop}
 use Rattle.vol_check.specs.Walk.{lists}
 use Rattle.vol_check.specs.Walking.{IsWalking, None}
 use Rattle.vol_check.proofs.Files.{unseen, start_sound, start_walking}

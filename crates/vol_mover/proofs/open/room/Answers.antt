@@ -1,8 +1,8 @@
 use Rattle.std.proofs.Common.{◌≡◌, ◌≤◌, ◌<◌, ◌+◌, ◌*◌, sym, ap, subst, arith, length, ℕ, List}
-use Rattle.move_agenda.specs.Tasks.{Task}
-use Rattle.part_layout.specs.declared.moves.Move.{Move}
-use Rattle.move_agenda.specs.Work.{AreSpare}
-use Rattle.move_agenda.specs.Writes.{writes_of}
+use Rattle.plan_writes.specs.Tasks.{Task}
+use Rattle.vol_layout.specs.declared.moves.Move.{Move}
+use Rattle.plan_writes.specs.Work.{AreSpare}
+use Rattle.plan_writes.specs.Writes.{writes_of}
 use Rattle.vol_opening.specs.Opening.{told_in}
 use Rattle.vol_mover.proofs.Begins.{few_planned}
 use Rattle.vol_mover.proofs.Beginning.{spare, few_lost}

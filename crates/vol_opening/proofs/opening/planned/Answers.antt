@@ -1,5 +1,5 @@
 use Rattle.std.proofs.Common.{◌≡◌, ◌⊎◌, ◌∙◌, ℕ, true, List, [], subst}
-use Rattle.part_layout.specs.Layouts.{Placement}
+use Rattle.vol_layout.specs.Layouts.{Placement}
 use Rattle.move_plan.specs.Planning.{LacksFreePlace}
 use Rattle.vol_opening.specs.Opening.{IsPlanOf}
 use Rattle.vol_opening.proofs.opening.planned.Goals as goal

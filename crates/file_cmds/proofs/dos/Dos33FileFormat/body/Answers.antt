@@ -1,6 +1,6 @@
 use Rattle.std.proofs.Common.{◌∙◌, ap}
 use Rattle.dos_catalog.specs.Listed.{entries_of_catalog}
-use Rattle.vol_layout.proofs.Readers.{within}
+use Rattle.dos_format.proofs.Readers.{within}
 use Rattle.file_cmds.proofs.DosEntries.{body-dos}
 use Rattle.file_cmds.proofs.dos.Dos33FileFormat.body.Goals as goal
 

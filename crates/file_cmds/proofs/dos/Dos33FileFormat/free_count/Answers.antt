@@ -1,7 +1,7 @@
 use Rattle.std.proofs.Common.{◌∙◌, ap}
 use Rattle.dos_vtoc.specs.Vtoc.{free_count_of}
 use Rattle.dos_catalog.specs.Listed.{entries_of_catalog}
-use Rattle.file_cmds.specs.DosListing.{free_count-dos}
+use Rattle.file_cmds.specs.lemmas.DosListing.{free_count-dos}
 use Rattle.file_cmds.proofs.dos.Dos33FileFormat.free_count.Goals as goal
 
 pub returns : goal.returns

@@ -1,5 +1,5 @@
 use Rattle.std.proofs.Common.{sym, arith}
-use Rattle.file_cmds.specs.FileAlone.{available-alone, available-past}
+use Rattle.file_cmds.specs.lemmas.FileAlone.{available-alone, available-past}
 use Rattle.file_cmds.proofs.one_file.OneFileFormat.available.Goals as goal
 
 pub returns-then-number-self : goal.returns-then-number-self

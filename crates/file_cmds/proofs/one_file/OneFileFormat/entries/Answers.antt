@@ -1,5 +1,5 @@
 use Rattle.std.proofs.Common.{◌∙◌, sym}
-use Rattle.file_cmds.specs.FileAlone.{entries-alone}
+use Rattle.file_cmds.specs.lemmas.FileAlone.{entries-alone}
 use Rattle.file_cmds.proofs.one_file.OneFileFormat.entries.Goals as goal
 
 pub returns : goal.returns

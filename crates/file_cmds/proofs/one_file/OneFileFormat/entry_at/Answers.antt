@@ -1,5 +1,5 @@
 use Rattle.std.proofs.Common.{◌∙◌, sym, arith}
-use Rattle.file_cmds.specs.FileAlone.{entries-alone, place-alone, slot-alone}
+use Rattle.file_cmds.specs.lemmas.FileAlone.{entries-alone, place-alone, slot-alone}
 use Rattle.file_cmds.proofs.one_file.OneFileFormat.entry_at.Goals as goal
 
 pub entry_at-requires : goal.entry_at-requires

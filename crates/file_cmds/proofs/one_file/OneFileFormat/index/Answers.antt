@@ -1,4 +1,4 @@
-use Rattle.file_cmds.specs.FileAlone.{available-alone}
+use Rattle.file_cmds.specs.lemmas.FileAlone.{available-alone}
 use Rattle.file_cmds.proofs.one_file.OneFileFormat.index.Goals as goal
 
 pub returns-clause-some : goal.returns-clause-some

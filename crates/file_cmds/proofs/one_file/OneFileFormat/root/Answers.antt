@@ -1,5 +1,5 @@
 use Rattle.std.proofs.Common.{◌∙◌, sym, arith}
-use Rattle.file_cmds.specs.FileAlone.{entries-alone, root-alone, root_of-other}
+use Rattle.file_cmds.specs.lemmas.FileAlone.{entries-alone, root-alone, root_of-other}
 use Rattle.file_cmds.proofs.one_file.OneFileFormat.root.Goals as goal
 
 pub returns-then-file-self : goal.returns-then-file-self

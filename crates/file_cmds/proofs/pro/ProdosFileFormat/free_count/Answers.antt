@@ -1,6 +1,6 @@
 use Rattle.std.proofs.Common.{◌∙◌, ap}
 use Rattle.pro_bitmap.specs.Bitmap.{free_count_of}
-use Rattle.pro_layout.specs.ProVolume.{tree_of, map_in, system_of}
+use Rattle.pro_format.specs.ProVolume.{tree_of, map_in, system_of}
 use Rattle.file_cmds.specs.ProListing.{free_count-pro}
 use Rattle.file_cmds.proofs.pro.ProdosFileFormat.free_count.Goals as goal
 

@@ -1,7 +1,7 @@
 use Rattle.std.proofs.Common.{◌∙◌, ap, sym, subst, ◌<◌, length}
 use Rattle.pro_dir.specs.Listed.{directory_of}
 use Rattle.pro_dir.specs.Volume.{Directory as Tree}
-use Rattle.pro_layout.specs.ProVolume.{tree_of, map_in, system_of}
+use Rattle.pro_format.specs.ProVolume.{tree_of, map_in, system_of}
 use Rattle.file_cmds.proofs.ProEntries.{in_tree, in_shown, shown-pro}
 use Rattle.file_cmds.proofs.pro.ProdosFileFormat.list_entry.Goals as goal
 

@@ -4,8 +4,8 @@ use Rattle.a2_device.specs.Reading.{then_reads}
 use Rattle.std.proofs.lemmas.List.Elements.{All-nil}
 use Rattle.std.proofs.lemmas.Result.{err_from_is_err_and}
 use Rattle.a2_device.specs.Device.{DeviceState, unit_at}
-use Rattle.a2_device.specs.declared.fault.Fault.{Fault}
-use Rattle.a2_device.specs.declared.fault.WalkError.TheVariants.{Fault as AFault}
+use Rattle.vol_parts.specs.declared.fault.Fault.{Fault}
+use Rattle.vol_parts.specs.declared.fault.WalkError.TheVariants.{Fault as AFault}
 use Rattle.pro_dir.specs.Entry.{key_of}
 use Rattle.pro_dir.specs.Tree.{CanLink, HasBadLink, HasKind, HasSizes, SubdirectoryFaultAt}
 use Rattle.pro_dir.specs.Walk.{IsTable, IsFollowing, IsReadOut}

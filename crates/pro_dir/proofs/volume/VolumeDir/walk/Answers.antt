@@ -2,14 +2,14 @@ use Rattle.std.proofs.Common.{◌≡◌, [], refl, sym, ◌∙◌, subst, true, 
 use Rattle.std.specs.Prelude.{IsTrue, is_err, All, ◌*◌, ◌≤◌}
 use Rattle.std.proofs.lemmas.Result.{err_from_is_err_and}
 use Rattle.a2_device.specs.Device.{DeviceState, OnlyReads}
-use Rattle.a2_device.specs.declared.fault.Fault.{Fault}
-use Rattle.a2_device.specs.declared.fault.Fault.TheVariants.{Geometry, MapPointer}
-use Rattle.a2_device.specs.declared.fault.WalkError.TheVariants.{Fault as AFault}
+use Rattle.vol_parts.specs.declared.fault.Fault.{Fault}
+use Rattle.vol_parts.specs.declared.fault.Fault.TheVariants.{Geometry, MapPointer}
+use Rattle.vol_parts.specs.declared.fault.WalkError.TheVariants.{Fault as AFault}
 use Rattle.a2_device.specs.Reading.{then_reads}
 use Rattle.a2_device.proofs.Results.{at_ok}
 use Rattle.pro_dir.specs.Tree.{TreeFaultAt}
 use Rattle.pro_dir.specs.Volume.{Directory, Describes, VolumeFaultAt}
-use Rattle.pro_dir.specs.VolumeLaws.{no_directory}
+use Rattle.pro_dir.specs.lemmas.VolumeLaws.{no_directory}
 use Rattle.pro_dir.specs.Walk.{IsListing, IsTable, IsVolumeKey}
 use Rattle.pro_dir.specs.Within.{IsInSlot, IsWithin}
 use Rattle.pro_dir.proofs.Described.{volume_key, has_geometry, no_geometry, bad_map, described}

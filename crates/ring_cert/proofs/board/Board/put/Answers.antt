@@ -1,6 +1,6 @@
 use Rattle.std.proofs.Common.{◌≡◌, ◌<◌, length, get_or, ◌∙◌}
 use Rattle.std.proofs.lemmas.List.{get_or_default, length-set}
-use Rattle.part_layout.proofs.PlanLemmas.{IsLayout-moved}
+use Rattle.vol_layout.proofs.PlanLemmas.{IsLayout-moved}
 use Rattle.ring_cert.proofs.Boards.{TellsTaken-moved}
 use Rattle.ring_cert.proofs.board.Board.put.Goals as goal
 

@@ -1,0 +1,4 @@
+pub mod Dos
+pub mod DosVolume
+pub mod DosHolders
+pub mod lemmas

@@ -1,0 +1,15 @@
+pub mod DosLaws
+pub mod DosDirectory
+pub mod DosChain
+pub mod DosEntries
+pub mod DosBytes
+pub mod DosPointers
+pub mod DosSlots
+pub mod DosTurned
+pub mod DosRoots
+pub mod DosMarks
+pub mod DosContents
+pub mod DosMovable
+pub mod DosClearing
+pub mod DosSystemContents
+pub mod DosWritable

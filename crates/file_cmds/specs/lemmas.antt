@@ -1,0 +1,4 @@
+pub mod Exclusive
+pub mod FileAlone
+pub mod DosListing
+pub mod ProMomentLaw

@@ -1,0 +1,5 @@
+pub mod Disks
+pub mod Fronts
+pub mod Converted
+pub mod NotMade
+mod Writing

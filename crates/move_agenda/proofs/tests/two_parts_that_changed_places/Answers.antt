@@ -1,8 +1,0 @@
-use Rattle.std.proofs.Common.{refl, false, [], ◌∷◌}
-use Rattle.vol_layout.specs.Dos.{dos_available, first_available}
-use Rattle.move_agenda.proofs.Trials.{tried_plan}
-use Rattle.move_agenda.proofs.tests.two_parts_that_changed_places.Goals as goal
-
-pub agenda_of-requires-clause-plan : goal.agenda_of-requires-clause-plan
-unfolding first_available
-agenda_of-requires-clause-plan g c = tried_plan (dos_available false []) (1 ∷ 0 ∷ []) _ refl refl

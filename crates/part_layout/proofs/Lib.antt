@@ -1,9 +1,0 @@
-pub mod Lists
-pub mod RingLemmas
-pub mod RingPaths
-pub mod LowerBound
-pub mod Deficits
-pub mod Existence
-pub mod PlanLemmas
-pub mod ShortestPlans
-mod TableLemmas

@@ -1,5 +1,0 @@
-pub mod Layouts
-pub mod Plans
-pub mod Rings
-pub mod Table
-pub mod Inside

@@ -1,0 +1,12 @@
+mod Left
+mod Drafts
+mod Releases
+mod Beside
+mod Moving
+mod Places
+mod Spare
+mod Released
+mod Changed
+mod Whole
+mod Counts
+mod Totals

@@ -1,0 +1,2 @@
+pub mod TreeLaws
+pub mod VolumeLaws

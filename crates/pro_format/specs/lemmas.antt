@@ -1,0 +1,15 @@
+pub mod ProLaws
+pub mod ProDirectory
+pub mod ProTree
+pub mod ProSystem
+pub mod ProDescribed
+pub mod ProChanged
+pub mod ProBits
+pub mod ProMarks
+pub mod ProMovable
+pub mod ProKeys
+pub mod ProRekeyed
+pub mod ProRoots
+pub mod ProClearing
+pub mod ProSystemContents
+pub mod ProWritable

@@ -1,6 +1,0 @@
-use Rattle.std.proofs.Common.{◌≡◌}
-use Rattle.pro_layout.specs.Pro.{first_available}
-use Rattle.pro_layout.proofs.places.available_places.Given as goal
-
-abbrev pub invariant-loop-place : goal.invariant-loop-place
-invariant-loop-place g l = l.available.items ≡ first_available l.system l.place

@@ -1,0 +1,136 @@
+-- What was read of an image answers for the whole image, and words for their job.
+use Rattle.std.proofs.Common.{◌≡◌, ◌≢◌, ℕ, ◌+◌, Bool, List, take, refl, subst, arith, inl, inr, ⊎_elim}
+use Rattle.std.specs.Io.KnownBytes.{Keeps}
+use Rattle.std.specs.Prelude.{◌⊎◌, Option, Some, None, IfSome}
+use Rattle.a2_image.specs.declared.order.Order.{Order}
+use Rattle.shop_words.specs.Job.{JobView, catalog, check, read, convert, plan, optimize, verify, asked_job, IsTaken}
+use Rattle.shop_words.specs.declared.fault.WordsFault.{WordsFault}
+use Rattle.shop_words.specs.declared.fault.WordsFault.TheVariants as words
+use Rattle.shop_words.specs.declared.job.VolumeOptions.{VolumeOptions}
+use Rattle.job_reply.specs.declared.reply.Failure.{Failure}
+use Rattle.job_reply.specs.declared.reply.Reply.{Reply}
+use Rattle.job_reply.specs.declared.reply.Reply.TheVariants.{Done, Faulty, Bytes, Made, Optimized, Interrupted, Refused, Unopened, Failed}
+use Rattle.job_reply.specs.Disk.{most_bytes}
+use Rattle.job_reply.specs.Reply.{HandsOut, Held, IsDelivered, IsMade, held}
+use Rattle.job_reply.proofs.Fronts.{convert-whole}
+use Rattle.volume_jobs.specs.VerifyReply.{most_certificate}
+use Rattle.volume_jobs.specs.Volume.{device_of, files_of, form_of, meaning_of}
+use Rattle.volume_jobs.specs.Work.{IsWorkReply, WorkView, Catalog, Read, Check, Plan, Optimize, Verify}
+use Rattle.volume_jobs.proofs.Fronts.{verified-take, volume-whole}
+use Rattle.shop_commands.specs.Answer.{HandsOutFor, IsReadFailure, limit_of, IsToldOf, IsReplyTo, IsAnswer, IsCommandAnswer, IsWordsAnswer, MakesImage, ReadsExtra, image_order_of, order_of}
+use Rattle.shop_commands.proofs.NotMade.{told_not_made}
+
+-- a text that is too long is told so by one byte past the most
+verified_whole : (volume : VolumeOptions) (reserve : Option (List ℕ)) (image : List ℕ) (reclaim : Bool) (front bytes : List ℕ) (reply : Reply)
+    → front ≡ take (most_certificate + 1) bytes → IsToldOf volume reserve image (Verify reclaim front) reply → IsToldOf volume reserve image (Verify reclaim bytes) reply
+verified_whole volume reserve image reclaim front bytes reply taken is = elim is [
+  | inl refused ↦ inl refused
+  | inr (inl long) ↦ inr (inl long)
+  | inr (inr (inl memory)) ↦ inr (inr (inl memory))
+  | inr (inr (inr told)) ↦ inr (inr (inr (
+    told.0,
+    told.1,
+    (told.2.0, told.2.1, told.2.2, verified-take reclaim front bytes (meaning_of volume.file_system volume.data_disk told.0) (device_of volume.file_system told.2.1) reply taken told.2.3),
+  )))
+]
+
+told-whole : (volume : VolumeOptions) (reserve : Option (List ℕ)) (image : List ℕ) (work : WorkView) (reply : Reply)
+    → IsToldOf volume reserve (take (most_bytes (order_of volume.order) + 1) image) work reply → IsToldOf volume reserve image work reply
+told-whole volume reserve image work reply is =
+    volume-whole volume.file_system (order_of volume.order) volume.data_disk reserve image
+    (IsWorkReply work (form_of volume.file_system) (files_of volume.file_system)) reply is
+
+-- the bytes that are read of an image
+abbrev pub front_for : JobView → List ℕ → List ℕ
+front_for job image = take (most_bytes (image_order_of job) + 1) image
+
+-- the reply to the bytes that were read is the reply to all
+reply-whole : (job : JobView) (image more : List ℕ) (extra : Option (List ℕ)) (reply : Reply)
+    → (ReadsExtra job → IfSome extra (λ bytes. more ≡ take (most_certificate + 1) bytes))
+    → IsReplyTo job (front_for job image) (Some more) reply → IsReplyTo job image extra reply
+reply-whole (catalog path volume) image more extra reply taken is = told-whole volume None image Catalog reply is
+reply-whole (check path volume reserve) image more extra reply taken is = told-whole volume reserve image Check reply is
+reply-whole (read path name volume whole) image more extra reply taken is = told-whole volume None image (Read name whole) reply is
+reply-whole (plan path volume reserve reclaim) image more extra reply taken is = told-whole volume reserve image (Plan reclaim) reply is
+reply-whole (optimize words reserve reclaim) image more extra reply taken is =
+    told-whole words.volume reserve image (Optimize reclaim (limit_of words.stop_after)) reply is
+reply-whole (verify path volume from reserve reclaim) image more None reply taken is = tt
+reply-whole (verify path volume from reserve reclaim) image more (Some bytes) reply taken is =
+    verified_whole volume reserve image reclaim more bytes reply (taken tt) (told-whole volume reserve image (Verify reclaim more) reply is)
+reply-whole (convert words) image more extra reply taken is = convert-whole (order_of words.order) (order_of words.to) words.volume image reply is
+
+pub job_answered : (job : JobView) (known extra : Option (List ℕ)) (order : Order) (front more : List ℕ) (reply : Reply) (status : ℕ) (old new : Held)
+    → order ≡ image_order_of job → IfSome known (λ image. front ≡ take (most_bytes order + 1) image)
+    → (ReadsExtra job → IfSome extra (λ bytes. more ≡ take (most_certificate + 1) bytes)) → IsReplyTo job front (Some more) reply
+    → IsDelivered reply status old new → IfSome known (λ image. IsAnswer job image extra status old new)
+job_answered job None extra order front more reply status old new same taken taken' is told = tt
+job_answered job (Some image) extra order front more reply status old new same taken taken' is told =
+    let whole : front ≡ front_for job image = subst (λ o. front ≡ take (most_bytes o + 1) image) same taken in
+    (reply, inl (reply-whole job image more extra reply taken' (subst (λ bytes. IsReplyTo job bytes (Some more) reply) whole is)), told)
+
+-- a job whose bytes could not be read
+pub unread_answered : (job : JobView) (known extra : Option (List ℕ)) (failure : Failure) (status : ℕ) (old new : Held) → IsReadFailure failure
+    → IsDelivered (Failed failure) status old new → IfSome known (λ image. IsAnswer job image extra status old new)
+unread_answered job None extra failure status old new is told = tt
+unread_answered job (Some image) extra failure status old new is told = (Failed failure, inr (failure, is, refl), told)
+
+-- and it hands nothing out
+pub none_handed : {O P : Type 0} (failure : Failure) (old new : O) (status : ℕ) (text_old text_new : Option (List ℕ))
+    → (new ≡ old) ⊎ (IsMade (Failed failure) × HandsOut (Failed failure) status text_old text_new) → (new ≡ old) ⊎ P
+none_handed failure old new status text_old text_new handed = ⊎_elim inl (λ made. absurd made.0) handed
+
+-- only a job that makes an image has a reply with one
+makes_image : (job : JobView) (image more : List ℕ) (reply : Reply) → IsReplyTo job image (Some more) reply → IsMade reply → MakesImage job
+makes_image (catalog path volume) image more reply is made = absurd (told_not_made volume None image Catalog tt reply is made)
+makes_image (check path volume reserve) image more reply is made = absurd (told_not_made volume reserve image Check tt reply is made)
+makes_image (read path name volume whole) image more reply is made = absurd (told_not_made volume None image (Read name whole) tt reply is made)
+makes_image (plan path volume reserve reclaim) image more reply is made = absurd (told_not_made volume reserve image (Plan reclaim) tt reply is made)
+makes_image (optimize words reserve reclaim) image more reply is made = tt
+makes_image (verify path volume from reserve reclaim) image more reply is made = absurd (told_not_made volume reserve image (Verify reclaim more) tt reply is made)
+makes_image (convert words) image more reply is made = tt
+
+-- the image of a conversion is handed out with `OK`
+hands_for : (job : JobView) (image more : List ℕ) (reply : Reply) (status : ℕ) (old new : Option (List ℕ)) → IsReplyTo job image (Some more) reply → IsMade reply
+    → HandsOut reply status old new → HandsOutFor job status old new
+hands_for (convert words) image more (Made content) status old new is made out = out
+hands_for (convert words) image more (Optimized text content) status old new is made out = absurd is
+hands_for (convert words) image more (Interrupted content) status old new is made out = absurd is
+hands_for (convert words) image more (Done text) status old new is made out = absurd made
+hands_for (convert words) image more (Faulty text) status old new is made out = absurd made
+hands_for (convert words) image more (Bytes content) status old new is made out = absurd made
+hands_for (convert words) image more (Refused refusal) status old new is made out = absurd made
+hands_for (convert words) image more (Unopened text) status old new is made out = absurd made
+hands_for (convert words) image more (Failed failure) status old new is made out = absurd made
+hands_for (catalog path volume) image more reply status old new is made out = (reply, made, out)
+hands_for (check path volume reserve) image more reply status old new is made out = (reply, made, out)
+hands_for (read path name volume whole) image more reply status old new is made out = (reply, made, out)
+hands_for (plan path volume reserve reclaim) image more reply status old new is made out = (reply, made, out)
+hands_for (optimize words reserve reclaim) image more reply status old new is made out = (reply, made, out)
+hands_for (verify path volume from reserve reclaim) image more reply status old new is made out = (reply, made, out)
+
+pub image_handed : {O : Type 0} (job : JobView) (image more : List ℕ) (reply : Reply) (status : ℕ) (text_old text_new : Option (List ℕ)) (old new : O)
+    → IsReplyTo job image (Some more) reply → (new ≡ old) ⊎ (IsMade reply × HandsOut reply status text_old text_new)
+    → (new ≡ old) ⊎ (MakesImage job × HandsOutFor job status text_old text_new)
+image_handed job image more reply status text_old text_new old new is handed =
+    ⊎_elim inl (λ made. inr (makes_image job image more reply is made.0, hands_for job image more reply status text_old text_new is made.0 made.1)) handed
+
+-- ---- words
+
+pub command_answered : (list : List (List ℕ)) (job : JobView) (known extra : Option (List ℕ)) (status : ℕ) (old new : Held) → asked_job list ≡ Some job
+    → IfSome known (λ image. IsAnswer job image extra status old new) → IfSome known (λ image. IsCommandAnswer list image extra status old new)
+command_answered list job None extra status old new asked answer = tt
+command_answered list job (Some image) extra status old new asked answer = inr (job, asked, answer)
+
+pub memory_told : (fault : WordsFault) (status : ℕ) (old new : Option (List ℕ)) → fault ≡ words.Memory → IsWordsAnswer fault status old new → status ≢ 2
+memory_told fault status old new is told two = ⊎_elim (λ all. let four = all.0 in omega (arith, four, two)) (λ front. let four = front.0 in omega (arith, four, two))
+    (subst (λ f. IsWordsAnswer f status old new) is told)
+
+keeps_same : (known : Option (List ℕ)) → Keeps known known
+keeps_same None = tt
+keeps_same (Some bytes) = refl
+
+pub command_refused : (list : List (List ℕ)) (fault : WordsFault) (known extra out : Option (List ℕ)) (status : ℕ) (old new : Option (List ℕ))
+    → (IsTaken list → fault ≡ words.Memory) → IsWordsAnswer fault status old new
+    → IfSome known (λ image. IsCommandAnswer list image extra status (held old out) (held new out))
+command_refused list fault None extra out status old new taken told = tt
+command_refused list fault (Some image) extra out status old new taken told = inl (fault, taken, told, keeps_same out)

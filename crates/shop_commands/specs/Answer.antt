@@ -1,0 +1,151 @@
+-- What the program answers to a job on an image, and to words.
+use Rattle.std.specs.Prelude.{◌≡◌, ◌⊎◌, ℕ, List, Option, Some, None, IfSome, codes, string_bytes}
+use Rattle.std.specs.Io.KnownBytes.{Appends, Keeps}
+use Rattle.a2_image.specs.declared.order.Order.{Order}
+use Rattle.a2_image.specs.declared.order.Order.TheVariants as orders
+use Rattle.file_cmds.specs.DosText.{Text}
+use Rattle.shop_words.specs.Job.{JobView, catalog, check, read, convert, plan, optimize, verify, asked_job, IsTaken}
+use Rattle.shop_words.specs.declared.job.FileSystem.TheVariants as systems
+use Rattle.shop_words.specs.declared.job.ImageOrder.{ImageOrder}
+use Rattle.shop_words.specs.declared.job.ImageOrder.TheVariants as wanted
+use Rattle.shop_words.specs.declared.job.VolumeOptions.{VolumeOptions}
+use Rattle.shop_words.specs.declared.fault.WordsFault.{WordsFault}
+use Rattle.shop_words.specs.declared.fault.WordsFault.TheVariants as words
+use Rattle.job_reply.specs.declared.reply.Failure.{Failure}
+use Rattle.job_reply.specs.declared.reply.Failure.TheVariants as failures
+use Rattle.job_reply.specs.declared.reply.Reply.{Reply}
+use Rattle.job_reply.specs.declared.reply.Reply.TheVariants.{Failed}
+use Rattle.job_reply.specs.Reply.{HandsImage, Held, IsDelivered, IsWritten, failure_line}
+use Rattle.volume_jobs.specs.DosCatalogReply.{IsDosCatalogReply}
+use Rattle.volume_jobs.specs.Volume.{files_of, form_of}
+use Rattle.volume_jobs.specs.VolumeReply.{IsVolumeReply}
+use Rattle.volume_jobs.specs.Work.{IsWorkReply, WorkView, Catalog, Read, Check, Plan, Optimize, Verify}
+use Rattle.job_reply.specs.ConvertReply.{IsConvertReply}
+
+-- the path and the order of the image that a job names
+abbrev pub image_of : JobView → Text
+image_of (catalog path volume) = path
+image_of (check path volume reserve) = path
+image_of (read path name volume whole) = path
+image_of (plan path volume reserve reclaim) = path
+image_of (optimize words reserve reclaim) = words.image
+image_of (verify path volume from reserve reclaim) = path
+image_of (convert words) = words.image
+
+-- the path of the file that a job reads beside the image
+abbrev pub from_of : JobView → Option Text
+from_of (verify path volume from reserve reclaim) = Some from
+from_of job = None
+
+-- the path of the file that a job writes
+abbrev pub out_of : JobView → Option Text
+out_of (catalog path volume) = None
+out_of (check path volume reserve) = None
+out_of (read path name volume whole) = None
+out_of (plan path volume reserve reclaim) = None
+out_of (optimize words reserve reclaim) = Some words.out
+out_of (verify path volume from reserve reclaim) = None
+out_of (convert words) = Some words.out
+
+-- the order that the words name
+abbrev pub order_of : ImageOrder → Order
+order_of wanted.Dos = orders.Dos
+order_of wanted.Prodos = orders.Prodos
+order_of wanted.Nibble = orders.Nibble
+
+abbrev pub image_order_of : JobView → Order
+image_order_of (catalog path volume) = order_of volume.order
+image_order_of (check path volume reserve) = order_of volume.order
+image_order_of (read path name volume whole) = order_of volume.order
+image_order_of (plan path volume reserve reclaim) = order_of volume.order
+image_order_of (optimize words reserve reclaim) = order_of words.volume.order
+image_order_of (verify path volume from reserve reclaim) = order_of volume.order
+image_order_of (convert words) = order_of words.order
+
+-- after how many writes to stop; without a limit there are never so many
+abbrev pub limit_of : Option ℕ → ℕ
+limit_of None = 18446744073709551615
+limit_of (Some limit) = limit
+
+abbrev pub IsStatus : ℕ → Type 0
+IsStatus status = (status ≡ 0) ⊎ (status ≡ 1) ⊎ (status ≡ 3) ⊎ (status ≡ 4)
+
+-- what is told of the volume in an image, where the words reserve places or not
+abbrev pub IsToldOf : VolumeOptions → Option Text → List ℕ → WorkView → Reply → Type 0
+IsToldOf volume reserve image work reply =
+    IsVolumeReply volume.file_system (order_of volume.order) volume.data_disk reserve image (IsWorkReply work (form_of volume.file_system) (files_of volume.file_system)) reply
+
+-- the reply to a job on these bytes of an image, and on those of a file beside it where they are known
+abbrev pub IsReplyTo : JobView → List ℕ → Option (List ℕ) → Reply → Type 0
+IsReplyTo (catalog path volume) image extra reply = IsToldOf volume None image Catalog reply
+IsReplyTo (check path volume reserve) image extra reply = IsToldOf volume reserve image Check reply
+IsReplyTo (read path name volume whole) image extra reply = IsToldOf volume None image (Read name whole) reply
+IsReplyTo (plan path volume reserve reclaim) image extra reply = IsToldOf volume reserve image (Plan reclaim) reply
+IsReplyTo (optimize words reserve reclaim) image extra reply = IsToldOf words.volume reserve image (Optimize reclaim (limit_of words.stop_after)) reply
+IsReplyTo (verify path volume from reserve reclaim) image extra reply = IfSome extra (λ bytes. IsToldOf volume reserve image (Verify reclaim bytes) reply)
+IsReplyTo (convert words) image extra reply = IsConvertReply (order_of words.order) (order_of words.to) words.volume image reply
+
+-- the job reads a file beside the image
+abbrev pub ReadsExtra : JobView → Type 0
+ReadsExtra (verify path volume from reserve reclaim) = Unit {0}
+ReadsExtra job = ⊥
+
+-- the job asks where the parts of files belong
+abbrev pub AsksForMoves : JobView → Type 0
+AsksForMoves (plan path volume reserve reclaim) = Unit {0}
+AsksForMoves (optimize words reserve reclaim) = Unit {0}
+AsksForMoves (verify path volume from reserve reclaim) = Unit {0}
+AsksForMoves job = ⊥
+
+-- the job makes an image, for the output file
+abbrev pub MakesImage : JobView → Type 0
+MakesImage (catalog path volume) = ⊥
+MakesImage (check path volume reserve) = ⊥
+MakesImage (read path name volume whole) = ⊥
+MakesImage (plan path volume reserve reclaim) = ⊥
+MakesImage (optimize words reserve reclaim) = Unit {0}
+MakesImage (verify path volume from reserve reclaim) = ⊥
+MakesImage (convert words) = Unit {0}
+
+-- the image of a job is handed out, once its text is told: `OK` for a conversion, else that of the optimizer's reply
+abbrev pub HandsOutFor : JobView → ℕ → Option (List ℕ) → Option (List ℕ) → Type 0
+HandsOutFor (convert words) status old new = Appends old new (codes "OK\n") × ((status ≡ 0) ⊎ (status ≡ 4))
+HandsOutFor job status old new = HandsImage status old new
+
+-- what may go wrong before the bytes are there: a reader fails, or there is no room for what it has
+abbrev pub IsReadFailure : Failure → Type 0
+IsReadFailure failure = (failure ≡ failures.Input) ⊎ (failure ≡ failures.Memory)
+
+-- a job was answered by one reply, told and handed out behind what the writers had: the reply to its bytes, or that they could not be read
+abbrev pub IsAnswer : JobView → List ℕ → Option (List ℕ) → ℕ → Held → Held → Type 0
+IsAnswer job image extra status old new =
+    (reply : Reply) × (IsReplyTo job image extra reply ⊎ ((failure : Failure) × IsReadFailure failure × (reply ≡ Failed failure))) × IsDelivered reply status old new
+
+-- A job that lists a DOS 3.3 disk has such a reply. Of another job this says nothing.
+abbrev pub IsDosCatalogAnswer : JobView → List ℕ → ℕ → Held → Held → Type 0
+IsDosCatalogAnswer (catalog path volume) image status old new =
+    volume.file_system ≡ systems.Dos
+    → (reply : Reply) × (IsDosCatalogReply (order_of volume.order) image reply ⊎ ((failure : Failure) × IsReadFailure failure × (reply ≡ Failed failure)))
+    × IsDelivered reply status old new
+IsDosCatalogAnswer job image status old new = Unit {0}
+
+-- words that are no job were told: refused with the text for the user, or for want of memory
+abbrev pub IsWordsAnswer : WordsFault → ℕ → Option (List ℕ) → Option (List ℕ) → Type 0
+IsWordsAnswer (words.Refused text) status old new = IsWritten 2 (string_bytes text) status old new
+IsWordsAnswer words.Memory status old new = IsWritten 4 (failure_line failures.Memory) status old new
+
+-- Words were answered: refused, and only words that the workshop does not take; for want of memory; or as the job that they ask for. What is told is one text, and words
+-- that are no job hand nothing out.
+abbrev pub IsCommandAnswer : List Text → List ℕ → Option (List ℕ) → ℕ → Held → Held → Type 0
+IsCommandAnswer list image extra status old new =
+    ((fault : WordsFault) × (IsTaken list → fault ≡ words.Memory) × IsWordsAnswer fault status old.text new.text × Keeps old.out new.out)
+    ⊎ ((job : JobView) × (asked_job list ≡ Some job) × IsAnswer job image extra status old new)
+
+-- a file beside the image is read for the job that the words ask for
+abbrev pub CommandReads : List Text → Type 0
+CommandReads list = (job : JobView) × (asked_job list ≡ Some job) × ReadsExtra job
+
+-- an image was handed out for the job that the words ask for
+abbrev pub CommandHandsOut : List Text → ℕ → Option (List ℕ) → Option (List ℕ) → Type 0
+CommandHandsOut list status old new =
+    (job : JobView) × (asked_job list ≡ Some job) × MakesImage job × HandsOutFor job status old new

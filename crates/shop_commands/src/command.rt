@@ -1,0 +1,45 @@
+// Commands, from words to the text.
+ghost use Rattle.std.specs.Prelude.{◌≡◌, ◌≢◌, ◌⊎◌, IfSome, map, string_bytes};
+ghost use Rattle.shop_words.specs.Plain.{IsPlain};
+ghost use Rattle.shop_commands.specs.Answer.{CommandHandsOut, CommandReads, IsCommandAnswer, IsWordsAnswer};
+ghost use Rattle.job_reply.specs.Reply.{held};
+
+use crate::job::run_job;
+use job_reply::{Failure, Reply, written};
+use shop_words::{WordsFault, parse_words};
+use std::alloc::Global;
+use std::io::{Read, Write};
+
+/// The status of refused words.
+const WORDS_REFUSED: u8 = 2;
+
+/// Tells why words are no job: 2 and the text for the user, or 4 for want of memory.
+pub fn tell_words_fault<T: Write>(fault: &WordsFault, text: &mut T) -> u8
+    ensures { IsWordsAnswer fault.now result (T.contents text.old) (T.contents text.new) }
+{
+    match fault {
+        WordsFault::Refused(refusal) => written(refusal.as_bytes(), WORDS_REFUSED, text),
+        WordsFault::Memory => Reply::Failed(Failure::Memory).tell(text),
+    }
+}
+
+/// Does the job that the words ask for, on the image of a reader.
+pub fn run_command<I: Read, E: Read, T: Write, O: Write>(
+    alloc: Global,
+    words: &[String],
+    image: &mut I,
+    extra: &mut E,
+    text: &mut T,
+    out: &mut O,
+) -> u8
+    ensures plain { IsPlain (map string_bytes words.now) → result ≢ WORDS_REFUSED }
+    ensures answer { IfSome (I.remaining image.old) (λ bytes.
+        IsCommandAnswer (map string_bytes words.now) bytes (E.remaining extra.old) result (held (T.contents text.old) (O.contents out.old)) (held (T.contents text.new) (O.contents out.new))) }
+    ensures extra { (extra.new ≡ extra.old) ⊎ CommandReads (map string_bytes words.now) }
+    ensures out { (out.new ≡ out.old) ⊎ CommandHandsOut (map string_bytes words.now) result (T.contents text.old) (T.contents text.new) }
+{
+    match parse_words(alloc, words) {
+        Ok(job) => run_job(alloc, &job, image, extra, text, out),
+        Err(fault) => tell_words_fault(&fault, text),
+    }
+}

@@ -1,0 +1,12 @@
+//! Commands of the workshop, from words to bytes.
+//!
+//! `run_job` turns the bytes of an image into one `Reply` by the jobs of `volume_jobs` and `job_reply`, writes its text once and hands its image to the output
+//! file; `specs/Answer.antt` says which reply that is, by the job and the bytes. `run_command` is `parse_words` followed by `run_job`.
+#![tactic(auto)]
+
+mod command;
+mod input;
+mod job;
+
+pub use command::{run_command, tell_words_fault};
+pub use job::run_job;

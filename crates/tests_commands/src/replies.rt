@@ -1,0 +1,38 @@
+// What is told and handed out of replies: `job_reply`.
+use crate::answer::Answer;
+use a2_image::{ImageError, Order};
+use job_reply::{Reply, most_bytes, open_disk, written};
+use std::test::Fail;
+
+#[test]
+fn a_made_image_is_handed_out(rt: HostRuntime) -> Result<(), Fail> {
+    let image = vec![in rt.alloc(); 7; 3]?;
+    let answer = Answer::of(rt.alloc(), &Reply::Made(image));
+    assert!(rt; answer.says(0, b"OK\n"));
+    assert!(rt; answer.out.as_slice() == [7, 7, 7].as_slice());
+    Ok(())
+}
+
+#[test]
+fn a_refusal_is_told(rt: HostRuntime) {
+    let mut text = Vec::new(rt.alloc());
+    assert_eq!(rt; Reply::from(ImageError::NoSector).tell(&mut text), 3);
+    assert!(rt; text.as_slice() == b"REFUSED NoSector\n".as_slice());
+}
+
+#[test]
+fn bytes_are_written(rt: HostRuntime) {
+    let mut text = Vec::new(rt.alloc());
+    assert_eq!(rt; written(b"a text", 2, &mut text), 2);
+    assert!(rt; text.as_slice() == b"a text".as_slice());
+}
+
+#[test]
+fn a_disk_has_the_length_of_its_order(rt: HostRuntime) -> Result<(), Fail> {
+    assert_eq!(rt; most_bytes(Order::Prodos), 33_553_920);
+    let disk = open_disk(vec![in rt.alloc(); 0; 143_360]?, Order::Prodos);
+    assert!(rt; matches!(&disk, Ok(_)));
+    let blocks = open_disk(vec![in rt.alloc(); 0; 143_872]?, Order::Prodos);
+    assert!(rt; matches!(&blocks, Err(ImageError::Length)));
+    Ok(())
+}

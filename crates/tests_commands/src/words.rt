@@ -1,0 +1,132 @@
+// The words of commands: `parse_words`.
+use crate::answer::words_of;
+use shop_words::{FileSystem, ImageOrder, Job, VolumeOptions, WordsFault, parse_words};
+use std::alloc::Global;
+use std::process::Abort;
+use std::test::Fail;
+
+mod conversions;
+mod moves;
+mod reads;
+mod refusals;
+
+fn parse(alloc: Global, line: &str) -> Result<Job, WordsFault> {
+    parse_words(alloc, words_of(alloc, line)?.as_slice())
+}
+
+/// The words of a line are those of this job.
+fn asks(rt: &impl Abort, alloc: Global, line: &str, job: Job) -> Result<(), WordsFault> {
+    assert_eq!(rt; parse(alloc, line)?, job, "for {line}");
+    Ok(())
+}
+
+/// The words of a line are refused, with a text that contains both.
+fn refuses(rt: &impl Abort, alloc: Global, line: &str, wrong: &str, usage: &str) {
+    match parse(alloc, line) {
+        Err(WordsFault::Refused(text)) => {
+            assert!(rt; text.as_str().contains(wrong), "{text}");
+            assert!(rt; text.as_str().contains(usage), "{text}");
+        }
+        Ok(_) | Err(WordsFault::Memory) => assert!(rt; false, "for {line}"),
+    }
+}
+
+/// The words of a line are those of a listing of the DOS volume in the image.
+fn lists(
+    rt: &impl Abort,
+    alloc: Global,
+    line: &str,
+    image: &str,
+    order: ImageOrder,
+    data_disk: bool,
+) -> Result<(), WordsFault> {
+    let volume = VolumeOptions {
+        file_system: FileSystem::Dos,
+        order,
+        data_disk,
+    };
+    let image = image.to_string(alloc)?;
+    asks(rt, alloc, line, Job::Catalog { image, volume })
+}
+
+#[test]
+fn no_words_list_standard_input(rt: HostRuntime) -> Result<(), Fail> {
+    lists(&rt, rt.alloc(), "", "-", ImageOrder::Dos, false)?;
+    Ok(())
+}
+
+#[test]
+fn standard_input_may_be_named(rt: HostRuntime) -> Result<(), Fail> {
+    for line in [
+        "catalog - --fs dos --order dos",
+        "catalog --fs dos --order dos -",
+    ] {
+        lists(&rt, rt.alloc(), line, "-", ImageOrder::Dos, false)?;
+    }
+    Ok(())
+}
+
+#[test]
+fn options_stand_in_any_order(rt: HostRuntime) -> Result<(), Fail> {
+    for (line, data_disk) in [
+        ("catalog a.dsk --order dos --fs dos", false),
+        ("catalog a.dsk --fs dos --data-disk --order dos", true),
+        ("catalog --fs=dos --order=dos a.dsk", false),
+    ] {
+        lists(&rt, rt.alloc(), line, "a.dsk", ImageOrder::Dos, data_disk)?;
+    }
+    Ok(())
+}
+
+#[test]
+fn an_image_may_be_in_each_order(rt: HostRuntime) -> Result<(), Fail> {
+    for (line, order) in [
+        ("catalog a.dsk --fs dos --order dos", ImageOrder::Dos),
+        ("catalog a.dsk --fs dos --order prodos", ImageOrder::Prodos),
+        ("catalog a.dsk --fs dos --order nibble", ImageOrder::Nibble),
+    ] {
+        lists(&rt, rt.alloc(), line, "a.dsk", order, false)?;
+    }
+    Ok(())
+}
+
+/// The words of a line are those of a check of the DOS volume in a.dsk, in ProDOS order, with this text of the places to
+/// reserve.
+fn checks(
+    rt: &impl Abort,
+    alloc: Global,
+    line: &str,
+    reserve: Option<String>,
+) -> Result<(), WordsFault> {
+    let job = Job::Check {
+        image: "a.dsk".to_string(alloc)?,
+        volume: VolumeOptions {
+            file_system: FileSystem::Dos,
+            order: ImageOrder::Prodos,
+            data_disk: false,
+        },
+        reserve,
+    };
+    asks(rt, alloc, line, job)
+}
+
+#[test]
+fn a_check_may_reserve_places(rt: HostRuntime) -> Result<(), Fail> {
+    let alloc = rt.alloc();
+    checks(&rt, alloc, "check a.dsk --fs dos --order prodos", None)?;
+    let line = "check a.dsk --reserve 3/14,4/0 --order prodos --fs dos";
+    checks(&rt, alloc, line, Some("3/14,4/0".to_string(alloc)?))?;
+    Ok(())
+}
+
+#[test]
+fn a_refusal_prints_its_text(rt: HostRuntime) -> Result<(), Fail> {
+    let alloc = rt.alloc();
+    let refused = WordsFault::Refused("error: no\n".to_string(alloc)?);
+    assert_eq!(rt; refused.to_string(alloc)?.as_str(), "error: no\n");
+    assert_eq!(rt;
+        WordsFault::Memory.to_string(alloc)?.as_str(),
+        "out of memory"
+    );
+    Ok(())
+}

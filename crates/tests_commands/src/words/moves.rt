@@ -1,0 +1,75 @@
+// The words of plans, optimizations and verifications.
+use super::asks;
+use shop_words::{FileSystem, ImageOrder, Job, VolumeOptions, WordsFault};
+use std::alloc::Global;
+use std::process::Abort;
+use std::test::Fail;
+
+const PRODOS: VolumeOptions = VolumeOptions {
+    file_system: FileSystem::Prodos,
+    order: ImageOrder::Prodos,
+    data_disk: false,
+};
+
+#[test]
+fn a_plan_may_reclaim_and_reserve(rt: HostRuntime) -> Result<(), Fail> {
+    let alloc = rt.alloc();
+    let job = Job::Plan {
+        image: "a.po".to_string(alloc)?,
+        volume: PRODOS,
+        reserve: Some("7,280".to_string(alloc)?),
+        reclaim: true,
+    };
+    let line = "plan a.po --fs prodos --order prodos --reclaim --reserve 7,280";
+    asks(&rt, alloc, line, job)?;
+    Ok(())
+}
+
+/// The words of an optimization of a.po and these are those of one with this limit.
+fn optimizes(
+    rt: &impl Abort,
+    alloc: Global,
+    more: &str,
+    stop_after: Option<u64>,
+) -> Result<(), WordsFault> {
+    let job = Job::Optimize {
+        image: "a.po".to_string(alloc)?,
+        volume: PRODOS,
+        out: "b.po".to_string(alloc)?,
+        reserve: None,
+        reclaim: true,
+        stop_after,
+    };
+    let line = format!(in alloc; "optimize a.po --fs prodos --order prodos --reclaim {more}")?;
+    asks(rt, alloc, line.as_str(), job)
+}
+
+#[test]
+fn an_optimization_may_have_a_limit_of_writes(rt: HostRuntime) -> Result<(), Fail> {
+    for (more, stop_after) in [
+        ("--out b.po", None),
+        ("--out b.po --stop-after 0", Some(0)),
+        (
+            "--stop-after 18446744073709551615 --out b.po",
+            Some(18446744073709551615),
+        ),
+    ] {
+        optimizes(&rt, rt.alloc(), more, stop_after)?;
+    }
+    Ok(())
+}
+
+#[test]
+fn a_verification_reads_a_certificate(rt: HostRuntime) -> Result<(), Fail> {
+    let alloc = rt.alloc();
+    let job = Job::Verify {
+        image: "a.po".to_string(alloc)?,
+        volume: PRODOS,
+        from: "a.cert".to_string(alloc)?,
+        reserve: None,
+        reclaim: true,
+    };
+    let line = "verify a.po --fs prodos --order prodos --reclaim --from a.cert";
+    asks(&rt, alloc, line, job)?;
+    Ok(())
+}

@@ -1,0 +1,111 @@
+// Words that are refused, and the text that tells why.
+use super::refuses;
+
+const PROGRAM_USAGE: &str = "Usage: a2shop <COMMAND>";
+
+const CATALOG_USAGE: &str = "Usage: a2shop catalog ";
+
+const CONVERT_USAGE: &str = "Usage: a2shop convert ";
+
+const OPTIMIZE_USAGE: &str = "Usage: a2shop optimize ";
+
+const PLAIN_OPTIMIZATION: &str = "optimize a.po --fs prodos --order prodos --reclaim";
+
+const VERIFICATION: &str = "verify a.po --fs prodos --order prodos --reclaim";
+
+#[test]
+fn unknown_and_missing_words_are_refused(rt: HostRuntime) {
+    for (line, wrong, usage) in [
+        (
+            "catolog a.dsk --fs dos --order dos",
+            "'catolog'",
+            PROGRAM_USAGE,
+        ),
+        ("--fs dos", "'--fs'", PROGRAM_USAGE),
+        ("catalog a.dsk --order dos", "--fs <fs>", CATALOG_USAGE),
+        ("catalog a.dsk --fs dos", "--order <order>", CATALOG_USAGE),
+        ("catalog --fs dos --order dos", "<image>", CATALOG_USAGE),
+        (
+            "catalog a.dsk --fs dos --order",
+            "'--order <order>'",
+            CATALOG_USAGE,
+        ),
+        (
+            "read a.dsk --fs dos --order dos",
+            "<name>",
+            "Usage: a2shop read ",
+        ),
+        (
+            "convert a.dsk --order dos --to nibble",
+            "--out <out>",
+            CONVERT_USAGE,
+        ),
+        (PLAIN_OPTIMIZATION, "--out <out>", OPTIMIZE_USAGE),
+        (VERIFICATION, "--from <from>", "Usage: a2shop verify "),
+    ] {
+        refuses(&rt, rt.alloc(), line, wrong, usage);
+    }
+}
+
+#[test]
+fn words_that_are_too_many_are_refused(rt: HostRuntime) {
+    for (line, wrong) in [
+        ("catalog a.dsk b.dsk --fs dos --order dos", "'b.dsk'"),
+        (
+            "catalog a.dsk --fs dos --order dos --fs dos",
+            "'--fs <fs>' cannot be used multiple times",
+        ),
+        ("catalog a.dsk --fs dos --order dos --whole", "'--whole'"),
+    ] {
+        refuses(&rt, rt.alloc(), line, wrong, CATALOG_USAGE);
+    }
+}
+
+#[test]
+fn words_out_of_their_set_are_refused(rt: HostRuntime) {
+    for (line, wrong, usage) in [
+        (
+            "catalog a.dsk --fs cpm --order dos",
+            "invalid value 'cpm' for '--fs <fs>'\n  [possible values: dos, prodos]",
+            CATALOG_USAGE,
+        ),
+        (
+            "catalog a.dsk --fs dos --order DOS",
+            "invalid value 'DOS' for '--order <order>'\n  [possible values: dos, prodos, nibble]",
+            CATALOG_USAGE,
+        ),
+        (
+            "convert a.dsk --order dos --to woz --out b.nib",
+            "invalid value 'woz' for '--to <to>'\n  [possible values: dos, prodos, nibble]",
+            CONVERT_USAGE,
+        ),
+        (
+            "optimize a.po --fs prodos --order prodos --reclaim --out b.po \
+             --stop-after 18446744073709551616",
+            "--stop-after",
+            OPTIMIZE_USAGE,
+        ),
+    ] {
+        refuses(&rt, rt.alloc(), line, wrong, usage);
+    }
+}
+
+#[test]
+fn help_is_a_refusal_with_the_help(rt: HostRuntime) {
+    for (line, wanted, usage) in [
+        ("--help", "List the files of a volume", PROGRAM_USAGE),
+        ("help", "List the files of a volume", PROGRAM_USAGE),
+        (
+            "catalog --help",
+            "File system of the volume: dos",
+            CATALOG_USAGE,
+        ),
+        (
+            "help catalog",
+            "File system of the volume: dos",
+            CATALOG_USAGE,
+        ),
+    ] {
+        refuses(&rt, rt.alloc(), line, wanted, usage);
+    }
+}

@@ -1,0 +1,305 @@
+//! A file system of one folder, in memory. It counts its calls, and one of them may fail.
+
+use std::alloc::{Allocator, Global};
+use std::cell::{Cell, RefCell};
+use std::fs::{Metadata, OpenFile, OpenOptions, Permissions};
+use std::io::{self, Empty, ErrorKind, Read, Seek, SeekFrom, Write};
+use std::os::unix::fs::PermissionsExt;
+use std::path::PathBuf;
+use std::rt::Files;
+use std::test::Fail;
+
+/// The access mode of a file that is opened anew.
+const MODE_OF_NEW: u32 = 0o600;
+
+/// What of a mode is no kind.
+const MODE_BITS: u32 = 0o7777;
+
+/// The most bytes that one call writes.
+const MOST_WRITTEN: usize = 3;
+
+/// What stands at a name.
+#[derive(Clone, Copy, PartialEq, Eq)]
+pub enum Kind {
+    File,
+    Folder,
+    Link,
+}
+
+/// A name and what stands there: of a file its text, of a link the name that it leads to.
+#[derive(Drop)]
+struct Entry {
+    name: String,
+    kind: Kind,
+    mode: u32,
+    text: String,
+}
+
+/// The folder.
+#[derive(Drop)]
+pub struct Folder {
+    alloc: Global,
+    entries: RefCell<Vec<Entry>>,
+    calls: Cell<u32>,
+    failing: Option<u32>,
+}
+
+/// The folder as a file system.
+#[derive(Clone, Copy)]
+pub struct Mounted<'a>(pub &'a Folder);
+
+/// An open file of a folder.
+#[derive(Drop)]
+pub struct OpenEntry<'a> {
+    folder: &'a Folder,
+    name: String,
+}
+
+impl Kind {
+    // The access mode of what a test puts there, which is the one that its `Metadata` tells.
+    fn mode(self) -> u32 {
+        match self {
+            Kind::File => 0o644,
+            Kind::Folder => 0o755,
+            Kind::Link => 0o777,
+        }
+    }
+}
+
+impl Entry {
+    fn metadata(&self) -> Metadata {
+        let length = self.text.len() as u64;
+        match self.kind {
+            Kind::File => Metadata::of_file(length),
+            Kind::Folder => Metadata::of_dir(),
+            Kind::Link => Metadata::of_symlink(length),
+        }
+    }
+}
+
+fn entry_at<'e>(entries: &'e [Entry], name: &str) -> io::Result<&'e Entry> {
+    for entry in entries {
+        if entry.name.as_str() == name {
+            return Ok(entry);
+        }
+    }
+    Err(io::Error::from(ErrorKind::NotFound))
+}
+
+fn entry_at_mut<'e>(entries: &'e mut [Entry], name: &str) -> io::Result<&'e mut Entry> {
+    for entry in entries.iter_mut() {
+        if entry.name.as_str() == name {
+            return Ok(entry);
+        }
+    }
+    Err(io::Error::from(ErrorKind::NotFound))
+}
+
+// What a name leads to. No link leads to a link.
+fn followed<'e>(entries: &'e [Entry], name: &str) -> io::Result<&'e Entry> {
+    let entry = entry_at(entries, name)?;
+    match entry.kind {
+        Kind::Link => entry_at(entries, entry.text.as_str()),
+        Kind::File | Kind::Folder => Ok(entry),
+    }
+}
+
+fn unsupported() -> io::Error {
+    io::Error::from(ErrorKind::Unsupported)
+}
+
+impl Folder {
+    /// A folder that holds these names, of whose calls the one after `failing` others fails.
+    pub fn holding(
+        alloc: Global,
+        entries: &[(&str, Kind, &str)],
+        failing: Option<u32>,
+    ) -> io::Result<Folder> {
+        let folder = Folder {
+            alloc,
+            entries: RefCell::new(Vec::new(alloc)),
+            calls: Cell::new(0),
+            failing,
+        };
+        for (name, kind, text) in entries {
+            folder.put(name, *kind, text)?;
+        }
+        Ok(folder)
+    }
+
+    /// Puts something at a name that is free. This is no call of the file system.
+    pub fn put(&self, name: &str, kind: Kind, text: &str) -> io::Result<()> {
+        self.add(name, kind, kind.mode(), text)
+    }
+
+    /// The allocator of what the folder holds and shows.
+    pub fn alloc(&self) -> Global {
+        self.alloc
+    }
+
+    /// How many calls there were, those that failed too.
+    pub fn calls(&self) -> u32 {
+        self.calls.get()
+    }
+
+    /// Each name in the order in which it was put there, with its access mode and its text.
+    pub fn shown(&self) -> Result<String, Fail> {
+        let mut shown = String::new(self.alloc);
+        for entry in self.entries.try_borrow()?.iter() {
+            let (name, mode, text) = (&entry.name, entry.mode, &entry.text);
+            write!(shown, "{name} {mode:o} {text}; ")?;
+        }
+        Ok(shown)
+    }
+
+    fn add(&self, name: &str, kind: Kind, mode: u32, text: &str) -> io::Result<()> {
+        let entry = Entry {
+            name: name.to_string(self.alloc)?,
+            kind,
+            mode,
+            text: text.to_string(self.alloc)?,
+        };
+        self.entries.try_borrow_mut()?.push(entry)?;
+        Ok(())
+    }
+
+    // Counts a call, and fails the one that is to fail.
+    fn count(&self) -> io::Result<()> {
+        let before = self.calls.get();
+        self.calls.set(before.wrapping_add(1));
+        if self.failing == Some(before) {
+            return Err(io::Error::from(ErrorKind::PermissionDenied));
+        }
+        Ok(())
+    }
+}
+
+impl<'a> Files for Mounted<'a> {
+    type File = OpenEntry<'a>;
+
+    type Dir = Empty;
+
+    fn open_file(&self, how: &OpenOptions, path: &str) -> io::Result<OpenEntry<'a>> {
+        let Mounted(folder) = *self;
+        folder.count()?;
+        how.check()?;
+        if !how.asks_create_new() {
+            return Err(unsupported());
+        }
+        if entry_at(&folder.entries.try_borrow()?, path).is_ok() {
+            return Err(io::Error::from(ErrorKind::AlreadyExists));
+        }
+        folder.add(path, Kind::File, MODE_OF_NEW, "")?;
+        let name = path.to_string(folder.alloc)?;
+        Ok(OpenEntry { folder, name })
+    }
+
+    fn open_dir(&self, _path: &str) -> io::Result<Empty> {
+        Err(unsupported())
+    }
+
+    fn metadata(&self, path: &str) -> io::Result<Metadata> {
+        self.0.count()?;
+        Ok(followed(&self.0.entries.try_borrow()?, path)?.metadata())
+    }
+
+    fn symlink_metadata(&self, path: &str) -> io::Result<Metadata> {
+        self.0.count()?;
+        Ok(entry_at(&self.0.entries.try_borrow()?, path)?.metadata())
+    }
+
+    fn copy(&self, _from: &str, _to: &str) -> io::Result<u64> {
+        Err(unsupported())
+    }
+
+    fn rename(&self, from: &str, to: &str) -> io::Result<()> {
+        self.0.count()?;
+        let name = to.to_string(self.0.alloc)?;
+        let mut entries = self.0.entries.try_borrow_mut()?;
+        entry_at(&entries, from)?;
+        entries.retain(|entry| entry.name.as_str() != to);
+        entry_at_mut(&mut entries, from)?.name = name;
+        Ok(())
+    }
+
+    fn remove_file(&self, path: &str) -> io::Result<()> {
+        self.0.count()?;
+        let mut entries = self.0.entries.try_borrow_mut()?;
+        entry_at(&entries, path)?;
+        entries.retain(|entry| entry.name.as_str() != path);
+        Ok(())
+    }
+
+    fn create_dir(&self, _path: &str) -> io::Result<()> {
+        Err(unsupported())
+    }
+
+    fn remove_dir(&self, _path: &str) -> io::Result<()> {
+        Err(unsupported())
+    }
+
+    fn remove_dir_all<B: Allocator>(&self, _alloc: B, _path: &str) -> io::Result<()> {
+        Err(unsupported())
+    }
+
+    fn canonicalize<B: Allocator>(&self, alloc: B, path: &str) -> io::Result<PathBuf<B>> {
+        self.0.count()?;
+        let entries = self.0.entries.try_borrow()?;
+        let entry = followed(&entries, path)?;
+        Ok(PathBuf::from_str(alloc, entry.name.as_str())?)
+    }
+}
+
+impl Read for OpenEntry<'_> {
+    fn read(&mut self, _buf: &mut [u8]) -> io::Result<usize> {
+        Err(unsupported())
+    }
+}
+
+impl Write for OpenEntry<'_> {
+    fn write(&mut self, buf: &[u8]) -> io::Result<usize> {
+        self.folder.count()?;
+        let mut entries = self.folder.entries.try_borrow_mut()?;
+        let entry = entry_at_mut(&mut entries, self.name.as_str())?;
+        let count = buf.len().min(MOST_WRITTEN);
+        for byte in &buf[..count] {
+            entry.text.push(char::from(*byte))?;
+        }
+        Ok(count)
+    }
+
+    fn flush(&mut self) -> io::Result<()> {
+        Ok(())
+    }
+}
+
+impl Seek for OpenEntry<'_> {
+    fn seek(&mut self, _to: SeekFrom) -> io::Result<u64> {
+        Err(unsupported())
+    }
+}
+
+impl OpenFile for OpenEntry<'_> {
+    fn metadata(&self) -> io::Result<Metadata> {
+        Err(unsupported())
+    }
+
+    fn set_len(&self, _size: u64) -> io::Result<()> {
+        Err(unsupported())
+    }
+
+    fn sync_all(&self) -> io::Result<()> {
+        self.folder.count()
+    }
+
+    fn sync_data(&self) -> io::Result<()> {
+        Err(unsupported())
+    }
+
+    fn set_permissions(&self, perm: Permissions) -> io::Result<()> {
+        self.folder.count()?;
+        let mut entries = self.folder.entries.try_borrow_mut()?;
+        entry_at_mut(&mut entries, self.name.as_str())?.mode = perm.mode() & MODE_BITS;
+        Ok(())
+    }
+}

@@ -1,0 +1,3 @@
+mod Trials
+mod Plans
+mod Resumes
