@@ -2,7 +2,7 @@
 
 use crate::folder::{Folder, Kind, Mounted};
 use refusing::Refusing;
-use std::alloc::{Allocator, Global};
+use std::alloc::{AllocError, Allocator, Global};
 use std::io::{self, ErrorKind, Write};
 use std::os::unix::fs::PermissionsExt;
 use std::rt::Files;
@@ -26,10 +26,8 @@ fn write_aside<R: Files, A: Allocator + Copy>(out: &mut AsideFile<'_, R, A>) -> 
 
 /// Replaces the file that a path leads to.
 fn replace<R: Files, A: Allocator + Copy>(rt: &R, alloc: A, path: &str) -> io::Result<()> {
-    let Target::Place(place, mode) = target_of(rt, alloc, path)? else {
-        return Err(io::Error::from(ErrorKind::Unsupported));
-    };
-    let mut out = AsideFile::new(rt, alloc, place.as_str(), mode.as_ref());
+    let target = target_of(rt, alloc, path)?;
+    let mut out = AsideFile::new(rt, alloc, &target);
     match write_aside(&mut out) {
         Ok(()) => out.take_place(),
         Err(error) => {
@@ -67,16 +65,16 @@ fn the_file_that_a_path_leads_to(rt: HostRuntime) -> Result<(), Fail> {
     Ok(())
 }
 
-/// Where a call fails, its error is the answer, what stood there stands, and no file aside does. The calls: asked twice where
-/// the path leads; made, given its mode, written twice, put onto the disk, renamed.
+/// Where a call fails, its error is the answer, or that no file can be written there, what stood there stands, and no file aside
+/// does. The calls: asked twice where the path leads; made, given its mode, written twice, put onto the disk, renamed.
 #[test]
 fn each_call_failing(rt: HostRuntime) -> Result<(), Fail> {
     for failing in 0..9 {
         let folder = Folder::holding(rt.alloc(), &FILE_AND_LINK, Some(failing))?;
-        let text = if failing < 8 {
-            "PermissionDenied, image 644 old; link 777 image; "
-        } else {
-            "link 777 image; image 644 newer; "
+        let text = match failing {
+            0..2 => "NotFound, image 644 old; link 777 image; ",
+            2..8 => "PermissionDenied, image 644 old; link 777 image; ",
+            _ => "link 777 image; image 644 newer; ",
         };
         assert_eq!(rt;
             replaced(&folder, rt.alloc(), "image")?.as_str(),
@@ -136,17 +134,22 @@ fn a_hundred_names_that_are_taken(rt: HostRuntime) -> Result<(), Fail> {
     Ok(())
 }
 
+/// The place of a file.
+fn place_of_image(alloc: Global) -> Result<Target<Global>, AllocError> {
+    Ok(Target::Place("image".to_string(alloc)?, None))
+}
+
 /// Whether a file aside is written and not empty. It does not take its place.
-fn is_written(folder: &Folder) -> bool {
+fn is_written(folder: &Folder, target: &Target<Global>) -> bool {
     let files = Mounted(folder);
-    let mut out = AsideFile::new(&files, folder.alloc(), "image", None);
+    let mut out = AsideFile::new(&files, folder.alloc(), target);
     write_aside(&mut out).is_ok() && !out.is_empty()
 }
 
 #[test]
 fn what_stood_there_stands_until_the_end(rt: HostRuntime) -> Result<(), Fail> {
     let folder = Folder::holding(rt.alloc(), &FILE_AND_LINK, None)?;
-    assert!(rt; is_written(&folder));
+    assert!(rt; is_written(&folder, &place_of_image(rt.alloc())?));
     assert_eq!(rt;
         folder.shown()?.as_str(),
         "image 644 old; link 777 image; image.0.new 600 newer; "
@@ -155,24 +158,24 @@ fn what_stood_there_stands_until_the_end(rt: HostRuntime) -> Result<(), Fail> {
 }
 
 /// Whether a file aside to which nothing is written is empty to its end, and its end is good.
-fn ends_empty(folder: &Folder) -> bool {
+fn ends_empty(folder: &Folder, target: &Target<Global>) -> bool {
     let files = Mounted(folder);
-    let mut out = AsideFile::new(&files, folder.alloc(), "image", None);
+    let mut out = AsideFile::new(&files, folder.alloc(), target);
     out.flush_to_disk().is_ok() && out.is_empty() && out.take_place().is_ok()
 }
 
 #[test]
 fn nothing_is_made_where_nothing_is_written(rt: HostRuntime) -> Result<(), Fail> {
     let folder = Folder::holding(rt.alloc(), &FILE_AND_LINK, None)?;
-    assert!(rt; ends_empty(&folder));
+    assert!(rt; ends_empty(&folder, &place_of_image(rt.alloc())?));
     assert_eq!(rt; folder.calls(), 0);
     Ok(())
 }
 
 /// Whether a file aside of which a write failed is not empty, and cannot be put onto the disk.
-fn remembers_a_failure(folder: &Folder) -> bool {
+fn remembers_a_failure(folder: &Folder, target: &Target<Global>) -> bool {
     let files = Mounted(folder);
-    let mut out = AsideFile::new(&files, folder.alloc(), "image", None);
+    let mut out = AsideFile::new(&files, folder.alloc(), target);
     write_aside(&mut out).is_err() && !out.is_empty() && out.flush_to_disk().is_err()
 }
 
@@ -181,7 +184,8 @@ fn remembers_a_failure(folder: &Folder) -> bool {
 fn a_failed_write_is_not_forgotten(rt: HostRuntime) -> Result<(), Fail> {
     for failing in 0..3 {
         let folder = Folder::holding(rt.alloc(), &[], Some(failing))?;
-        assert!(rt; remembers_a_failure(&folder), "call {failing}");
+        let target = place_of_image(rt.alloc())?;
+        assert!(rt; remembers_a_failure(&folder, &target), "call {failing}");
     }
     Ok(())
 }
@@ -198,6 +202,7 @@ static EACH_KIND: [(&str, Kind, &str); 4] = [
 fn leads_to<A: Allocator + Copy>(folder: &Folder, alloc: A, path: &str) -> Result<String, Fail> {
     match target_of(&Mounted(folder), alloc, path) {
         Ok(Target::Straight) => Ok("straight".to_string(folder.alloc())?),
+        Ok(Target::Nowhere) => Ok("nowhere".to_string(folder.alloc())?),
         Ok(Target::Place(place, mode)) => {
             let bits = mode.map(|mode| mode.mode() & MODE_BITS);
             Ok(format!(in folder.alloc(); "{place} with {bits:?}")?)
@@ -213,22 +218,18 @@ fn leads_to<A: Allocator + Copy>(folder: &Folder, alloc: A, path: &str) -> Resul
 static PATHS: [(&str, &str, u32); 5] = [
     ("image", "image with Some(420)", 2),
     ("link", "image with Some(420)", 2),
-    ("inner", "straight", 1),
+    ("inner", "nowhere", 1),
     ("lost", "straight", 2),
     ("other", "other with None", 2),
 ];
 
-/// Where a call fails, its error is the answer.
+/// Where a call fails, no file can be written there.
 #[test]
 fn where_a_path_leads(rt: HostRuntime) -> Result<(), Fail> {
     for (path, text, calls) in &PATHS {
         for failing in 0..=*calls {
             let folder = Folder::holding(rt.alloc(), &EACH_KIND, Some(failing))?;
-            let text = if failing < *calls {
-                "PermissionDenied"
-            } else {
-                *text
-            };
+            let text = if failing < *calls { "nowhere" } else { *text };
             assert_eq!(rt;
                 leads_to(&folder, rt.alloc(), path)?.as_str(),
                 text,

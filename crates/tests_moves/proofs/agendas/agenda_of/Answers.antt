@@ -1,4 +1,4 @@
-use Rattle.std.proofs.Common.{refl, ap, ◌∙◌, ◌≡◌}
+use Rattle.std.proofs.Common.{refl, ap, ◌∙◌}
 use Rattle.dos_format.specs.Dos.{DosRules, dos_available}
 use Rattle.tests_moves.proofs.agendas.agenda_of.Goals as goal
 

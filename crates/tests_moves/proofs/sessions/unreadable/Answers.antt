@@ -1,4 +1,4 @@
-use Rattle.std.proofs.Common.{◌≡◌, ◌∙◌, sym, subst, ap}
+use Rattle.std.proofs.Common.{◌≡◌, sym, subst, ap}
 use Rattle.a2_device.specs.contracts.failing.FaultDeviceDevice.TheImpl.{ghosts}
 use Rattle.vol_mover.specs.Present.{IsSession}
 use Rattle.vol_mover.specs.Shown.{present, resumed}
