@@ -187,9 +187,9 @@ module _ (kind : UnitKind) (image : DiskImage) (place : ℕ) (are : AreUnits (un
 
 -- a unit that was there is written over
 pub is_written : (kind : UnitKind) (old new : DiskImage) (place : ℕ) (unit : List ℕ) → AreUnits (unit_bytes kind) (place_count kind old) (units_of kind old)
-    → place < place_count kind old → HasUnits kind old → length unit ≡ unit_bytes kind → new.order ≡ old.order → length new.bytes ≡ length old.bytes
+    → place < place_count kind old → HasUnits kind old → length unit ≡ unit_bytes kind → new.order ≡ old.order → length new.bytes ≡ length old.bytes → new.kept ≡ old.kept
     → units_of kind new ≡ set (units_of kind old) place (Some unit) → unit_in (units_of kind old) place ≢ None → IsWritten kind place unit old new
-is_written kind old new place unit are within has sized order long is there =
+is_written kind old new place unit are within has sized order long kept is there =
     let size = unit_bytes kind in
     let units = units_of kind old in
     let below = among kind old place are within in
@@ -197,6 +197,7 @@ is_written kind old new place unit are within has sized order long is there =
     record {
       order = order;
       long = long;
+      kept = kept;
       places = same;
       stored = ap (stored_units size) is ∙ stored_units-set size units place unit;
       unreadable = ap unreadable_places is ∙ unreadable_places-set units place unit below there;

@@ -4,10 +4,12 @@ use Rattle.a2_image.specs.declared.order.Order.{Order}
 use Rattle.a2_device.specs.declared.device.DeviceError.{DeviceError}
 use Rattle.a2_device.specs.declared.device.DeviceError.TheVariants.{Spent}
 
--- the image that the units of a device lie in: the order of its sectors, and how many bytes it has
+-- the image that the units of a device lie in: the order of its sectors, how many bytes it has, and each of them that no
+-- write may change
 pub record ImageForm : Type 0 where
   pub order : Order
   pub bytes : ℕ
+  pub kept : List (Option ℕ)
 
 -- A device: how many places it has, the size of a unit, the image that its units lie in, if any, the two counts
 -- that it tells, whether it is honest; and the units that it would answer now, the places that can't be read, the

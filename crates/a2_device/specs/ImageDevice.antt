@@ -35,7 +35,7 @@ abbrev pub image_state : UnitKind → DiskImage → ℕ → ℕ → ℕ → Devi
 image_state kind image writes standing faults = record {
   places = place_count kind image;
   unit_size = unit_bytes kind;
-  image = Some (record { order = image.order; bytes = length image.bytes });
+  image = Some (record { order = image.order; bytes = length image.bytes; kept = image.kept });
   writes = writes;
   faults = faults;
   honest = true;
@@ -51,6 +51,7 @@ image_state kind image writes standing faults = record {
 pub record IsWritten (kind : UnitKind) (place : ℕ) (unit : List ℕ) (old new : DiskImage) : Type 0 where
   pub order : new.order ≡ old.order
   pub long : length new.bytes ≡ length old.bytes
+  pub kept : new.kept ≡ old.kept
   pub places : place_count kind new ≡ place_count kind old
   pub stored : stored_units (unit_bytes kind) (units_of kind new) ≡ slice_set (stored_units (unit_bytes kind) (units_of kind old)) place unit
   pub unreadable : unreadable_places (units_of kind new) ≡ unreadable_places (units_of kind old)

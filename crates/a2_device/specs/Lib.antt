@@ -4,3 +4,4 @@ pub mod DosPlaces
 pub mod ImageDevice
 pub mod Reading
 pub mod Orders
+pub mod Writes

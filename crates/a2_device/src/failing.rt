@@ -1,6 +1,7 @@
 // A device whose next read or write fails to order.
-ghost use Rattle.std.specs.Prelude.{◌≡◌, Some, [], ◌∷◌};
+ghost use Rattle.std.specs.Prelude.{◌≡◌, ◌<◌, Some, None, false, true, [], ◌∷◌, length};
 ghost use Rattle.a2_device.specs.Orders.{with_orders, HasSameUnits};
+ghost use Rattle.a2_device.specs.Writes.{Writes};
 
 use crate::counts::with_refusal;
 use crate::{Device, DeviceError};
@@ -20,7 +21,8 @@ pub struct FaultDevice<D: Device> {
 impl<D: Device> FaultDevice<D> {
     /// The device with no failure ordered.
     pub fn new(device: D) -> Self
-        ensures { ⟦<FaultDevice<D> as Device>⟧.state result ≡ D.state device }
+        ensures orders { result ≡ record { device = device; read_order = false; write_order = None; writes = 0; faults = 0 } }
+        ensures state { ⟦<FaultDevice<D> as Device>⟧.state result ≡ D.state device }
     {
         // The counts of a device fit their type.
         let _writes = device.writes();
@@ -34,8 +36,9 @@ impl<D: Device> FaultDevice<D> {
         }
     }
 
-    /// The next read is a fault.
+    /// The next read is a fault, however often it is ordered.
     pub fn fail_read(&mut self)
+        ensures orders { self.new ≡ record self.old { read_order = true } }
         ensures ordered { let state = ⟦<FaultDevice<D> as Device>⟧.state in
             (state self.old).read_failures ≡ Some 0 → (state self.new).read_failures ≡ Some 1 }
         ensures rest { let state = ⟦<FaultDevice<D> as Device>⟧.state in
@@ -44,8 +47,9 @@ impl<D: Device> FaultDevice<D> {
         self.read_order = true;
     }
 
-    /// The next write is a fault; `took` says whether the new unit stands.
+    /// The next write is a fault; `took` says whether the new unit stands. A later order takes the place of an earlier one.
     pub fn fail_write(&mut self, took: bool)
+        ensures orders { self.new ≡ record self.old { write_order = Some took } }
         ensures ordered { let state = ⟦<FaultDevice<D> as Device>⟧.state in
             (state self.old).write_failures ≡ Some [] → (state self.new).write_failures ≡ Some (took ∷ []) }
         ensures rest { let state = ⟦<FaultDevice<D> as Device>⟧.state in
@@ -56,10 +60,36 @@ impl<D: Device> FaultDevice<D> {
 
     /// The device that calls were passed on to.
     pub fn into_inner(self) -> D
-        ensures { HasSameUnits (⟦<FaultDevice<D> as Device>⟧.state self) (D.state result) }
+        ensures device { result ≡ self.device }
+        ensures units { HasSameUnits (⟦<FaultDevice<D> as Device>⟧.state self) (D.state result) }
     {
         let FaultDevice { device, .. } = self;
         device
+    }
+
+    // Passes a write on, or refuses it where that was ordered or the count of writes is at its last value.
+    fn write_as_ordered(&mut self, place: u32, unit: &[u8]) -> Result<(), DeviceError>
+        requires place { place < (D.state self.old.device).places }
+        requires unit { length unit.now ≡ (D.state self.old.device).unit_size }
+        ensures { let state = ⟦<FaultDevice<D> as Device>⟧.state in Writes place unit.now result (state self.old) (state self.new) }
+    {
+        if self.writes() == u64::MAX {
+            self.faults = with_refusal(self.device.faults(), self.faults);
+            return Err(DeviceError::Spent);
+        }
+        match self.write_order {
+            None => self.device.write(place, unit),
+            Some(took) => {
+                if took {
+                    self.device.write(place, unit)?;
+                } else {
+                    self.writes += 1;
+                }
+                self.write_order = None;
+                self.faults = with_refusal(self.device.faults(), self.faults);
+                Err(DeviceError::Fault)
+            }
+        }
     }
 }
 
@@ -94,22 +124,6 @@ impl<D: Device> Device for FaultDevice<D> {
     }
 
     fn write(&mut self, place: u32, unit: &[u8]) -> Result<(), DeviceError> {
-        if self.writes() == u64::MAX {
-            self.faults = with_refusal(self.device.faults(), self.faults);
-            return Err(DeviceError::Spent);
-        }
-        match self.write_order {
-            None => self.device.write(place, unit),
-            Some(took) => {
-                if took {
-                    self.device.write(place, unit)?;
-                } else {
-                    self.writes += 1;
-                }
-                self.write_order = None;
-                self.faults = with_refusal(self.device.faults(), self.faults);
-                Err(DeviceError::Fault)
-            }
-        }
+        self.write_as_ordered(place, unit)
     }
 }

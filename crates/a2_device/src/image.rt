@@ -67,7 +67,7 @@ impl<A: Allocator> ImageDevice<A> {
 
     /// The image as it is now.
     pub fn into_image(self) -> Image<A>
-        ensures form { (⟦<ImageDevice<A> as Device>⟧.state self).image ≡ Some (record { order = result.order; bytes = length result.bytes }) }
+        ensures form { (⟦<ImageDevice<A> as Device>⟧.state self).image ≡ Some (record { order = result.order; bytes = length result.bytes; kept = result.kept }) }
         ensures sectors { let state = ⟦<ImageDevice<A> as Device>⟧.state self in
             state.unit_size ≡ 256 → AreUnitsOf state (sectors_by_place result.sectors) }
         ensures blocks { let state = ⟦<ImageDevice<A> as Device>⟧.state self in

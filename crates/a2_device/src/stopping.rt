@@ -18,7 +18,8 @@ pub struct StopDevice<D: Device> {
 impl<D: Device> StopDevice<D> {
     /// The device, of which `passes` writes are passed on.
     pub fn new(device: D, passes: u64) -> Self
-        ensures { let state = D.state device in
+        ensures passes { result ≡ record { device = device; passes = passes; writes = 0; faults = 0 } }
+        ensures state { let state = D.state device in
             ⟦<StopDevice<D> as Device>⟧.state result ≡ record state { passes = at_most passes state.passes } }
     {
         // The counts of a device fit their type.
@@ -34,7 +35,8 @@ impl<D: Device> StopDevice<D> {
 
     /// The device that calls were passed on to.
     pub fn into_inner(self) -> D
-        ensures { HasSameUnits (⟦<StopDevice<D> as Device>⟧.state self) (D.state result) }
+        ensures device { result ≡ self.device }
+        ensures units { HasSameUnits (⟦<StopDevice<D> as Device>⟧.state self) (D.state result) }
     {
         let StopDevice { device, .. } = self;
         device

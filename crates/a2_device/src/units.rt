@@ -64,6 +64,7 @@ pub(crate) fn write_sector<A: Allocator>(
     ensures there { OnOk result (unit_in (sectors_by_place image.old.sectors) place ≢ None) }
     ensures none { OnErr result (unit_in (sectors_by_place image.old.sectors) place ≡ None) }
     ensures unchanged { OnErr result (image.new ≡ image.old) }
+    ensures kept { image.new.kept ≡ image.old.kept }
     ensures order { image.new.order ≡ image.old.order }
     ensures long { length image.new.bytes ≡ length image.old.bytes }
 {
@@ -138,6 +139,7 @@ pub(crate) fn write_block<A: Allocator>(
     ensures there { OnOk result (unit_in (blocks image.old) number ≢ None) }
     ensures none { OnErr result (unit_in (blocks image.old) number ≡ None) }
     ensures unchanged { OnErr result (image.new ≡ image.old) }
+    ensures kept { image.new.kept ≡ image.old.kept }
     ensures order { image.new.order ≡ image.old.order }
     ensures long { length image.new.bytes ≡ length image.old.bytes }
 {

@@ -12,13 +12,15 @@ use Rattle.a2_image.specs.declared.order.Order.{Order}
 use Rattle.a2_image.specs.declared.order.Order.TheVariants.{Dos, Prodos, Nibble}
 use Rattle.a2_image.specs.Image.{DiskImage, IsDisk, IsImageLength, IsOfDisk, block_count, blocks_of, sectors_by, sector_in, HoldsSectors}
 use Rattle.a2_image.specs.Tracks.{track_of}
-use Rattle.a2_image.specs.Kept.{content_at, kept_sectors, IsKept, HasField}
+use Rattle.a2_image.specs.Kept.{content_at, kept_sectors, kept_bytes, IsKept, HasField}
+use Rattle.a2_image.specs.KeptBytes.{HoldsKept}
 use Rattle.a2_image.proofs.Sectors.{IsDisk-sectors_by, sector_in-sectors_by}
 use Rattle.a2_image.proofs.KeptLemmas.{HoldsTracks-kept, get_or-kept, KeepsFields-at, IsDisk-kept, KeepsFields-written, kept_sectors-written}
+use Rattle.a2_image.proofs.KeptByteLemmas.{HoldsKept-tracks, kept_bytes-plain, kept_bytes-written}
 
 -- the image of what is kept
 abbrev pub kept_image : Order → List ℕ → List (Option Field) → DiskImage
-kept_image order bytes fields = record { order = order; bytes = bytes; sectors = kept_sectors order bytes fields }
+kept_image order bytes fields = record { order = order; bytes = bytes; sectors = kept_sectors order bytes fields; kept = kept_bytes order bytes fields }
 
 prodos_sectors : (bytes : List ℕ) (fields : List (Option Field)) → length bytes / 512 ≡ 280 → kept_sectors Prodos bytes fields ≡ sectors_by Prodos bytes
 unfolding kept_sectors
@@ -76,7 +78,16 @@ stored_blocks Dos bytes long other = absurd (other refl)
 stored_blocks Prodos bytes long other = let whole = long.0 in (refl, omega (arith, whole))
 stored_blocks Nibble bytes long other = absurd (other refl)
 
+pub holds_kept : (order : Order) (bytes : List ℕ) (fields : List (Option Field)) → IsKept order bytes fields → HoldsKept order bytes (kept_bytes order bytes fields)
+unfolding HoldsKept kept_bytes
+holds_kept Dos bytes fields kept = refl
+holds_kept Prodos bytes fields kept = refl
+holds_kept Nibble bytes fields kept = HoldsKept-tracks bytes fields (nibble_length Nibble bytes refl kept.long) (kept.keeps refl)
+
 module _ (image : DiskImage) (order : Order) (bytes : List ℕ) (fields : List (Option Field)) (is : kept_image order bytes fields ≡ image) (kept : IsKept order bytes fields) where
+  pub image_kept : HoldsKept image.order image.bytes image.kept
+  image_kept = subst (λ (i : DiskImage). HoldsKept i.order i.bytes i.kept) is (holds_kept order bytes fields kept)
+
   pub image_holds : HoldsSectors image.order image.bytes image.sectors
   image_holds = subst (λ (i : DiskImage). HoldsSectors i.order i.bytes i.sectors) is (kept_holds order bytes fields kept)
 
@@ -178,6 +189,19 @@ module _ (image : DiskImage) (order : Order) (bytes : List ℕ) (fields : List (
       ap (λ o. kept_sectors o new fields) nibble
       ∙ kept_sectors-written bytes new fields track sector content track_fits sector_fits writes others (kept.keeps nibble)
       ∙ ap (λ all. set all (16 * track + sector) (Some content)) (sym (nibble_sectors image order bytes fields is kept nibble))
+
+  pub kept-written : length new ≡ length bytes → kept_bytes order new fields ≡ image.kept
+  kept-written long =
+      ap (λ o. kept_bytes o new fields) nibble
+      ∙ kept_bytes-written bytes new fields track sector content track_fits sector_fits writes others (kept.keeps nibble)
+      (nibble_bytes image order bytes fields is kept nibble) long
+      ∙ ap (λ o. kept_bytes o bytes fields) (sym nibble)
+      ∙ ap (λ (i : DiskImage). i.kept) is
+
+-- bytes of another order are written over
+pub kept-plain_written : (image : DiskImage) (order : Order) (bytes : List ℕ) (fields : List (Option Field)) → kept_image order bytes fields ≡ image
+    → order ≢ Nibble → (new : List ℕ) → length new ≡ length bytes → kept_bytes order new fields ≡ image.kept
+kept-plain_written image order bytes fields is plain new long = kept_bytes-plain order bytes new fields plain long ∙ ap (λ (i : DiskImage). i.kept) is
 
 -- a sector of another image of a disk is written over
 pub plain-written : (image : DiskImage) (order : Order) (bytes : List ℕ) (fields : List (Option Field)) → kept_image order bytes fields ≡ image → IsKept order bytes fields

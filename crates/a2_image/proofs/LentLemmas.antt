@@ -7,10 +7,11 @@ use Rattle.std.proofs.lemmas.Bool.Decides.{nat_tests}
 use Rattle.a2_nibble.specs.declared.search.Field.{Field}
 use Rattle.a2_image.specs.declared.order.Order.{Order}
 use Rattle.a2_image.specs.declared.order.Order.TheVariants.{Dos, Prodos, Nibble}
-use Rattle.a2_image.specs.Image.{DiskImage, CanLend, blocks_of, block_count, sector_in}
-use Rattle.a2_image.specs.Kept.{IsKept}
+use Rattle.a2_image.specs.Image.{DiskImage, CanLend, blocks_of, block_count, sector_in, sectors_by}
+use Rattle.a2_image.specs.Kept.{IsKept, kept_bytes}
 use Rattle.a2_image.specs.Lending.{is_plain, is_lent, sector_offset, lent_range, written, with_bytes, with_lent}
 use Rattle.a2_image.proofs.ImageLemmas.{kept_image, kept-plain, length_of_disk}
+use Rattle.a2_image.proofs.KeptByteLemmas.{kept_bytes-plain}
 use Rattle.a2_image.proofs.Sectors.{sector_in-sectors_by}
 use Rattle.a2_image.proofs.Skews.{number_fits}
 
@@ -107,8 +108,10 @@ module _ (order : Order) (bytes : List ℕ) (fields : List (Option Field)) (kept
       ≡ with_bytes (kept_image order bytes fields) (written bytes (sector_offset order track sector) content)
   written_sectors content can =
       let same = length-written bytes (sector_offset order track sector) content (omega (arith, inside can)) in
-      ap (λ all. record { order = order; bytes = written bytes (sector_offset order track sector) content; sectors = all })
-      (kept-plain order (written bytes (sector_offset order track sector) content) fields can.plain (ap (blocks_of order) same ∙ can.disk))
+      let new = written bytes (sector_offset order track sector) content in
+      ap (λ all. record { order = order; bytes = new; sectors = all; kept = kept_bytes order new fields })
+      (kept-plain order new fields can.plain (ap (blocks_of order) same ∙ can.disk))
+      ∙ ap (λ kept'. record { order = order; bytes = new; sectors = sectors_by order new; kept = kept' }) (kept_bytes-plain order bytes new fields can.plain same)
 
   view_at : (lent : Bool) → is_lent (kept_image order bytes fields) track sector ≡ lent → (content : List ℕ) (count : ℕ) → count ≡ length bytes
       → kept_image order

@@ -4,6 +4,7 @@ pub mod Sectors
 pub mod BlockLemmas
 pub mod TrackLemmas
 pub mod KeptLemmas
+pub mod KeptByteLemmas
 pub mod ImageLemmas
 pub mod ConvertLemmas
 pub mod LawLemmas

@@ -6,12 +6,13 @@ use Rattle.a2_image.specs.declared.order.Order.TheVariants.{Dos, Prodos, Nibble}
 use Rattle.a2_image.specs.Skew.{dos_of_physical, half_of_physical}
 use Rattle.a2_image.specs.Tracks.{HoldsTracks}
 
--- An image: the order of its sectors, its bytes, and for each physical sector s of each track t, at 16 t + s, its
--- content, or nothing where the image has none.
+-- An image: the order of its sectors, its bytes, for each physical sector s of each track t, at 16 t + s, its content,
+-- or nothing where the image has none, and each byte that no write may change, or nothing where one may.
 pub record DiskImage : Type 0 where
   pub order : Order
   pub bytes : List ℕ
   pub sectors : List (Option (List ℕ))
+  pub kept : List (Option ℕ)
 
 -- the lengths that an image may have: one disk, but in ProDOS order any number of blocks from 16 to 65,535
 unfoldable pub IsImageLength : Order → ℕ → Type 0

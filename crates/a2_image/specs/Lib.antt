@@ -1,6 +1,7 @@
 pub mod Skew
 pub mod Tracks
 pub mod Image
+pub mod KeptBytes
 pub mod Kept
 pub mod Blocks
 pub mod Opening

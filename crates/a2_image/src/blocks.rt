@@ -1,6 +1,6 @@
 // The blocks of an image.
 ghost use Rattle.std.specs.Prelude.{◌≡◌, ◌+◌, ◌*◌, ◌<◌, ◌≤◌, ◌↔◌, Some, None, IsTrue, IsOk, IsErrOf, OnOk, OnErr, length, slice_set};
-ghost use Rattle.a2_image.specs.Image.{IsOfDisk, block_count};
+ghost use Rattle.a2_image.specs.Image.{IsDisk, IsOfDisk, block_count};
 ghost use Rattle.a2_image.specs.Blocks.{blocks as blocks_of_image, block_in, sector_of_half, with_block, HasBlock, LacksBlock};
 
 use crate::order::block_to_phys;
@@ -46,7 +46,7 @@ impl<A: Allocator> Image<A> {
         Ok(())
     }
 
-    /// Writes a block; every other one keeps its content.
+    /// Writes a block; every other one keeps its content. In nibble order no bytes change but the disk bytes of sectors.
     ///
     /// # Errors
     /// `Number` for a number from `blocks()` on; `NoSector` where a track in nibble order lacks a sector of the block.
@@ -54,6 +54,7 @@ impl<A: Allocator> Image<A> {
     pub fn set_block(&mut self, number: u32, block: &[u8; BLOCK_BYTES]) -> Result<(), ImageError>
         ensures written { OnOk result (blocks_of_image self.new ≡ slice_set (blocks_of_image self.old) number (Some block.now)) }
         ensures sectors { OnOk result (IsOfDisk self.old → self.new.sectors ≡ with_block self.old.sectors number block.now) }
+        ensures kept { self.new.kept ≡ self.old.kept }
         ensures order { self.new.order ≡ self.old.order }
         ensures long { length self.new.bytes ≡ length self.old.bytes }
         ensures ok { IsOk result ↔ HasBlock self.old number }
@@ -101,7 +102,10 @@ impl<A: Allocator> Image<A> {
     fn write_halves(&mut self, number: u32, block: &[u8; BLOCK_BYTES])
         requires there { HasBlock self.old number }
         requires disk { IsOfDisk self.old }
+        requires sectors { IsDisk self.old.sectors }
+        ensures written { blocks_of_image self.new ≡ slice_set (blocks_of_image self.old) number (Some block.now) }
         ensures sectors { self.new.sectors ≡ with_block self.old.sectors number block.now }
+        ensures kept { self.new.kept ≡ self.old.kept }
         ensures order { self.new.order ≡ self.old.order }
         ensures long { length self.new.bytes ≡ length self.old.bytes }
     {

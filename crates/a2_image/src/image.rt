@@ -5,6 +5,7 @@ ghost use Rattle.a2_image.specs.Image.{IsDisk, IsImageLength, IsOfDisk, IsOutsid
 ghost use Rattle.a2_image.specs.Blocks.{bytes_of_block, blocks as blocks_of_image};
 ghost use Rattle.a2_image.specs.Tracks.{WritesTrack};
 ghost use Rattle.a2_image.specs.Kept.{HasField, IsKept, kept_sectors};
+ghost use Rattle.a2_image.specs.KeptBytes.{HoldsKept};
 ghost use Rattle.a2_image.specs.Opening.{RefusesToOpen};
 
 use crate::nibble::{fields_of_disk, read_kept, write_kept};
@@ -30,7 +31,7 @@ pub struct Image<A: Allocator = Global> {
 
 impl<A: Allocator> Model for Image<A> {
     ghost use Rattle.a2_image.specs.Image.{DiskImage};
-    ghost use Rattle.a2_image.specs.Kept.{kept_sectors, IsKept};
+    ghost use Rattle.a2_image.specs.Kept.{kept_sectors, kept_bytes, IsKept};
 
     ghost Value = { DiskImage };
 
@@ -38,6 +39,7 @@ impl<A: Allocator> Model for Image<A> {
       order = i.order;
       bytes = i.bytes.items;
       sectors = kept_sectors i.order i.bytes.items i.fields.items;
+      kept = kept_bytes i.order i.bytes.items i.fields.items;
     } };
 
     ghost invariant = { λ i. IsKept i.order i.bytes.items i.fields.items };
@@ -54,6 +56,7 @@ impl<A: Allocator + Copy> Image<A> {
         ensures order { IfOk result (λ image. image.order ≡ order) }
         ensures bytes { IfOk result (λ image. image.bytes ≡ bytes.items) }
         ensures holds { IfOk result (λ image. HoldsSectors order bytes.items image.sectors) }
+        ensures kept { IfOk result (λ image. HoldsKept order bytes.items image.kept) }
         ensures refused { IfErr result (λ e. RefusesToOpen order (length bytes.items) e.0) }
         ensures back { IfErr result (λ e. e.1.items ≡ bytes.items) }
     {
@@ -107,6 +110,7 @@ impl<A: Allocator> Image<A> {
         ensures value { result ≡ self.now.order }
         ensures long { IsImageLength self.now.order (length self.now.bytes) }
         ensures holds { HoldsSectors self.now.order self.now.bytes self.now.sectors }
+        ensures kept { HoldsKept self.now.order self.now.bytes self.now.kept }
     {
         self.order
     }
@@ -156,6 +160,7 @@ impl<A: Allocator> Image<A> {
     ) -> Result<(), ImageError>
         ensures written { OnOk result (self.new.sectors ≡ slice_set self.old.sectors (16 * track + sector) (Some content.now)) }
         ensures tracks { OnOk result (self.old.order ≡ Order.Nibble → WritesTrack self.old.bytes self.new.bytes track sector content.now) }
+        ensures kept { self.new.kept ≡ self.old.kept }
         ensures order { self.new.order ≡ self.old.order }
         ensures long { length self.new.bytes ≡ length self.old.bytes }
         ensures ok { IsOk result ↔ HasSector self.old track sector }
@@ -251,6 +256,7 @@ impl<A: Allocator> Image<A> {
         requires { HasSector self.old track sector }
         ensures written { self.new.sectors ≡ slice_set self.old.sectors (16 * track + sector) (Some content.now) }
         ensures tracks { self.old.order ≡ Order.Nibble → WritesTrack self.old.bytes self.new.bytes track sector content.now }
+        ensures kept { self.new.kept ≡ self.old.kept }
         ensures order { self.new.order ≡ self.old.order }
         ensures long { length self.new.bytes ≡ length self.old.bytes }
     {
@@ -280,6 +286,7 @@ impl<A: Allocator> Image<A> {
         requires number { number < block_count self.old }
         requires other_size { block_count self.old ≢ 280 }
         ensures written { blocks_of_image self.new ≡ slice_set (blocks_of_image self.old) number (Some block.now) }
+        ensures kept { self.new.kept ≡ self.old.kept }
         ensures order { self.new.order ≡ self.old.order }
         ensures long { length self.new.bytes ≡ length self.old.bytes }
     {

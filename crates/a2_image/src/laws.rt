@@ -1,6 +1,7 @@
 // Laws of images.
 ghost use Rattle.std.specs.Prelude.{◌≡◌, ◌<◌, ◌+◌, ◌*◌, ℕ, List, Option, Some, length, slice_set};
 ghost use Rattle.a2_image.specs.Image.{DiskImage, CanLend, HoldsSectors, IsImageLength, block_count};
+ghost use Rattle.a2_image.specs.KeptBytes.{HoldsKept};
 ghost use Rattle.a2_image.specs.Lending.{with_lent};
 ghost use Rattle.a2_image.specs.Blocks.{block_in, bytes_of_block};
 
@@ -10,6 +11,12 @@ use crate::Order;
 pub fn sectors_are_one()
     ensures { (order : Order) (bytes : List ℕ) (a b : List (Option (List ℕ)))
         → HoldsSectors order bytes a → HoldsSectors order bytes b → a ≡ b }
+{}
+
+/// A law: the bytes of an image hold one list of the bytes that no write may change at most.
+pub fn kept_bytes_are_one()
+    ensures { (order : Order) (bytes : List ℕ) (a b : List (Option ℕ))
+        → HoldsKept order bytes a → HoldsKept order bytes b → a ≡ b }
 {}
 
 /// A law: block b of an image in ProDOS order is at byte 512 b, also where it is two sectors of a disk.

@@ -1,6 +1,7 @@
 // The disk in an image.
 ghost use Rattle.std.specs.Prelude.{◌≡◌, IsOk, IfOk, IfErr};
 ghost use Rattle.a2_image.specs.Image.{HoldsSectors, IsDisk, IsOfDisk};
+ghost use Rattle.a2_image.specs.KeptBytes.{HoldsKept};
 ghost use Rattle.job_reply.specs.Reply.{reply_to_image};
 ghost use Rattle.job_reply.specs.Disk.{IsDiskImage, RefusesDisk, most_bytes as most};
 
@@ -30,6 +31,7 @@ pub fn open_disk(bytes: Vec<u8>, order: Order) -> Result<Image, ImageError>
     ensures order { IfOk result (λ image. image.order ≡ order) }
     ensures bytes { IfOk result (λ image. image.bytes ≡ bytes.items) }
     ensures holds { IfOk result (λ image. HoldsSectors order bytes.items image.sectors) }
+    ensures kept { IfOk result (λ image. HoldsKept order bytes.items image.kept) }
     ensures disk { IfOk result (λ image. IsOfDisk image) }
     ensures sectors { IfOk result (λ image. IsDisk image.sectors) }
     ensures refused { IfErr result (RefusesDisk order bytes.items) }

@@ -3,7 +3,8 @@ use Rattle.std.specs.Prelude.{◌≡◌, ◌⊎◌, ℕ, Bool, if◌then◌else�
 use Rattle.std.specs.declared.alloc.Global.{Global}
 use Rattle.a2_image.specs.Blocks.{blocks}
 use Rattle.a2_image.specs.Image.{DiskImage, HoldsSectors}
-use Rattle.a2_device.specs.Device.{DeviceState}
+use Rattle.a2_image.specs.KeptBytes.{HoldsKept}
+use Rattle.a2_device.specs.Device.{DeviceState, ImageForm}
 use Rattle.a2_device.specs.DosPlaces.{sectors_by_place}
 use Rattle.a2_device.specs.ImageDevice.{AreUnitsOf}
 use Rattle.vol_format.specs.Meaning.{Meaning}
@@ -32,11 +33,15 @@ abbrev pub AreUnitsIn : DeviceState → DiskImage → Type 0
 AreUnitsIn device image =
     (device.unit_size ≡ 256 → AreUnitsOf device (sectors_by_place image.sectors)) × (device.unit_size ≡ 512 → AreUnitsOf device (blocks image))
 
--- these bytes are an image of the same order and length as that under the device at first, with the units that stand on it now
+-- these bytes are an image of the same order and length as that under the device at first, with the units that stand on it now, and each byte that no write may change
 abbrev pub AreBytesOf : DeviceState → List ℕ → Type 0
 AreBytesOf device bytes =
-    (image : DiskImage) × (bytes ≡ image.bytes) × HoldsSectors image.order image.bytes image.sectors
-    × (device.image ≡ Some (record { order = image.order; bytes = length image.bytes })) × AreUnitsIn device image
+    (image : DiskImage) × (bytes ≡ image.bytes) × HoldsSectors image.order image.bytes image.sectors × HoldsKept image.order image.bytes image.kept
+    × (device.image ≡ Some (record { order = image.order; bytes = length image.bytes; kept = image.kept })) × AreUnitsIn device image
+
+-- the bytes of the image under a device that no write may change are those of these bytes too
+abbrev pub KeepsBytes : DeviceState → List ℕ → Type 0
+KeepsBytes device bytes = (form : ImageForm) → device.image ≡ Some form → HoldsKept form.order bytes form.kept
 
 -- the reply with a report and the image under a device, or for want of memory
 abbrev pub TellsReport : {A : Type 0} → DeviceState → Report A → Reply → Type 0
@@ -57,6 +62,7 @@ pub record IsWorkedReply (reclaim : Bool) (limit : ℕ) (format : Meaning) (devi
   pub optimized : IsOptimizedReply reply
   pub text : text_of reply ≡ report_text report
   pub made : AreBytesOf after (made_of reply)
+  pub kept : KeepsBytes device (made_of reply)
 
 -- a step failed, and this is the image as it stands
 pub record IsStoppedReply (reclaim : Bool) (limit : ℕ) (format : Meaning) (device : DeviceState) (reply : Reply) : Type 0 where
@@ -65,6 +71,7 @@ pub record IsStoppedReply (reclaim : Bool) (limit : ℕ) (format : Meaning) (dev
   pub stopped : IsStopped format (record { reclaim = reclaim }) limit device after error
   pub interrupted : IsInterrupted reply
   pub made : AreBytesOf after (made_of reply)
+  pub kept : KeepsBytes device (made_of reply)
 
 abbrev pub IsOptimized : Bool → ℕ → Meaning → DeviceState → Reply → Type 0
 IsOptimized reclaim limit format device reply =

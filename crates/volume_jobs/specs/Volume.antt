@@ -5,6 +5,7 @@ use Rattle.a2_image.specs.declared.order.Order.TheVariants.{Nibble}
 use Rattle.a2_image.specs.declared.error.ImageError.{ImageError}
 use Rattle.a2_image.specs.declared.error.ImageError.TheVariants as images
 use Rattle.a2_image.specs.Image.{DiskImage, HoldsSectors, IsImageLength}
+use Rattle.a2_image.specs.KeptBytes.{HoldsKept}
 use Rattle.a2_device.specs.Device.{DeviceState}
 use Rattle.a2_device.specs.ImageDevice.{image_state}
 use Rattle.a2_device.specs.declared.units.UnitKind.{UnitKind}
@@ -50,6 +51,7 @@ pub record IsImageOf (order : Order) (bytes : List ℕ) (image : DiskImage) : Ty
   pub in_order : image.order ≡ order
   pub has_bytes : image.bytes ≡ bytes
   pub holds : HoldsSectors order bytes image.sectors
+  pub keeps : HoldsKept order bytes image.kept
 
 -- the units that an image has for a file system, as a device
 abbrev pub device_of : FileSystem → DiskImage → DeviceState

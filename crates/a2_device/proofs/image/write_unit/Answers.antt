@@ -14,7 +14,7 @@ returns-in-Sector-clause-written g c =
     on_ok_both c.write_sector.result
     (subst (λ k. OnOk c.write_sector.result (units_of k new ≡ set (units_of k old) c.args.place (Some c.args.unit.now))) (sym c.in-Sector.is) c.write_sector.ensures.written)
     (subst (λ k. OnOk c.write_sector.result (unit_in (units_of k old) c.args.place ≢ None)) (sym c.in-Sector.is) c.write_sector.ensures.there)
-    (is_written c.args.kind old new c.args.place c.args.unit.now c.requires.units c.requires.place c.requires.has c.requires.unit c.write_sector.ensures.order c.write_sector.ensures.long)
+    (is_written c.args.kind old new c.args.place c.args.unit.now c.requires.units c.requires.place c.requires.has c.requires.unit c.write_sector.ensures.order c.write_sector.ensures.long c.write_sector.ensures.kept)
 
 pub returns-in-Sector-clause-readable : goal.returns-in-Sector-clause-readable
 returns-in-Sector-clause-readable g c =
@@ -33,7 +33,7 @@ returns-in-Block-clause-written g c =
     on_ok_both c.write_block.result
     (subst (λ k. OnOk c.write_block.result (units_of k new ≡ set (units_of k old) c.args.place (Some c.args.unit.now))) (sym c.in-Block.is) c.write_block.ensures.written)
     (subst (λ k. OnOk c.write_block.result (unit_in (units_of k old) c.args.place ≢ None)) (sym c.in-Block.is) c.write_block.ensures.there)
-    (is_written c.args.kind old new c.args.place c.args.unit.now c.requires.units c.requires.place c.requires.has c.requires.unit c.write_block.ensures.order c.write_block.ensures.long)
+    (is_written c.args.kind old new c.args.place c.args.unit.now c.requires.units c.requires.place c.requires.has c.requires.unit c.write_block.ensures.order c.write_block.ensures.long c.write_block.ensures.kept)
 
 pub returns-in-Block-clause-readable : goal.returns-in-Block-clause-readable
 returns-in-Block-clause-readable g c =

@@ -1,7 +1,7 @@
 use Rattle.std.proofs.Common.{◌∙◌, ap, subst, length, refl}
 use Rattle.std.proofs.lemmas.Bool.{false≢true}
 use Rattle.a2_image.specs.Image.{IsImageLength}
-use Rattle.a2_image.proofs.ImageLemmas.{kept_holds, nibble_length}
+use Rattle.a2_image.proofs.ImageLemmas.{holds_kept, kept_holds, nibble_length}
 use Rattle.a2_image.proofs.image.Image.open.Goals as goal
 
 pub returns-then-not-is_nibble-clause-holds : goal.returns-then-not-is_nibble-clause-holds
@@ -18,6 +18,18 @@ fields_of_disk-requires g c =
 
 pub returns-in-Ok-clause-holds : goal.returns-in-Ok-clause-holds
 returns-in-Ok-clause-holds g c = kept_holds c.args.order c.args.bytes.items c.in-Ok.fields.items (record {
+  long = subst (IsImageLength c.args.order) (c.len.ensures ∙ c.args.bytes.ok.0) (c.if-not-takes.ensures.0 refl);
+  keeps = λ _. rw (← c.as_slice.ensures.value) c.in-Ok.ensures;
+})
+
+pub returns-then-not-is_nibble-clause-kept : goal.returns-then-not-is_nibble-clause-kept
+returns-then-not-is_nibble-clause-kept g c = holds_kept c.args.order c.args.bytes.items c.new-fields.result.items (record {
+  long = subst (IsImageLength c.args.order) (c.len.ensures ∙ c.args.bytes.ok.0) (c.if-not-takes.ensures.0 refl);
+  keeps = λ e. absurd (false≢true (c.if-not-is_nibble.ensures.1 e));
+})
+
+pub returns-in-Ok-clause-kept : goal.returns-in-Ok-clause-kept
+returns-in-Ok-clause-kept g c = holds_kept c.args.order c.args.bytes.items c.in-Ok.fields.items (record {
   long = subst (IsImageLength c.args.order) (c.len.ensures ∙ c.args.bytes.ok.0) (c.if-not-takes.ensures.0 refl);
   keeps = λ _. rw (← c.as_slice.ensures.value) c.in-Ok.ensures;
 })

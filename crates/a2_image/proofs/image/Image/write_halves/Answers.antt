@@ -2,7 +2,7 @@ use Rattle.std.proofs.Common.{◌≡◌, ◌∙◌, ◌+◌, ◌*◌, ap, arith,
 use Rattle.std.specs.Prelude.{slice_range}
 use Rattle.a2_image.specs.Image.{blocks_of}
 use Rattle.a2_image.specs.Blocks.{sector_of_half}
-use Rattle.a2_image.proofs.BlockLemmas.{HasSector-front, HasSector-second}
+use Rattle.a2_image.proofs.BlockLemmas.{HasSector-front, HasSector-second, blocks-halves}
 use Rattle.a2_image.proofs.PartLemmas.{rear_half}
 use Rattle.a2_image.proofs.image.Image.write_halves.Goals as goal
 
@@ -30,3 +30,12 @@ returns-clause-sectors g c =
     (c.write_found.ensures.written
     ∙ ap (λ n. set c.args.self.now.sectors n (Some c.copy_part.new.content)) c.sectors_of_block-track.ensures.front
     ∙ ap (λ content. set c.args.self.now.sectors (sector_of_half (2 * c.args.number)) (Some content)) front)
+
+pub returns-clause-written : goal.returns-clause-written
+returns-clause-written g c =
+    let new = c.write_found-2.new.self in
+    let old = c.args.self.now in
+    blocks-halves old new c.args.number c.args.block.now c.requires.disk c.requires.sectors.count c.requires.there.within
+    (ap (blocks_of new.order) (c.write_found-2.ensures.long ∙ c.write_found.ensures.long)
+    ∙ ap (λ o. blocks_of o (length old.bytes)) (c.write_found-2.ensures.order ∙ c.write_found.ensures.order))
+    (returns-clause-sectors g c)
