@@ -1,2 +1,3 @@
 pub mod Readers
 pub mod Holders
+pub mod OwnParts

@@ -7,5 +7,7 @@
 
 mod dos;
 mod dos_writes;
+mod walks;
 
 pub use dos::{Dos33, DosVolume};
+pub use walks::a_walk_tells_the_parts_of_its_file;

@@ -62,6 +62,7 @@ impl<A: Allocator> FileWalk<A> {
     fn take(&mut self, kind: PartKind, number: u32, place: u32) -> Result<(), AllocError>
         requires { place < 560 }
         ensures file { self.new.file ≡ self.old.file }
+        ensures size { length self.new.met ≡ 560 }
         ensures met { OnOk result (self.new.met ≡ slice_set self.old.met place true) }
         ensures parts { OnOk result (self.new.parts.items ≡ self.old.parts.items ++ part_of self.old.file kind number place ∷ []) }
     {
@@ -84,6 +85,7 @@ impl<A: Allocator> FileWalk<A> {
         number: u32,
     ) -> Result<Option<u32>, WalkError>
         ensures file { self.new.file ≡ self.old.file }
+        ensures size { length self.new.met ≡ 560 }
         ensures no_device { IfErr result (λ e. e ≢ ADevice) }
         ensures tame { IfOk result (λ _. is_wild pointer ≡ false) }
         ensures named { IfOk result (λ place. place ≡ place_named pointer) }
@@ -110,6 +112,7 @@ impl<A: Allocator> FileWalk<A> {
     fn take_pairs(&mut self, holder: u32, number: u32, unit: &[u8; 256]) -> Result<(), WalkError>
         requires { number < 560 }
         ensures file { self.new.file ≡ self.old.file }
+        ensures size { length self.new.met ≡ 560 }
         ensures no_device { IfErr result (λ e. e ≢ ADevice) }
         ensures pairing { OnOk result (IsPairing self.old.file number holder unit.now self.old.met self.new.met self.old.parts.items self.new.parts.items 122) }
         ensures refused { (store : List (List ℕ)) (first : Option (ℕ × ℕ)) (entry : ℕ) → unit_at store holder ≡ unit.now → ListAt store first number holder
@@ -163,6 +166,7 @@ pub fn walk<A: Allocator, D: Device>(
     ensures parts { IsTrue (D.state device.old).honest → IfOk result (λ parts. IsPartsOf (D.state device.old).store file (entry_pointer entry.now) (vec_items parts)) }
     ensures tame { IsTrue (D.state device.old).honest → IfOk result (λ _. HasNoWild (D.state device.old).store (entry_pointer entry.now)) }
     ensures once { IfOk result (λ parts. AllPairs (λ part later. part.place ≢ later.place) (vec_items parts)) }
+    ensures within { IfOk result (λ parts. All (λ (part : Part). part.place < 560) (vec_items parts)) }
     ensures refused { IsTrue (D.state device.old).honest → IfErr result (λ e. (fault : Fault) → e ≡ AFault fault
         → FileFaultAt (D.state device.old).store file (entry_pointer entry.now) entry.now.place fault) }
 {

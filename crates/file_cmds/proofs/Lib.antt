@@ -6,7 +6,6 @@ pub mod ProEntries
 pub mod ProLines
 pub mod Moments
 pub mod Told
-pub mod Members
 pub mod Texts
 pub mod OwnParts
 pub mod Whole

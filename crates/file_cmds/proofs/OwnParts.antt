@@ -20,7 +20,7 @@ use Rattle.file_cmds.specs.Text.{OwnFault, other_type, wild_root, wild_pointer, 
 use Rattle.file_cmds.specs.Walked.{is_body, stored_at, stored_of}
 use Rattle.file_cmds.specs.OneFile.{file_alone, of_one_file}
 use Rattle.file_cmds.specs.lemmas.FileAlone.{entries-alone, root-alone, root_of-same, root_of-link, outside_system}
-use Rattle.file_cmds.proofs.Members.{element, in_filter, out_of_filter, in_map, out_of_map}
+use Rattle.vol_files.proofs.Lists.{element, in_filter, out_of_filter, in_map, out_of_map}
 
 is_of_body : (kind : PartKind) → is_body kind ≡ true → kind ≡ Body
 is_of_body AList is = absurd (cc)

@@ -18,7 +18,7 @@ use Rattle.file_cmds.specs.Refusal.{refusal_of_check}
 use Rattle.file_cmds.specs.Text.{OwnFault, IsWholeTextOf, whole_text}
 use Rattle.file_cmds.specs.Walked.{stored_of}
 use Rattle.file_cmds.specs.OneFile.{file_alone, of_one_file}
-use Rattle.file_cmds.proofs.Members.{element}
+use Rattle.vol_files.proofs.Lists.{element}
 use Rattle.file_cmds.proofs.OwnParts.{refused_for, faultless, are_units}
 
 -- the parts stand in the volume

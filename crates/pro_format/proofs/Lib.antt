@@ -1,3 +1,4 @@
 mod Tables
 mod Readers
 mod Holders
+pub mod OwnParts

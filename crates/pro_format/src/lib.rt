@@ -14,6 +14,8 @@ mod places;
 mod prodos;
 mod prodos_writes;
 mod volume;
+mod walks;
 
 pub use prodos::Prodos;
 pub use volume::ProVolume;
+pub use walks::a_walk_tells_the_parts_of_its_file;

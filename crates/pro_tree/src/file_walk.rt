@@ -1,5 +1,5 @@
 // The parts of one file.
-ghost use Rattle.std.specs.Prelude.{◌≡◌, ◌≢◌, ◌<◌, ◌+◌, ◌*◌, ◌++◌, [], ◌∷◌, ℕ, List, true, false, length, OnOk, IfOk, IfErr, IsTrue, AllPairs, Contains, slice_set, vec_items, replicate};
+ghost use Rattle.std.specs.Prelude.{◌≡◌, ◌≢◌, ◌<◌, ◌+◌, ◌*◌, ◌++◌, [], ◌∷◌, ℕ, List, true, false, length, OnOk, IfOk, IfErr, IsTrue, All, AllPairs, Contains, slice_set, vec_items, replicate};
 ghost use Rattle.a2_device.specs.Device.{OnlyReads, unit_at};
 ghost use Rattle.a2_device.specs.Reading.{met_device};
 ghost use Rattle.vol_parts.specs.declared.part.Part.{Part};
@@ -166,6 +166,7 @@ impl<A: Allocator> FileWalk<A> {
         requires size { length self.old.met.items ≡ self.old.places }
         requires place { part.now.place < self.old.places }
         requires number { part.now.number ≡ 0 }
+        ensures size { length self.new.met.items ≡ length self.old.met.items }
         ensures device { OnlyReads (met_device result) (D.state device.old) (D.state device.new) }
         ensures table { OnOk result (IsTable self.old.met.items self.old.parts.items → IsTable self.new.met.items self.new.parts.items) }
         ensures taken { IsTrue (D.state device.old).honest
@@ -222,6 +223,7 @@ pub fn walk<A: Allocator + Copy, D: Device>(
     ensures parts { IsTrue (D.state device.old).honest → IfOk result (λ parts. IsPartsOf (D.state device.old).store file storage key (vec_items parts)) }
     ensures tame { IsTrue (D.state device.old).honest → IfOk result (λ _. HasNoWild (D.state device.old).store file storage key) }
     ensures once { IfOk result (λ parts. AllPairs (λ part later. part.place ≢ later.place) (vec_items parts)) }
+    ensures within { IfOk result (λ parts. All (λ (part : Part). part.place < (D.state device.old).places) (vec_items parts)) }
     ensures refused { IsTrue (D.state device.old).honest → IfErr result (λ e. (fault : Fault) → e ≡ AFault fault
         → FileFaultAt (D.state device.old).store file storage key entry fault) }
 {

@@ -1,10 +1,11 @@
 -- The table of the places that a walk met.
-use Rattle.std.proofs.Common.{◌≡◌, ◌≢◌, ℕ, zero, suc, ◌<◌, Bool, true, false, List, [], ◌∷◌, ◌++◌, length, get_or, set, Contains, refl, sym, ◌∙◌, ap, subst, arith, replicate, ⊎_elim}
-use Rattle.std.specs.Prelude.{slice_index_or, ◌==◌}
+use Rattle.std.proofs.Common.{◌≡◌, ◌≢◌, ℕ, zero, suc, ◌<◌, Bool, true, false, List, [], ◌∷◌, ◌++◌, length, get_or, set, Contains, refl, sym, ◌∙◌, ap, subst, arith, replicate, ⊎_elim, inl, inr}
+use Rattle.std.specs.Prelude.{slice_index_or, ◌==◌, All}
+use Rattle.std.proofs.lemmas.Bool.{cases_lt}
 use Rattle.std.proofs.lemmas.Bool.Decides.{nat_tests}
 use Rattle.std.proofs.lemmas.List.Elements.{Contains-append_left, Contains-append_right, Contains-append_cases}
 use Rattle.std.proofs.lemmas.List.Quantifiers.{all_pairs_push}
-use Rattle.std.proofs.lemmas.List.{get_or-set_same, get_or-set_other, get_or_default}
+use Rattle.std.proofs.lemmas.List.{get_or-set_same, get_or-set_other, get_or_default, get_or_past}
 use Rattle.vol_parts.specs.declared.part.Part.{Part}
 use Rattle.vol_parts.specs.Table.{IsTable}
 
@@ -60,3 +61,16 @@ empty_table n = record {
   has = λ place is. let none = not_met n place in absurd cc;
   once = λ i j d a b. absurd (omega (arith, b));
 }
+
+-- the parts stand at places of the table
+pub all_within : (met : List Bool) (parts : List Part) → IsTable met parts → All (λ (part : Part). part.place < length met) parts
+all_within met parts table k d inside =
+    let part = get_or parts k d in
+    let marked = table.all part (k, inside, get_or_default parts k part d inside) in
+    elim (cases_lt part.place (length met)) [
+      | inl below ↦ below
+      | inr past ↦ absurd (true_not_false (sym marked ∙ get_or_past met part.place false past))
+    ]
+  where
+    true_not_false : true ≡ false → ⊥
+    true_not_false is = cc

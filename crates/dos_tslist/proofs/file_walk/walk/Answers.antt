@@ -13,7 +13,7 @@ use Rattle.dos_tslist.specs.Reach.{FileFaultAt, ListAt, entry_pointer, place_nam
 use Rattle.dos_tslist.specs.Walk.{IsRefusedAt, IsWalked, IsAtList, IsPairing, pointed}
 use Rattle.vol_parts.specs.Table.{IsTable}
 use Rattle.dos_tslist.proofs.Steps.{refused_entry, length-pointed, at_first, at_next, at_end, link_refused}
-use Rattle.vol_parts.proofs.Tables.{empty_table}
+use Rattle.vol_parts.proofs.Tables.{all_within, empty_table}
 use Rattle.dos_tslist.proofs.file_walk.walk.Goals as goal
 
 pub returns-in_err-list-clause-refused : goal.returns-in_err-list-clause-refused
@@ -35,6 +35,7 @@ loop-list-init g c =
     record {
       device = unread start;
       file = c.follow.ensures.file;
+      size = c.follow.ensures.size;
       table = c.in_ok-list.ensures.table (subst (λ (ps : List Part). IsTable (replicate 560 false) ps) (sym c.new.ensures.items) (empty_table 560));
       room = omega (
         arith,
@@ -107,6 +108,7 @@ loop-list-preserved g c =
     record {
       device = then_reads false start (g.D.Device.state now.device) (g.D.Device.state c.read_list.new.device) now.invariant.device c.in_ok-read_list.ensures.device;
       file = c.follow-in-Some.ensures.file ∙ file;
+      size = c.follow-in-Some.ensures.size;
       table = c.in_ok-list-2.ensures.table (paired.table now.invariant.table);
       room = omega (
         arith,
@@ -142,3 +144,7 @@ returns-clause-tame g c = λ honest.
     let now = c.loop-list in
     let at = subst (λ l. IsAtList store c.args.file (entry_pointer c.args.entry.now) l now.number now.found.parts.items) c.in_default.is (now.invariant.at honest) in
     (at_end store c.args.file (entry_pointer c.args.entry.now) now.number now.found.parts.items at).1
+
+pub returns-clause-within : goal.returns-clause-within
+returns-clause-within g c = λ k d inside.
+    omega (arith, c.loop-list.invariant.size, all_within c.loop-list.found.met c.loop-list.found.parts.items c.loop-list.invariant.table k d inside)

@@ -12,6 +12,7 @@ invariant-loop-list g l =
     record {
       device : OnlyReads false start (g.D.Device.state l.device);
       file : l.found.file ≡ l.fn.file;
+      size : length l.found.met ≡ 560;
       table : IsTable l.found.met l.found.parts.items;
       room : l.number + (count_by not l.found.met + length (option_to_list l.list)) ≤ 560;
       within : IfSome l.list (λ place. place < 560);

@@ -1,4 +1,5 @@
-use Rattle.std.proofs.Common.{◌≡◌, ◌∙◌, ◌++◌, [], ◌∷◌, List, sym, subst, ap, IfErr, false, replicate}
+use Rattle.std.proofs.Common.{◌≡◌, ◌∙◌, ◌++◌, [], ◌∷◌, List, length, sym, subst, ap, arith, IfErr, false, replicate}
+use Rattle.std.proofs.lemmas.List.{length-replicate}
 use Rattle.std.proofs.lemmas.Result.{err_from_is_err_and}
 use Rattle.vol_parts.specs.declared.part.Part.{Part}
 use Rattle.vol_parts.specs.declared.fault.Fault.{Fault}
@@ -7,7 +8,7 @@ use Rattle.pro_tree.specs.Reach.{pro_root}
 use Rattle.pro_tree.specs.Parts.{FileFaultAt}
 use Rattle.pro_tree.specs.Walk.{IsRefusedAt, parts_named}
 use Rattle.vol_parts.specs.Table.{IsTable}
-use Rattle.vol_parts.proofs.Tables.{empty_table}
+use Rattle.vol_parts.proofs.Tables.{all_within, empty_table}
 use Rattle.pro_tree.proofs.Ends.{tame_some, key_refused, at_part, at_parts, at_none}
 use Rattle.pro_tree.proofs.file_walk.walk.Goals as goal
 use Rattle.pro_tree.proofs.file_walk.walk.Goals.{in-Some+in_ok-take_below, in_default}
@@ -82,4 +83,30 @@ returns-clause-tame g c = λ honest.
       | in_default w ↦
           (at_none start.store c.args.file c.args.storage c.args.key first c.follow.new.self.parts.items link c.in_ok-part.ensures.tame
           (sym c.in_ok-part.ensures.named ∙ w.in_default.is) start_parts).1
+    ]
+
+pub returns-clause-within : goal.returns-clause-within
+returns-clause-within g c =
+    let table = c.in_ok-part.ensures.table (subst (λ met. IsTable met c.in_ok-found.found.parts.items) (sym c.in_ok-found.ensures.met)
+    (subst (λ (ps : List Part). IsTable (replicate c.places-places.result false) ps) (sym c.in_ok-found.ensures.parts) (empty_table c.places-places.result))) in
+    let size : length c.follow.new.self.met.items ≡ c.places-places.result =
+    c.follow.ensures.size ∙ ap (λ met. length met) c.in_ok-found.ensures.met ∙ length-replicate c.places-places.result false in
+    elim c.match-branch-3.branch [
+      | in-Some+in_ok-take_below w ↦
+          rw w.found-is
+          (λ k d inside. omega (
+            arith,
+            all_within w.take_below.new.self.met.items w.take_below.new.self.parts.items (w.in_ok-take_below.ensures.table table) k d inside,
+            w.take_below.ensures.size,
+            size,
+            c.places-places.ensures,
+          ))
+      | in_default w ↦
+          rw w.found-is
+          (λ k d inside. omega (
+            arith,
+            all_within c.follow.new.self.met.items c.follow.new.self.parts.items table k d inside,
+            size,
+            c.places-places.ensures,
+          ))
     ]

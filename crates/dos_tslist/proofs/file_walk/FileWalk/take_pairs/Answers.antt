@@ -24,6 +24,7 @@ loop-index-preserved g c =
     let now = c.loop-index in
     record {
       file = c.follow.ensures.file ∙ now.invariant.file;
+      size = c.follow.ensures.size;
       pairing = pairing_on old.file c.args.number c.args.holder c.args.unit.now old.met now.self.met old.parts.items now.self.parts.items now.index c.pair.result
           c.loop-index-test.true c.pair.ensures now.invariant.pairing now.self.file c.follow.new.self.met c.follow.new.self.parts.items now.invariant.file
           c.in_ok-follow.ensures.tame c.in_ok-follow.ensures.parts c.in_ok-follow.ensures.table c.in_ok-follow.ensures.unmet;
