@@ -32,7 +32,8 @@ fn image_path(job: &Job) -> &str
         | Job::Plan { image, .. }
         | Job::Optimize { image, .. }
         | Job::Verify { image, .. }
-        | Job::Convert { image, .. } => image.as_str(),
+        | Job::Convert { image, .. }
+        | Job::Identify { image } => image.as_str(),
     }
 }
 
@@ -55,7 +56,8 @@ fn out_path(job: &Job) -> Option<&str>
         | Job::Check { .. }
         | Job::Read { .. }
         | Job::Plan { .. }
-        | Job::Verify { .. } => None,
+        | Job::Verify { .. }
+        | Job::Identify { .. } => None,
         Job::Convert { out, .. } | Job::Optimize { out, .. } => Some(out.as_str()),
     }
 }

@@ -3,7 +3,7 @@ use Rattle.std.proofs.Common.{◌≡◌, ◌≢◌, ℕ, ◌+◌, Bool, List, ta
 use Rattle.std.specs.Io.KnownBytes.{Keeps}
 use Rattle.std.specs.Prelude.{◌⊎◌, Option, Some, None, IfSome}
 use Rattle.a2_image.specs.declared.order.Order.{Order}
-use Rattle.shop_words.specs.Job.{JobView, catalog, check, read, convert, plan, optimize, verify, asked_job, IsTaken}
+use Rattle.shop_words.specs.Job.{JobView, catalog, check, read, convert, plan, optimize, verify, identify, asked_job, IsTaken}
 use Rattle.shop_words.specs.declared.fault.WordsFault.{WordsFault}
 use Rattle.shop_words.specs.declared.fault.WordsFault.TheVariants as words
 use Rattle.shop_words.specs.declared.job.VolumeOptions.{VolumeOptions}
@@ -18,6 +18,8 @@ use Rattle.volume_jobs.specs.Volume.{device_of, files_of, form_of, meaning_of}
 use Rattle.volume_jobs.specs.Work.{IsWorkReply, WorkView, Catalog, Read, Check, Plan, Optimize, Verify}
 use Rattle.volume_jobs.proofs.Fronts.{verified-take, volume-whole}
 use Rattle.shop_commands.specs.Answer.{HandsOutFor, IsReadFailure, limit_of, IsToldOf, IsReplyTo, IsAnswer, IsCommandAnswer, IsWordsAnswer, MakesImage, ReadsExtra, image_order_of, order_of}
+use Rattle.image_readings.proofs.Fronts.{identify-whole}
+use Rattle.image_readings.proofs.NotMade.{identify_not_made}
 use Rattle.shop_commands.proofs.NotMade.{told_not_made}
 
 -- a text that is too long is told so by one byte past the most
@@ -58,6 +60,7 @@ reply-whole (verify path volume from reserve reclaim) image more None reply take
 reply-whole (verify path volume from reserve reclaim) image more (Some bytes) reply taken is =
     verified_whole volume reserve image reclaim more bytes reply (taken tt) (told-whole volume reserve image (Verify reclaim more) reply is)
 reply-whole (convert words) image more extra reply taken is = convert-whole (order_of words.order) (order_of words.to) words.volume image reply is
+reply-whole (identify path) image more extra reply taken is = identify-whole image reply is
 
 pub job_answered : (job : JobView) (known extra : Option (List ℕ)) (order : Order) (front more : List ℕ) (reply : Reply) (status : ℕ) (old new : Held)
     → order ≡ image_order_of job → IfSome known (λ image. front ≡ take (most_bytes order + 1) image)
@@ -88,6 +91,7 @@ makes_image (plan path volume reserve reclaim) image more reply is made = absurd
 makes_image (optimize words reserve reclaim) image more reply is made = tt
 makes_image (verify path volume from reserve reclaim) image more reply is made = absurd (told_not_made volume reserve image (Verify reclaim more) tt reply is made)
 makes_image (convert words) image more reply is made = tt
+makes_image (identify path) image more reply is made = absurd (identify_not_made image reply is made)
 
 -- the image of a conversion is handed out with `OK`
 hands_for : (job : JobView) (image more : List ℕ) (reply : Reply) (status : ℕ) (old new : Option (List ℕ)) → IsReplyTo job image (Some more) reply → IsMade reply
@@ -107,6 +111,7 @@ hands_for (read path name volume whole) image more reply status old new is made 
 hands_for (plan path volume reserve reclaim) image more reply status old new is made out = (reply, made, out)
 hands_for (optimize words reserve reclaim) image more reply status old new is made out = (reply, made, out)
 hands_for (verify path volume from reserve reclaim) image more reply status old new is made out = (reply, made, out)
+hands_for (identify path) image more reply status old new is made out = (reply, made, out)
 
 pub image_handed : {O : Type 0} (job : JobView) (image more : List ℕ) (reply : Reply) (status : ℕ) (text_old text_new : Option (List ℕ)) (old new : O)
     → IsReplyTo job image (Some more) reply → (new ≡ old) ⊎ (IsMade reply × HandsOut reply status text_old text_new)

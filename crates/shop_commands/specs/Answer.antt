@@ -4,7 +4,7 @@ use Rattle.std.specs.Io.KnownBytes.{Appends, Keeps}
 use Rattle.a2_image.specs.declared.order.Order.{Order}
 use Rattle.a2_image.specs.declared.order.Order.TheVariants as orders
 use Rattle.file_cmds.specs.DosText.{Text}
-use Rattle.shop_words.specs.Job.{JobView, catalog, check, read, convert, plan, optimize, verify, asked_job, IsTaken}
+use Rattle.shop_words.specs.Job.{JobView, catalog, check, read, convert, plan, optimize, verify, identify, asked_job, IsTaken}
 use Rattle.shop_words.specs.declared.job.FileSystem.TheVariants as systems
 use Rattle.shop_words.specs.declared.job.ImageOrder.{ImageOrder}
 use Rattle.shop_words.specs.declared.job.ImageOrder.TheVariants as wanted
@@ -21,6 +21,7 @@ use Rattle.volume_jobs.specs.Volume.{files_of, form_of}
 use Rattle.volume_jobs.specs.VolumeReply.{IsVolumeReply}
 use Rattle.volume_jobs.specs.Work.{IsWorkReply, WorkView, Catalog, Read, Check, Plan, Optimize, Verify}
 use Rattle.job_reply.specs.ConvertReply.{IsConvertReply}
+use Rattle.image_readings.specs.IdentifyReply.{IsIdentifyReply}
 
 -- the path and the order of the image that a job names
 abbrev pub image_of : JobView → Text
@@ -31,6 +32,7 @@ image_of (plan path volume reserve reclaim) = path
 image_of (optimize words reserve reclaim) = words.image
 image_of (verify path volume from reserve reclaim) = path
 image_of (convert words) = words.image
+image_of (identify path) = path
 
 -- the path of the file that a job reads beside the image
 abbrev pub from_of : JobView → Option Text
@@ -46,6 +48,7 @@ out_of (plan path volume reserve reclaim) = None
 out_of (optimize words reserve reclaim) = Some words.out
 out_of (verify path volume from reserve reclaim) = None
 out_of (convert words) = Some words.out
+out_of (identify path) = None
 
 -- the order that the words name
 abbrev pub order_of : ImageOrder → Order
@@ -53,6 +56,7 @@ order_of wanted.Dos = orders.Dos
 order_of wanted.Prodos = orders.Prodos
 order_of wanted.Nibble = orders.Nibble
 
+-- the order by which it is known how many bytes to read at most: no order allows more than ProDOS order
 abbrev pub image_order_of : JobView → Order
 image_order_of (catalog path volume) = order_of volume.order
 image_order_of (check path volume reserve) = order_of volume.order
@@ -61,6 +65,7 @@ image_order_of (plan path volume reserve reclaim) = order_of volume.order
 image_order_of (optimize words reserve reclaim) = order_of words.volume.order
 image_order_of (verify path volume from reserve reclaim) = order_of volume.order
 image_order_of (convert words) = order_of words.order
+image_order_of (identify path) = orders.Prodos
 
 -- after how many writes to stop; without a limit there are never so many
 abbrev pub limit_of : Option ℕ → ℕ
@@ -84,6 +89,7 @@ IsReplyTo (plan path volume reserve reclaim) image extra reply = IsToldOf volume
 IsReplyTo (optimize words reserve reclaim) image extra reply = IsToldOf words.volume reserve image (Optimize reclaim (limit_of words.stop_after)) reply
 IsReplyTo (verify path volume from reserve reclaim) image extra reply = IfSome extra (λ bytes. IsToldOf volume reserve image (Verify reclaim bytes) reply)
 IsReplyTo (convert words) image extra reply = IsConvertReply (order_of words.order) (order_of words.to) words.volume image reply
+IsReplyTo (identify path) image extra reply = IsIdentifyReply image reply
 
 -- the job reads a file beside the image
 abbrev pub ReadsExtra : JobView → Type 0
@@ -106,6 +112,7 @@ MakesImage (plan path volume reserve reclaim) = ⊥
 MakesImage (optimize words reserve reclaim) = Unit {0}
 MakesImage (verify path volume from reserve reclaim) = ⊥
 MakesImage (convert words) = Unit {0}
+MakesImage (identify path) = ⊥
 
 -- the image of a job is handed out, once its text is told: `OK` for a conversion, else that of the optimizer's reply
 abbrev pub HandsOutFor : JobView → ℕ → Option (List ℕ) → Option (List ℕ) → Type 0

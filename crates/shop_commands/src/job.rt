@@ -7,6 +7,7 @@ ghost use Rattle.shop_commands.specs.Answer.{AsksForMoves, HandsOutFor, IsAnswer
 
 use crate::input::{read_extra, read_image};
 use a2_image::Order;
+use image_readings::identify_reply;
 use job_reply::{Failure, Reply, convert_reply};
 use shop_words::{ImageOrder, Job};
 use std::alloc::Global;
@@ -36,6 +37,8 @@ fn image_order(job: &Job) -> Order
         | Job::Optimize { volume, .. }
         | Job::Verify { volume, .. } => order_of(volume.order),
         Job::Convert { order, .. } => order_of(*order),
+        // No order allows an image to be longer.
+        Job::Identify { .. } => Order::Prodos,
     }
 }
 
@@ -141,6 +144,7 @@ fn reply_to(alloc: Global, job: &Job, image: Vec<u8>, extra: &[u8]) -> Reply
             volume_reply(alloc, work, image, order, *volume, None)
         }
         Job::Convert { to, volume, .. } => convert_reply(image, order, order_of(*to), *volume),
+        Job::Identify { .. } => identify_reply(alloc, image.as_slice()),
         Job::Plan { .. } | Job::Optimize { .. } | Job::Verify { .. } => {
             moves_reply(alloc, job, image, extra)
         }

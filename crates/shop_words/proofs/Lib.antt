@@ -19,3 +19,4 @@ pub mod AskedLemmas
 pub mod PlanLine
 pub mod OptimizeLine
 pub mod VerifyLine
+pub mod IdentifyLine

@@ -3,7 +3,7 @@ use Rattle.std.proofs.Common.{◌≡◌, ◌∙◌, ap, true, List, [], ◌∷�
 use Rattle.std.proofs.lemmas.List.Elements.{All-contains, All-cons}
 use Rattle.clap.specs.Simple.{is_simple, subcommand_of}
 use Rattle.clap.specs.Takes.{takes}
-use Rattle.shop_words.specs.Table.{Text, FormView, catalog_form, check_form, read_form, convert_form, plan_form, optimize_form, verify_form, forms}
+use Rattle.shop_words.specs.Table.{Text, FormView, catalog_form, check_form, read_form, convert_form, plan_form, optimize_form, verify_form, identify_form, forms}
 use Rattle.shop_words.specs.Grammar.{shop}
 use Rattle.shop_words.specs.Plain.{Use, IsPlainLine, line_words}
 use Rattle.shop_words.specs.Job.{found_job, line_job}
@@ -17,6 +17,7 @@ use Rattle.shop_words.proofs.ConvertLine.{convert_defaults, convert_known, is_so
 use Rattle.shop_words.proofs.PlanLine.{plan_defaults, plan_known, is_some-line_job-plan}
 use Rattle.shop_words.proofs.OptimizeLine.{optimize_defaults, optimize_known, is_some-line_job-optimize}
 use Rattle.shop_words.proofs.VerifyLine.{verify_defaults, verify_known, is_some-line_job-verify}
+use Rattle.shop_words.proofs.IdentifyLine.{identify_defaults, identify_known, is_some-line_job-identify}
 
 record IsServed (f : FormView) : Type 0 where
   known : IsKnown f (shape_named f.name)
@@ -44,15 +45,19 @@ serves_optimize = record { known = optimize_known; defaults = optimize_defaults;
 serves_verify : IsServed verify_form
 serves_verify = record { known = verify_known; defaults = verify_defaults; job = is_some-line_job-verify }
 
+serves_identify : IsServed identify_form
+serves_identify = record { known = identify_known; defaults = identify_defaults; job = is_some-line_job-identify }
+
 all_served : All IsServed forms
 all_served =
-    All-cons IsServed catalog_form (check_form ∷ read_form ∷ convert_form ∷ plan_form ∷ optimize_form ∷ verify_form ∷ []) serves_catalog
-    (All-cons IsServed check_form (read_form ∷ convert_form ∷ plan_form ∷ optimize_form ∷ verify_form ∷ []) serves_check
-    (All-cons IsServed read_form (convert_form ∷ plan_form ∷ optimize_form ∷ verify_form ∷ []) serves_read
-    (All-cons IsServed convert_form (plan_form ∷ optimize_form ∷ verify_form ∷ []) serves_convert
-    (All-cons IsServed plan_form (optimize_form ∷ verify_form ∷ []) serves_plan
-    (All-cons IsServed optimize_form (verify_form ∷ []) serves_optimize
-    (All-cons IsServed verify_form [] serves_verify (λ k d lt. absurd (omega arith))))))))
+    All-cons IsServed catalog_form (check_form ∷ read_form ∷ convert_form ∷ plan_form ∷ optimize_form ∷ verify_form ∷ identify_form ∷ []) serves_catalog
+    (All-cons IsServed check_form (read_form ∷ convert_form ∷ plan_form ∷ optimize_form ∷ verify_form ∷ identify_form ∷ []) serves_check
+    (All-cons IsServed read_form (convert_form ∷ plan_form ∷ optimize_form ∷ verify_form ∷ identify_form ∷ []) serves_read
+    (All-cons IsServed convert_form (plan_form ∷ optimize_form ∷ verify_form ∷ identify_form ∷ []) serves_convert
+    (All-cons IsServed plan_form (optimize_form ∷ verify_form ∷ identify_form ∷ []) serves_plan
+    (All-cons IsServed optimize_form (verify_form ∷ identify_form ∷ []) serves_optimize
+    (All-cons IsServed verify_form (identify_form ∷ []) serves_verify
+    (All-cons IsServed identify_form [] serves_identify (λ k d lt. absurd (omega arith)))))))))
 
 served : (f : FormView) → Contains forms f → IsServed f
 served f at = All-contains IsServed forms f all_served at

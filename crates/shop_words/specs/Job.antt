@@ -48,6 +48,7 @@ pub data JobView : Type 0 where
   plan : Text → VolumeOptions → Option Text → Bool → JobView
   optimize : OptimizationView → Option Text → Bool → JobView
   verify : Text → VolumeOptions → Text → Option Text → Bool → JobView
+  identify : Text → JobView
 
 abbrev pub job_view : Job → JobView
 job_view (jobs.Catalog image volume) = catalog (string_bytes image) volume
@@ -64,6 +65,7 @@ job_view (jobs.Plan image volume reserve reclaim) = plan (string_bytes image) vo
 job_view (jobs.Optimize image volume out reserve reclaim stop_after) =
     optimize (record { image = string_bytes image; volume = volume; out = string_bytes out; stop_after = stop_after }) (option_map string_bytes reserve) reclaim
 job_view (jobs.Verify image volume from reserve reclaim) = verify (string_bytes image) volume (string_bytes from) (option_map string_bytes reserve) reclaim
+job_view (jobs.Identify image) = identify (string_bytes image)
 
 abbrev pub file_system_named : Text → Option FileSystem
 file_system_named word =
@@ -148,6 +150,9 @@ abbrev pub verify_by : Said → Option JobView
 verify_by said = option_and_then (λ image. option_and_then (λ from. option_map (λ volume.
     verify image volume from (said (codes "reserve")) (is_on (said (codes "reclaim")))) (volume_by said)) (said (codes "from"))) (said (codes "image"))
 
+abbrev pub identify_by : Said → Option JobView
+identify_by said = option_map identify (said (codes "image"))
+
 -- the job of a command, by what is said under each name
 abbrev pub job_by : Text → Said → Option JobView
 job_by command said =
@@ -157,7 +162,8 @@ job_by command said =
     if bytes_eq command (codes "convert") then option_map convert (conversion_by said) else
     if bytes_eq command (codes "plan") then plan_by said else
     if bytes_eq command (codes "optimize") then optimize_by said else
-    if bytes_eq command (codes "verify") then verify_by said else None
+    if bytes_eq command (codes "verify") then verify_by said else
+    if bytes_eq command (codes "identify") then identify_by said else None
 
 -- the job of the command that clap finds, by the rows that it finds
 abbrev pub found_job : Option (Text × List Row) → Option JobView

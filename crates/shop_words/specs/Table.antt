@@ -144,6 +144,12 @@ verify_form = record {
   parameters = image ∷ file_system ∷ order ∷ from ∷ data_disk ∷ reserve ∷ reclaim ∷ [];
 }
 
+abbrev pub identify_form : FormView
+identify_form = record {
+  name = codes "identify";
+  parameters = image ∷ [];
+}
+
 -- the forms of all commands
 abbrev pub forms : List FormView
-forms = catalog_form ∷ check_form ∷ read_form ∷ convert_form ∷ plan_form ∷ optimize_form ∷ verify_form ∷ []
+forms = catalog_form ∷ check_form ∷ read_form ∷ convert_form ∷ plan_form ∷ optimize_form ∷ verify_form ∷ identify_form ∷ []

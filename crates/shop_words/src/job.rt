@@ -104,4 +104,9 @@ pub enum Job {
         /// Whether lost places are marked free.
         reclaim: bool,
     },
+    /// Tells in which file systems and orders an image can be read, and which of them is best.
+    Identify {
+        /// The path of the image's file; `-` is standard input.
+        image: String,
+    },
 }

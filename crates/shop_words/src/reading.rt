@@ -238,6 +238,18 @@ fn verify_in(alloc: Global, matches: &ArgMatches<'_>) -> Result<Option<Job>, All
     }))
 }
 
+fn identify_in(alloc: Global, matches: &ArgMatches<'_>) -> Result<Option<Job>, AllocError>
+    ensures { IfOk result (λ job. option_map job_view job
+        ≡ job_by (codes "identify") (λ name. first_of name (rows_of (found_of matches.now)))) }
+{
+    let Some(image) = said(matches, "image") else {
+        return Ok(None);
+    };
+    Ok(Some(Job::Identify {
+        image: image.to_string(alloc)?,
+    }))
+}
+
 fn command_job(
     alloc: Global,
     command: &str,
@@ -254,6 +266,7 @@ fn command_job(
         "plan" => plan_in(alloc, matches),
         "optimize" => optimize_in(alloc, matches),
         "verify" => verify_in(alloc, matches),
+        "identify" => identify_in(alloc, matches),
         _ => Ok(None),
     }
 }

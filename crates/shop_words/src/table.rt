@@ -167,6 +167,11 @@ const FORMS: &[Form] = &[
         parameters: &[IMAGE, FILE_SYSTEM, ORDER, FROM, DATA_DISK, RESERVE, RECLAIM],
         help: "Tell whether a certificate shows that no shorter plan brings a volume into order",
     },
+    Form {
+        name: "identify",
+        parameters: &[IMAGE],
+        help: "Tell in which file systems and orders an image can be read, and which is best",
+    },
 ];
 
 /// The forms of all commands.

@@ -1,4 +1,4 @@
-use Rattle.std.proofs.Common.{◌∙◌, ap, sym, subst, Some, None}
+use Rattle.std.proofs.Common.{◌∙◌, ap, sym, subst, ℕ, List, Some, None}
 use Rattle.a2_image.specs.declared.order.Order.{Order}
 use Rattle.shop_words.specs.Job.{job_view}
 use Rattle.shop_words.specs.declared.job.Job.{Job}
@@ -6,6 +6,7 @@ use Rattle.shop_commands.specs.Answer.{IsReplyTo, image_order_of}
 use Rattle.volume_jobs.specs.Volume.{files_of, form_of}
 use Rattle.volume_jobs.specs.VolumeReply.{IsVolumeReply}
 use Rattle.volume_jobs.specs.Work.{IsWorkReply, Catalog}
+use Rattle.image_readings.specs.IdentifyReply.{IsIdentifyReply}
 use Rattle.shop_commands.proofs.job.reply_to.Goals as goal
 
 pub returns-in-Catalog : goal.returns-in-Catalog
@@ -15,3 +16,8 @@ returns-in-Catalog c =
     (subst (λ (order : Order). IsVolumeReply volume.file_system order volume.data_disk None c.args.image.items
     (IsWorkReply Catalog (form_of volume.file_system) (files_of volume.file_system)) c.volume_reply.result)
     (c.image_order-order.ensures ∙ ap (λ (job : Job). image_order_of (job_view job)) c.in-Catalog.is) c.volume_reply.ensures)
+
+pub returns-in-Identify : goal.returns-in-Identify
+returns-in-Identify c =
+    subst (λ (job : Job). IsReplyTo (job_view job) c.args.image.items (Some c.args.extra.now) c.identify_reply.result) (sym c.in-Identify.is)
+    (subst (λ (bytes : List ℕ). IsIdentifyReply bytes c.identify_reply.result) c.as_slice.ensures.value c.identify_reply.ensures)

@@ -1,0 +1,62 @@
+-- What was read of an image, up to one byte past the most that any reading allows, answers for all of it.
+use Rattle.std.proofs.Common.{◌≡◌, ◌∙◌, ◌<◌, ◌≤◌, ◌+◌, ◌==◌, subst, refl, inl, inr, ℕ, Bool, true, false, List, [], ◌∷◌, length, map, filter, take, take_all, length-take, arith}
+use Rattle.std.proofs.lemmas.Bool.Decides.{nat_tests}
+use Rattle.std.specs.Prelude.{nat_le}
+use Rattle.a2_image.specs.declared.order.Order.{Order}
+use Rattle.a2_image.specs.declared.order.Order.TheVariants as orders
+use Rattle.shop_words.specs.declared.job.FileSystem.{FileSystem}
+use Rattle.shop_words.specs.declared.job.FileSystem.TheVariants as systems
+use Rattle.job_reply.specs.Disk.{most_bytes}
+use Rattle.job_reply.specs.declared.reply.Reply.{Reply}
+use Rattle.image_readings.specs.declared.reading.Reading.{Reading}
+use Rattle.image_readings.specs.IdentifyReply.{IsIdentifyReply, allows, way_of, ways}
+
+passed_over : {X : Type 0} (p : X → Bool) (x : X) (xs : List X) → p x ≡ false → filter p (x ∷ xs) ≡ filter p xs
+passed_over p x xs fails = rw fails refl
+
+-- no way to read so many bytes
+none_past : (bytes : ℕ) → 33553920 < bytes → filter (allows bytes) ways ≡ []
+none_past bytes past =
+    let fifth : List (FileSystem × Order) = (systems.Prodos, orders.Nibble) ∷ [] in
+    let fourth : List (FileSystem × Order) = (systems.Prodos, orders.Prodos) ∷ fifth in
+    let third : List (FileSystem × Order) = (systems.Prodos, orders.Dos) ∷ fourth in
+    let second : List (FileSystem × Order) = (systems.Dos, orders.Nibble) ∷ third in
+    let first : List (FileSystem × Order) = (systems.Dos, orders.Prodos) ∷ second in
+    passed_over (allows bytes) (systems.Dos, orders.Dos) first no_disk
+    ∙ passed_over (allows bytes) (systems.Dos, orders.Prodos) second no_disk
+    ∙ passed_over (allows bytes) (systems.Dos, orders.Nibble) third no_tracks
+    ∙ passed_over (allows bytes) (systems.Prodos, orders.Dos) fourth no_disk
+    ∙ passed_over (allows bytes) (systems.Prodos, orders.Prodos) fifth no_blocks
+    ∙ passed_over (allows bytes) (systems.Prodos, orders.Nibble) [] no_tracks
+  where
+    no_disk : (bytes == 143360) ≡ false
+    no_disk = grind (arith, nat_tests, past)
+
+    no_tracks : (bytes == 232960) ≡ false
+    no_tracks = grind (arith, nat_tests, past)
+
+    no_blocks : allows bytes (systems.Prodos, orders.Prodos) ≡ false
+    no_blocks = grind (arith, nat_tests, past)
+
+no_readings : (readings : List Reading) → map way_of readings ≡ [] → readings ≡ []
+no_readings [] none = refl
+no_readings (reading ∷ rest) none = cc
+
+pub identify-whole : (image : List ℕ) (reply : Reply) → IsIdentifyReply (take (most_bytes orders.Prodos + 1) image) reply → IsIdentifyReply image reply
+identify-whole image reply is = by_length (nat_le (length image) 33553920) refl
+  where
+    read : List ℕ
+    read = take (most_bytes orders.Prodos + 1) image
+
+    by_length : (b : Bool) → nat_le (length image) 33553920 ≡ b → IsIdentifyReply image reply
+    by_length true short =
+        let few : length image ≤ 33553921 = grind (arith, nat_tests, short) in
+        subst (λ (bytes : List ℕ). IsIdentifyReply bytes reply) (take_all 33553921 image few) is
+    by_length false long =
+        let many : 33553920 < length image = grind (arith, nat_tests, long) in
+        let past : 33553920 < length read = omega (arith, many, length-take 33553921 image) in
+        elim is [
+          | inl told ↦ absurd (told.some (no_readings told.readings (told.are.in_order ∙ none_past (length read) past)))
+          | inr (inl refused) ↦ inr (inl (refused.0, none_past (length image) many))
+          | inr (inr memory) ↦ inr (inr memory)
+        ]

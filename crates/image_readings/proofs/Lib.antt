@@ -1,0 +1,5 @@
+pub mod Stopped
+pub mod Taken
+pub mod Ways
+pub mod Fronts
+pub mod NotMade

@@ -1,0 +1,66 @@
+-- The reply to `identify`.
+use Rattle.std.specs.Prelude.{◌≡◌, ◌≢◌, ◌⊎◌, ℕ, ◌==◌, ◌%◌, nat_le, ◌&&◌, Bool, List, [], ◌∷◌, length, map, filter, All}
+use Rattle.a2_image.specs.declared.order.Order.{Order}
+use Rattle.a2_image.specs.declared.order.Order.TheVariants as orders
+use Rattle.shop_words.specs.declared.job.FileSystem.{FileSystem}
+use Rattle.shop_words.specs.declared.job.FileSystem.TheVariants as systems
+use Rattle.job_reply.specs.declared.reply.Refusal.TheVariants as refusals
+use Rattle.job_reply.specs.declared.reply.Failure.TheVariants as failures
+use Rattle.job_reply.specs.declared.reply.Reply.{Reply}
+use Rattle.job_reply.specs.declared.reply.Reply.TheVariants.{Refused, Failed}
+use Rattle.job_reply.specs.Reply.{IsDone, IsFaulty, text_of}
+use Rattle.job_reply.specs.Disk.{disk_bytes}
+use Rattle.image_readings.specs.declared.reading.Reading.{Reading}
+use Rattle.image_readings.specs.declared.ranking.Verdict.{Verdict}
+use Rattle.image_readings.specs.declared.ranking.Verdict.TheVariants.{Best, Ambiguous, NoVolume}
+use Rattle.image_readings.specs.Ranking.{IsVerdict}
+use Rattle.image_readings.specs.Readings.{IsReadingOf}
+use Rattle.image_readings.specs.IdentifyText.{identify_text}
+
+-- the ways to read an image, in the order in which they are told
+abbrev pub ways : List (FileSystem × Order)
+ways = (systems.Dos, orders.Dos) ∷ (systems.Dos, orders.Prodos) ∷ (systems.Dos, orders.Nibble)
+    ∷ (systems.Prodos, orders.Dos) ∷ (systems.Prodos, orders.Prodos) ∷ (systems.Prodos, orders.Nibble) ∷ []
+
+-- whether a volume may be read in this way from so many bytes: those of a disk, or in ProDOS order 16 to 65,535 blocks
+abbrev pub allows : ℕ → FileSystem × Order → Bool
+allows bytes (systems.Prodos, orders.Prodos) = bytes % 512 == 0 && nat_le 8192 bytes && nat_le bytes 33553920
+allows bytes (file_system, order) = bytes == disk_bytes order
+
+abbrev pub way_of : Reading → FileSystem × Order
+way_of reading = (reading.file_system, reading.order)
+
+-- the readings of an image, one in each way that its length allows
+pub record AreReadings (image : List ℕ) (readings : List Reading) : Type 0 where
+  pub in_order : map way_of readings ≡ filter (allows (length image)) ways
+  pub each : All (IsReadingOf image) readings
+
+-- a best reading is told as a job that is done, else as what is wrong
+abbrev pub Reports : Verdict → Reply → Type 0
+Reports (Best number) reply = IsDone reply
+Reports Ambiguous reply = IsFaulty reply
+Reports NoVolume reply = IsFaulty reply
+
+-- these readings were ranked and told, or there was no memory for it
+pub record IsRanked (readings : List Reading) (reply : Reply) : Type 0 where
+  pub verdict : Verdict
+  pub is : IsVerdict readings verdict
+  pub reports : Reports verdict reply
+  pub text : text_of reply ≡ identify_text readings verdict
+
+abbrev pub TellsRanked : List Reading → Reply → Type 0
+TellsRanked readings reply = IsRanked readings reply ⊎ (reply ≡ Failed failures.Memory)
+
+-- the readings of an image were told, and the verdict
+pub record IsIdentified (image : List ℕ) (reply : Reply) : Type 0 where
+  pub readings : List Reading
+  pub are : AreReadings image readings
+  pub some : readings ≢ []
+  pub ranked : IsRanked readings reply
+
+-- The reply: the readings and the verdict; `Length` where the length allows no reading; or want of memory.
+abbrev pub IsIdentifyReply : List ℕ → Reply → Type 0
+IsIdentifyReply image reply =
+    IsIdentified image reply
+    ⊎ ((reply ≡ Refused refusals.Length) × (filter (allows (length image)) ways ≡ []))
+    ⊎ (reply ≡ Failed failures.Memory)

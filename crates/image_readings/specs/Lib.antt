@@ -1,0 +1,6 @@
+pub mod Ranking
+pub mod Readings
+pub mod Found
+pub mod IdentifyText
+pub mod IdentifyReply
+pub mod Adding

@@ -1,0 +1,229 @@
+// Reading an image in one way.
+ghost use Rattle.std.specs.Prelude.{◌≡◌, ◌≤◌, IsTrue, OnOk, IfOk, IfErr, Some, length};
+ghost use Rattle.a2_device.specs.Device.{unit_at};
+ghost use Rattle.a2_image.specs.Image.{IsOfDisk};
+ghost use Rattle.shop_words.specs.declared.job.FileSystem.TheVariants.{Dos as OfDos, Prodos as OfProdos};
+ghost use Rattle.volume_jobs.specs.Volume.{IsImageOf, TakesBytes, device_of};
+ghost use Rattle.image_readings.specs.Found.{Stops};
+ghost use Rattle.image_readings.specs.Readings.{HasEntries, HasUnits, IsFound, IsReadingOf, IsToldOf, Stands, plain_meaning};
+
+use crate::reading::{Finding, Found, Reading, Standing};
+use crate::stop::{ReadStop, finding_of};
+use a2_device::{Device, ImageDevice};
+use a2_image::{Image, ImageError, Order};
+use dos_catalog::Catalog;
+use dos_format::Dos33;
+use dos_vtoc::{VTOC_PLACE, Vtoc};
+use job_reply::open_disk;
+use pro_dir::VolumeDir;
+use pro_format::Prodos;
+use reserved_places::Reserved;
+use shop_words::FileSystem;
+use std::alloc::{AllocError, Global};
+use vol_check::{CheckError, check};
+use vol_format::Format;
+
+// The VTOC of a DOS 3.3 volume.
+fn read_vtoc<D: Device>(device: &mut D) -> Result<Vtoc, ReadStop>
+    requires unit { (D.state device.old).unit_size ≡ 256 }
+    requires places { (D.state device.old).places ≡ 560 }
+    requires honest { IsTrue (D.state device.old).honest }
+    requires never { (D.state device.old).read_failures ≡ Some 0 }
+    ensures kept { OnOk result (D.state device.new ≡ D.state device.old) }
+    ensures value { IfOk result (λ vtoc. vtoc ≡ unit_at (D.state device.old).store 272) }
+    ensures refused { IfErr result (Stops (plain_meaning OfDos) (D.state device.old)) }
+{
+    let mut unit = [0; 256];
+    if device.read(VTOC_PLACE, &mut unit).is_err() {
+        return Err(ReadStop::NoVolume(Finding::Unreadable));
+    }
+    match Vtoc::read(&unit) {
+        Ok(vtoc) => Ok(vtoc),
+        Err(fault) => Err(ReadStop::NoVolume(finding_of(fault))),
+    }
+}
+
+// How many sectors the catalog of a DOS 3.3 volume has.
+fn count_sectors<D: Device>(alloc: Global, device: &mut D) -> Result<usize, ReadStop>
+    requires unit { (D.state device.old).unit_size ≡ 256 }
+    requires places { (D.state device.old).places ≡ 560 }
+    requires honest { IsTrue (D.state device.old).honest }
+    requires never { (D.state device.old).read_failures ≡ Some 0 }
+    ensures kept { OnOk result (D.state device.new ≡ D.state device.old) }
+    ensures count { IfOk result (HasUnits OfDos (D.state device.old).store) }
+    ensures refused { IfErr result (Stops (plain_meaning OfDos) (D.state device.old)) }
+{
+    let vtoc = read_vtoc(device)?;
+    match Catalog::walk(alloc, device, &vtoc) {
+        Ok(catalog) => Ok(catalog.sectors().len()),
+        Err(error) => Err(ReadStop::from(error)),
+    }
+}
+
+// How many blocks the directories of a ProDOS volume have.
+fn count_blocks<D: Device>(alloc: Global, device: &mut D) -> Result<usize, ReadStop>
+    requires unit { (D.state device.old).unit_size ≡ 512 }
+    requires places { 16 ≤ (D.state device.old).places }
+    requires honest { IsTrue (D.state device.old).honest }
+    requires never { (D.state device.old).read_failures ≡ Some 0 }
+    ensures kept { OnOk result (D.state device.new ≡ D.state device.old) }
+    ensures count { IfOk result (HasUnits OfProdos (D.state device.old).store) }
+    ensures refused { IfErr result (Stops (plain_meaning OfProdos) (D.state device.old)) }
+{
+    match VolumeDir::walk(alloc, device) {
+        Ok(directory) => Ok(directory.blocks().len()),
+        Err(error) => Err(ReadStop::from(error)),
+    }
+}
+
+// How many entries of a volume's directory are in use.
+fn count_entries<D: Device, F: Format>(device: &mut D, format: &F) -> Result<u32, ReadStop>
+    requires unit { (D.state device.old).unit_size ≡ (F.meaning format.now).unit_size }
+    requires places { (F.meaning format.now).Takes (D.state device.old).places }
+    requires honest { IsTrue (D.state device.old).honest }
+    requires never { (D.state device.old).read_failures ≡ Some 0 }
+    ensures kept { OnOk result (D.state device.new ≡ D.state device.old) }
+    ensures count { IfOk result (HasEntries (F.meaning format.now) (D.state device.old).store) }
+    ensures refused { IfErr result (Stops (F.meaning format.now) (D.state device.old)) }
+{
+    match format.volume(device) {
+        Ok(volume) => Ok(format.entries(&volume)),
+        Err(error) => Err(ReadStop::from(error)),
+    }
+}
+
+// What the checker says of a volume.
+fn standing_of<D: Device, F: Format>(
+    alloc: Global,
+    device: &mut D,
+    format: &F,
+) -> Result<Standing, ReadStop>
+    requires unit { (D.state device.old).unit_size ≡ (F.meaning format.now).unit_size }
+    requires places { (F.meaning format.now).Takes (D.state device.old).places }
+    requires honest { IsTrue (D.state device.old).honest }
+    requires never { (D.state device.old).read_failures ≡ Some 0 }
+    ensures standing { IfOk result (Stands (F.meaning format.now) (D.state device.old)) }
+    ensures memory { IfErr result (λ stop. stop ≡ ReadStop.Memory) }
+{
+    match check(alloc, device, format) {
+        Ok(checked) => Ok(Standing::Accepted {
+            files: checked.files(),
+            lost: checked.lost().len(),
+        }),
+        Err(CheckError::Memory) => Err(ReadStop::Memory),
+        Err(_) => Ok(Standing::Refused),
+    }
+}
+
+// What is found on a disk that is read as DOS 3.3.
+fn dos_found(alloc: Global, disk: Image) -> Result<Found, ReadStop>
+    requires { IsOfDisk disk }
+    ensures found { IfOk result (IsFound OfDos (device_of OfDos disk)) }
+    ensures refused { IfErr result (Stops (plain_meaning OfDos) (device_of OfDos disk)) }
+{
+    let format = Dos33::new(alloc, false, Reserved::none(alloc))?;
+    let mut device = ImageDevice::dos(disk);
+    let units = count_sectors(alloc, &mut device)?;
+    let entries = count_entries(&mut device, &format)?;
+    let standing = standing_of(alloc, &mut device, &format)?;
+    Ok(Found {
+        entries,
+        units,
+        standing,
+    })
+}
+
+// What is found in an image that is read as ProDOS.
+fn prodos_found(alloc: Global, image: Image) -> Result<Found, ReadStop>
+    ensures found { IfOk result (IsFound OfProdos (device_of OfProdos image)) }
+    ensures refused { IfErr result (Stops (plain_meaning OfProdos) (device_of OfProdos image)) }
+{
+    let format = Prodos::new(alloc, Reserved::none(alloc));
+    // An image has 16 to 65,535 blocks.
+    let _blocks = image.blocks();
+    let mut device = ImageDevice::prodos(image);
+    let units = count_blocks(alloc, &mut device)?;
+    let entries = count_entries(&mut device, &format)?;
+    let standing = standing_of(alloc, &mut device, &format)?;
+    Ok(Found {
+        entries,
+        units,
+        standing,
+    })
+}
+
+// What is told of a disk that is read as DOS 3.3.
+fn dos_finding(alloc: Global, disk: Image) -> Result<Finding, AllocError>
+    requires { IsOfDisk disk }
+    ensures { IfOk result (IsToldOf OfDos (device_of OfDos disk)) }
+{
+    match dos_found(alloc, disk) {
+        Ok(found) => Ok(Finding::Volume(found)),
+        Err(ReadStop::NoVolume(finding)) => Ok(finding),
+        Err(ReadStop::Memory) => Err(AllocError),
+    }
+}
+
+// What is told of an image that is read as ProDOS.
+fn prodos_finding(alloc: Global, image: Image) -> Result<Finding, AllocError>
+    ensures { IfOk result (IsToldOf OfProdos (device_of OfProdos image)) }
+{
+    match prodos_found(alloc, image) {
+        Ok(found) => Ok(Finding::Volume(found)),
+        Err(ReadStop::NoVolume(finding)) => Ok(finding),
+        Err(ReadStop::Memory) => Err(AllocError),
+    }
+}
+
+// Takes the bytes of an image of a disk.
+fn disk_of(bytes: Vec<u8>, order: Order) -> Result<Image, AllocError>
+    requires { TakesBytes OfDos order (length bytes.items) }
+    ensures image { IfOk result (IsImageOf order bytes.items) }
+    ensures disk { IfOk result (λ image. IsOfDisk image) }
+{
+    match open_disk(bytes, order) {
+        Ok(disk) => Ok(disk),
+        Err(ImageError::Memory) => Err(AllocError),
+        Err(_) => unreachable!(),
+    }
+}
+
+// Takes the bytes of an image.
+fn image_of(bytes: Vec<u8>, order: Order) -> Result<Image, AllocError>
+    requires { TakesBytes OfProdos order (length bytes.items) }
+    ensures { IfOk result (IsImageOf order bytes.items) }
+{
+    match Image::open(bytes, order) {
+        Ok(image) => Ok(image),
+        Err((ImageError::Memory, _)) => Err(AllocError),
+        Err(_) => unreachable!(),
+    }
+}
+
+/// What is found in an image of a length that allows it to be read in this way: by the default rules, where no place is
+/// reserved and tracks 1 and 2 of a DOS 3.3 disk are the system's.
+///
+/// # Errors
+/// Want of memory alone.
+pub fn reading_of(
+    alloc: Global,
+    image: &[u8],
+    file_system: FileSystem,
+    order: Order,
+) -> Result<Reading, AllocError>
+    requires { TakesBytes file_system order (length image.now) }
+    ensures file_system { IfOk result (λ reading. reading.file_system ≡ file_system) }
+    ensures order { IfOk result (λ reading. reading.order ≡ order) }
+    ensures found { IfOk result (IsReadingOf image.now) }
+{
+    let bytes = Vec::from_slice(alloc, image)?;
+    let finding = match file_system {
+        FileSystem::Dos => dos_finding(alloc, disk_of(bytes, order)?)?,
+        FileSystem::Prodos => prodos_finding(alloc, image_of(bytes, order)?)?,
+    };
+    Ok(Reading {
+        file_system,
+        order,
+        finding,
+    })
+}
