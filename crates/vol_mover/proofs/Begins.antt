@@ -12,12 +12,13 @@ use Rattle.vol_format.specs.Directory.{Directory}
 use Rattle.vol_format.specs.Laws.{IsDirectory}
 use Rattle.vol_format.specs.Meaning.{Meaning}
 use Rattle.vol_format.specs.Reach.{IsPartsOf}
-use Rattle.vol_format.specs.Standing.{IsLost}
+use Rattle.vol_format.specs.Standing.{IsLost, lost_places}
 use Rattle.vol_check.specs.Told.{Told, IsToldOf}
 use Rattle.vol_opening.specs.Opening.{IsPlanOf, IsAllowed}
 use Rattle.vol_opening.specs.declared.opening.Options.{Options}
 use Rattle.plan_writes.specs.Tasks.{Task, IsAgenda, at_first, moves_of}
 use Rattle.plan_writes.specs.Work.{IsWork}
+use Rattle.plan_writes.specs.Writes.{writes_of}
 use Rattle.vol_mover.specs.Begun.{IsBegun, TakesWrites}
 use Rattle.vol_mover.specs.Open.{IsOpen}
 use Rattle.vol_mover.specs.Present.{Present, IsSession}
@@ -35,7 +36,7 @@ module _ {A : Type 0} (format : Meaning) (options : Options) (device now : Devic
     (is : IsToldOf directory told) (layout : IsLayout told.layout.at told.layout.places) (plan : Plan A) (planned : IsPlanOf told.layout plan) (tasks : List Task) (unit : List ℕ)
     (takes : format.Takes device.places) (unit_size : device.unit_size ≡ format.unit_size) (reads : OnlyReads false device now)
     (places : directory.places ≡ device.places) (unit_is : length unit ≡ now.unit_size)
-    (agenda : IsAgenda directory (length told.lost) (at_first told.layout.at told.lost) tasks) (moves : moves_of tasks ≡ plan.moves.items) (few : length tasks < 4294967296)
+    (agenda : IsAgenda directory (length told.lost) (at_first told.layout.at told.lost) tasks) (moves : moves_of tasks ≡ plan.moves.items) (order : tasks ≡ writes_of directory told.layout.at told.lost plan.moves.items) (few : length tasks < 4294967296)
     (accepted : IsTrue device.honest → IsAccepted format directory device.store) (parts : IsTrue device.honest → IsPartsOf format directory device.store told.parts)
     (lost : IsTrue device.honest → (place : ℕ) → Contains told.lost place ↔ IsLost format directory device.store place) where
   abbrev present : Present
@@ -100,6 +101,8 @@ module _ {A : Type 0} (format : Meaning) (options : Options) (device now : Devic
     opened = refl;
     layout = ap (λ (l : Placement). l.at) is.layout;
     lost = ap (λ (places : List ℕ). length places) is.lost;
+    tasks = subst (λ ms. tasks ≡ writes_of directory told.layout.at (lost_places directory told.parts) ms) (sym moves)
+        (subst (λ (places : List ℕ). tasks ≡ writes_of directory told.layout.at places plan.moves.items) is.lost order);
     writes = subst (λ (places : List ℕ). TakesWrites (length directory.map_units) told.layout.at places (length tasks)) is.lost
         (takes_writes (length directory.map_units) told.layout.at told.lost plan.moves.items (length tasks) planned.deficit planned.starts work);
     allowed = subst (λ (places : List ℕ). (options.reclaim ≡ true) ⊎ (places ≡ [])) is.lost allowed.lost;

@@ -16,5 +16,6 @@ pub mod FewTasks
 pub mod Deficits
 pub mod Beginning
 pub mod Begins
+pub mod LostPlaces
 pub mod Reporting
 pub mod Fields

@@ -18,12 +18,12 @@ use Rattle.vol_opening.specs.Opening.{IsPlanOf}
 use Rattle.vol_opening.specs.Refused.{is_device_error}
 use Rattle.vol_opening.specs.declared.opening.Options.{Options}
 use Rattle.plan_writes.specs.Tasks.{Course, Task, Map, Copy, Pointer, IsAgenda, IsFewLost, course_after, moves_of}
-use Rattle.vol_mover.specs.Begun.{IsBegun, start_of}
+use Rattle.vol_mover.specs.Begun.{IsBegun, first_lost, start_of}
 use Rattle.vol_mover.specs.Failing.{CannotFail, FailsStep, WorksOn}
 use Rattle.vol_mover.specs.Open.{IsOpen}
 use Rattle.vol_mover.specs.Optimizing.{HasWorked, StopsWork, IsNoFailure, IsRefused}
 use Rattle.vol_mover.specs.Present.{Present, IsSession}
-use Rattle.vol_mover.specs.Report.{IsWorked, IsReported, IsStopped, course_of}
+use Rattle.vol_mover.specs.Report.{AreFewLost, IsWorked, IsReported, IsStopped, course_of}
 use Rattle.vol_mover.specs.Runs.{IsRun, course_after_all, map_writes_of}
 use Rattle.vol_mover.specs.Steps.{IsStep, Leaves}
 use Rattle.vol_mover.specs.Volume.{SameVolume}
@@ -38,6 +38,7 @@ use Rattle.vol_layout.proofs.LowerBound.{bound_of_deficit}
 use Rattle.vol_mover.proofs.Deficits.{few_claims}
 use Rattle.vol_mover.proofs.Failures.{no_failed_read, no_failed_write, works-none, works-reads, works-then}
 use Rattle.vol_mover.proofs.Left.{agenda_few}
+use Rattle.vol_mover.proofs.LostPlaces.{few_lost_of}
 use Rattle.vol_mover.proofs.Running.{courses-append}
 use Rattle.vol_mover.proofs.Stepping.{reads_keep, same_then}
 use Rattle.vol_mover.proofs.Volumes.{same_volume-trans}
@@ -87,6 +88,11 @@ module _ (format : Meaning) (laws : IsReadable format) (options : Options) (old 
   first_honest : IsTrue old.honest → IsTrue first.device.honest
   first_honest honest = subst IsTrue (sym begun.reads.same.honest) honest
 
+  few_places : (made left : List Task) → first.tasks ≡ made ++ left → IsFewLost (length first.opening.map_units) first.lost_at_first (course_of first made) left
+      → AreFewLost (first_lost first) (course_of first made).lost
+  few_places made left tasks few =
+      few_lost_of first.opening (length first.opening.map_units) first.lost_at_first first.at (first_lost first) (moves_of first.tasks) made left (sym begun.tasks ∙ tasks) few
+
   module _ (last : Present) (made : List Task) (run : IsRun format first last made) where
     session_now : IsSession format last (course_of first made)
     session_now = run.session (start_of first) begun.session
@@ -130,6 +136,7 @@ module _ (format : Meaning) (laws : IsReadable format) (options : Options) (old 
       stands = open_now;
       same = same_now;
       few = agenda_few first.opening first.lost_at_first (course_of first made) last.tasks agenda_now;
+      lost = few_places made last.tasks run.tasks (agenda_few first.opening first.lost_at_first (course_of first made) last.tasks agenda_now);
       layout = courses_at first.opening (start_of first) made;
     }
 
@@ -257,6 +264,7 @@ module _ (format : Meaning) (laws : IsReadable format) (options : Options) (old 
         stands = is_open;
         same = same;
         few = few;
+        lost = few_places done more tasks few;
         layout = courses_at first.opening (start_of first) done;
       };
       stands = stands;

@@ -9,7 +9,8 @@ use Rattle.vol_format.specs.Meaning.{Meaning}
 use Rattle.vol_format.specs.Reach.{IsPartsOf}
 use Rattle.vol_format.specs.Standing.{layout_of, lost_places}
 use Rattle.vol_opening.specs.declared.opening.Options.{Options}
-use Rattle.plan_writes.specs.Tasks.{Course, at_first}
+use Rattle.plan_writes.specs.Tasks.{Course, at_first, moves_of}
+use Rattle.plan_writes.specs.Writes.{writes_of}
 use Rattle.vol_mover.specs.Present.{Present, IsSession}
 
 -- How many writes bring the parts of a layout home and mark the lost places free. Where some part is misplaced: two a move, one before each hole run, or before the
@@ -31,14 +32,15 @@ first_lost present = lost_places present.opening present.parts
 abbrev pub start_of : Present → Course
 start_of present = at_first present.at (first_lost present)
 
--- Of every device: nothing was written, and the session stands at the start of its work, which the owner has allowed and for which there is a free place. Of an honest
--- one: its directory and its parts are those of the store, which is accepted.
+-- Of every device: nothing was written, and the session stands at the start of its work, which is the list of the writes of its plan, which the owner has allowed and for
+-- which there is a free place. Of an honest one: its directory and its parts are those of the store, which is accepted.
 pub record IsBegun (format : Meaning) (options : Options) (device : DeviceState) (present : Present) : Type 0 where
   pub reads : OnlyReads false device present.device
   pub session : IsSession format present (start_of present)
   pub opened : present.closed ≡ false
   pub layout : present.at ≡ layout_of present.opening present.parts
   pub lost : present.lost_at_first ≡ length (first_lost present)
+  pub tasks : present.tasks ≡ writes_of present.opening present.at (first_lost present) (moves_of present.tasks)
   pub writes : TakesWrites (length present.opening.map_units) present.at (first_lost present) (length present.tasks)
   pub allowed : (options.reclaim ≡ true) ⊎ (first_lost present ≡ [])
   pub free : ¬ LacksFreePlace (record { at = present.at; places = present.places })

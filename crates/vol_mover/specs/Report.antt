@@ -1,5 +1,5 @@
 -- What an optimizer has done to a volume, and what it reports.
-use Rattle.std.specs.Prelude.{◌≡◌, ◌⊎◌, ◌↔◌, ◌<◌, ◌≤◌, ℕ, List, [], ◌∷◌, ◌++◌, length, take, min, IsTrue}
+use Rattle.std.specs.Prelude.{◌≡◌, ◌⊎◌, ◌↔◌, ◌<◌, ◌≤◌, ℕ, List, [], ◌∷◌, ◌++◌, length, take, min, Contains, IsTrue}
 use Rattle.a2_device.specs.Device.{DeviceState, IsSameDevice}
 use Rattle.vol_layout.specs.Layouts.{IsTarget}
 use Rattle.vol_layout.specs.Plans.{IsPlan, after}
@@ -12,7 +12,7 @@ use Rattle.vol_format.specs.Meaning.{Meaning}
 use Rattle.vol_opening.specs.Opening.{IsPlanOf}
 use Rattle.vol_opening.specs.declared.opening.Options.{Options}
 use Rattle.plan_writes.specs.Tasks.{Course, Task, IsDone, IsFewLost, moves_of}
-use Rattle.vol_mover.specs.Begun.{IsBegun, start_of}
+use Rattle.vol_mover.specs.Begun.{IsBegun, first_lost, start_of}
 use Rattle.vol_mover.specs.Failing.{WorksOn, FailsStep}
 use Rattle.vol_mover.specs.Open.{IsOpen}
 use Rattle.vol_mover.specs.Present.{Present}
@@ -26,6 +26,10 @@ use Rattle.vol_mover.specs.declared.report.Report.{Report}
 abbrev pub course_of : Present → List Task → Course
 course_of first made = course_after_all first.opening (start_of first) made
 
+-- The lost places are two at most; or, while no part has moved, each is one of those that were lost at first, or the one that was marked used for the first move.
+abbrev pub AreFewLost : List ℕ → List ℕ → Type 0
+AreFewLost first lost = (length lost ≤ 2) ⊎ ((more : ℕ) × ((place : ℕ) → Contains lost place → (place ≡ more) ⊎ Contains first place))
+
 -- The volume was opened, and of the writes of its work these stand. Of an honest device: what stands is what the course says, and the volume is the same. Few places are
 -- lost, and the parts have made the moves whose pointers were written.
 pub record IsWorked (format : Meaning) (options : Options) (old new : DeviceState) (first : Present) (made left : List Task) : Type 0 where
@@ -35,6 +39,7 @@ pub record IsWorked (format : Meaning) (options : Options) (old new : DeviceStat
   pub stands : IsTrue old.honest → IsOpen format first.opening new.store first.parts (course_of first made)
   pub same : IsTrue old.honest → SameVolume format old.store new.store
   pub few : IsFewLost (length first.opening.map_units) first.lost_at_first (course_of first made) left
+  pub lost : AreFewLost (first_lost first) (course_of first made).lost
   pub layout : (course_of first made).at ≡ after first.at (moves_of made)
 
 -- The report of the work up to so many writes, of which each stands, and under which nothing has failed: the certificate of a shortest plan for the layout at first, which

@@ -3,6 +3,7 @@ ghost use Rattle.std.specs.Prelude.{◌≡◌, ◌<◌, ◌+◌, false, IsTrue, 
 ghost use Rattle.a2_device.specs.Device.{OnlyReads};
 ghost use Rattle.plan_writes.specs.Tasks.{IsAgenda, at_first, moves_of};
 ghost use Rattle.plan_writes.specs.Work.{IsWork};
+ghost use Rattle.plan_writes.specs.Writes.{writes_of};
 ghost use Rattle.vol_layout.specs.Layouts.{IsLayout};
 ghost use Rattle.vol_opening.specs.Opening.{IsPlanOf, IsToldIn};
 ghost use Rattle.vol_opening.specs.Refused.{is_device_error, IsRefusal};
@@ -33,6 +34,7 @@ fn room<F: WritableFormat, A: Allocator + Copy>(
     ensures moves { IfOk result (λ made. moves_of made.0 ≡ opening.now.plan.moves.items) }
     ensures writes { IfOk result (λ made. IsWork (length (F.directory format.now opening.now.volume).map_units) opening.now.layout.at opening.now.lost.items
         opening.now.plan.moves.items (length made.0)) }
+    ensures order { IfOk result (λ made. made.0 ≡ writes_of (F.directory format.now opening.now.volume) opening.now.layout.at opening.now.lost.items opening.now.plan.moves.items) }
     ensures few { IfOk result (λ made. length made.0 < 4294967296) }
 {
     let agenda = Agenda::new(

@@ -22,4 +22,4 @@ returns-in-Ok-room-clause-begun g c =
     subst (IsBegun (g.F.Format.meaning format) c.args.options (g.D.Device.state c.args.device)) (sym c.started.ensures.session)
     (begun (g.F.Format.meaning format) c.args.options (g.D.Device.state c.args.device) (g.D.Device.state c.read.new.device) directory (g.met.F.Format.rooted format opening.volume)
     (told_in directory opening) read.told made.layout opening.plan read.plan c.in-Ok-room.agenda c.in-Ok-room.unit.items c.requires.places c.requires.unit read.device read.places
-    (made.unit ∙ c.unit.ensures) made.agenda made.moves made.few read.accepted read.parts read.lost made.writes read.allowed)
+    (made.unit ∙ c.unit.ensures) made.agenda made.moves made.order made.few read.accepted read.parts read.lost made.writes read.allowed)
