@@ -57,14 +57,9 @@ impl Answer {
         Ok(Answer { status, text, out })
     }
 
-    /// Whether these are the status and the text, whatever the output file gets.
-    pub fn says(&self, status: u8, text: &[u8]) -> bool {
-        self.status == status && self.text.as_slice() == text
-    }
-
     /// Whether these are the status and the text, with nothing for the output file.
     pub fn only_says(&self, status: u8, text: &[u8]) -> bool {
-        self.says(status, text) && self.out.is_empty()
+        self.status == status && self.text.as_slice() == text && self.out.is_empty()
     }
 }
 
@@ -80,16 +75,4 @@ pub fn tells<I: Read>(
     let answer = Answer::to(alloc, line, image, &[])?;
     assert!(rt; answer.only_says(status, text.as_bytes()), "for {line}");
     Ok(())
-}
-
-/// The image that a line of words makes of another, which is told by OK.
-pub fn made_by(
-    rt: &impl Abort,
-    alloc: Global,
-    line: &str,
-    mut image: &[u8],
-) -> Result<Vec<u8>, AllocError> {
-    let answer = Answer::to(alloc, line, &mut image, &[])?;
-    assert!(rt; answer.says(0, b"OK\n"), "for {line}");
-    Ok(answer.out)
 }

@@ -1,5 +1,5 @@
-//! Tests of `shop_words`, `job_reply`, `volume_jobs` and `shop_commands`: the words of each command, worked volumes with the
-//! literal text, bytes and status of each answer, each public call on its happy path, and readers and writers that fail.
+//! Tests of `shop_words`, `job_reply` and `shop_commands`: the words of each command, replies and how they are told, commands from
+//! words to the text, and readers and writers that fail. What is answered on worked volumes, `tests/end_to_end` tests on the program.
 #![tactic(auto)]
 
 #[cfg(test)]

@@ -2,8 +2,7 @@
 ghost use Rattle.std.specs.Prelude.{◌≡◌, length, vec_len};
 ghost use Rattle.a2_device.specs.Device.{DeviceState};
 
-use a2_device::{Device, FaultDevice, ImageDevice};
-use a2_image::{Image, NIBBLE_BYTES, Order};
+use a2_device::{Device, FaultDevice};
 use dos_format::Dos33;
 use file_cmds::{CmdError, catalog, dos_listing_text};
 use refusing::Refusing;
@@ -11,7 +10,7 @@ use reserved_places::Reserved;
 use std::alloc::{AllocError, Allocator, Global};
 use std::process::Abort;
 use std::test::Fail;
-use test_volumes::{FIRST_CATALOG, VTOC, dos_device, dos_volume, hello, put, put_entry};
+use test_volumes::{FIRST_CATALOG, dos_device, dos_volume, hello, put_entry};
 
 /// DOS 3.3, with nothing reserved.
 pub fn dos_33<A: Allocator + Copy>(alloc: A) -> Result<Dos33<A>, AllocError> {
@@ -86,31 +85,6 @@ fn lists_each_kind_and_passes_over_free_entries(rt: HostRuntime) -> Result<(), F
     Ok(())
 }
 
-#[test]
-fn a_long_file_and_an_empty_catalog(rt: HostRuntime) -> Result<(), Fail> {
-    let mut image = hello(rt.alloc())?;
-    put(&mut image, FIRST_CATALOG, 0x2c, &[0xd2, 0x04]);
-    put(&mut image, VTOC, 0x06, &[1]);
-    let text = listing_of(rt.alloc(), image)?;
-    assert_eq!(rt; text.as_str(), "DISK VOLUME 1\n*B 1234 HELLO\nFREE 494\n");
-    let mut image = hello(rt.alloc())?;
-    put(&mut image, VTOC, 0x01, &[0]);
-    let text = listing_of(rt.alloc(), image)?;
-    assert_eq!(rt; text.as_str(), "DISK VOLUME 254\nFREE 494\n");
-    Ok(())
-}
-
-#[test]
-fn a_broken_header_or_chain_is_refused(rt: HostRuntime) -> Result<(), Fail> {
-    // Another number of tracks, a catalog on another track, and a sector that links to itself.
-    for (place, offset, byte) in [(272, 0x34, 0x28), (272, 0x01, 0x12), (287, 0x02, 0x0f)] {
-        let mut image = hello(rt.alloc())?;
-        put(&mut image, place, offset, &[byte]);
-        assert_eq!(rt; listing_of(rt.alloc(), image).err(), Some(CmdError::Check));
-    }
-    Ok(())
-}
-
 /// A listing where the read after so many others fails is a failure of the device.
 fn fails_at_read(rt: &impl Abort, alloc: Global, image: Vec<u8>, reads: u32) -> Result<(), Fail>
     requires { vec_len image ≡ 143360 }
@@ -150,30 +124,4 @@ fn each_refused_block_is_memory(rt: HostRuntime) -> Result<(), Fail> {
         assert_eq!(rt; heap.asked(), before + 1);
     }
     Ok(())
-}
-
-#[test]
-fn lists_the_same_in_each_order(rt: HostRuntime) -> Result<(), Fail> {
-    for order in [Order::Dos, Order::Prodos, Order::Nibble] {
-        let plain = Image::open(hello(rt.alloc())?, Order::Dos)
-            .ok()
-            .ok_or("not taken")?;
-        let mut device = ImageDevice::dos(plain.convert(order, 254)?);
-        let text = listing_on(rt.alloc(), &mut device)?;
-        assert_eq!(rt; text.as_str(), "DISK VOLUME 254\n*B 002 HELLO\nFREE 494\n");
-    }
-    Ok(())
-}
-
-#[test]
-fn an_unreadable_vtoc_is_a_failure_of_the_device(rt: HostRuntime) -> Result<(), Fail> {
-    let bytes = vec![in rt.alloc(); 0xff; NIBBLE_BYTES]?;
-    let image = Image::open(bytes, Order::Nibble).ok().ok_or("not taken")?;
-    if image.blocks() == 280 {
-        let mut device = ImageDevice::dos(image);
-        let refused = listing_on(rt.alloc(), &mut device).err();
-        assert_eq!(rt; refused, Some(CmdError::Device));
-        return Ok(());
-    }
-    Err("another number of blocks".into())
 }

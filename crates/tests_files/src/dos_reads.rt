@@ -11,7 +11,7 @@ use refusing::Refusing;
 use std::alloc::{AllocError, Allocator, Global};
 use std::process::Abort;
 use std::test::Fail;
-use test_volumes::{FIRST_CATALOG, VTOC, dos_device, dos_volume, hello, put, put_entry};
+use test_volumes::{FIRST_CATALOG, dos_device, dos_volume, hello, put, put_entry};
 
 const HELLO_BODY: &str = " 1 of 169 1 of 0 1 of 96";
 
@@ -79,22 +79,6 @@ fn reads_a_body_and_the_whole(rt: HostRuntime) -> Result<(), Fail> {
     Ok(())
 }
 
-#[test]
-fn finds_whole_names_alone(rt: HostRuntime) -> Result<(), Fail> {
-    for (path, answer) in [
-        (b"NONE".as_slice(), "NotFound"),
-        (b"HELL", "NotFound"),
-        (b"HELLO2", "NotFound"),
-        (b"hello", "NotFound"),
-        (b"", "NotFound"),
-        (b"HELLO                          ", "NotFound"),
-        (b"HELLO                         ", HELLO_BODY),
-    ] {
-        reads(&rt, rt.alloc(), hello(rt.alloc())?, path, answer)?;
-    }
-    Ok(())
-}
-
 /// The volume with the one file `GAPS`, whose two lists have one unit each.
 fn gaps(alloc: Global) -> Result<Vec<u8>, AllocError>
     ensures { IfOk result (λ image. vec_len image ≡ 143360) }
@@ -108,13 +92,6 @@ fn gaps(alloc: Global) -> Result<Vec<u8>, AllocError>
     put(&mut image, 62, 0x0c, &[3, 15]);
     put(&mut image, 63, 0x00, &[2; 256]);
     Ok(image)
-}
-
-#[test]
-fn holes_are_zeros(rt: HostRuntime) -> Result<(), Fail> {
-    let body = " 256 of 1 30976 of 0 256 of 2";
-    reads(&rt, rt.alloc(), gaps(rt.alloc())?, b"GAPS", body)?;
-    Ok(())
 }
 
 /// A read of the body where the file has this kind and its unit begins with these bytes answers this.
@@ -174,63 +151,6 @@ fn a_file_without_units_is_empty(rt: HostRuntime) -> Result<(), Fail> {
     let alloc = rt.alloc();
     reads_whole(&rt, alloc, without_units(alloc)?, "")?;
     reads(&rt, alloc, without_units(alloc)?, b"HELLO", "")?;
-    Ok(())
-}
-
-#[test]
-fn refuses_a_fault_of_the_file_or_the_header(rt: HostRuntime) -> Result<(), Fail> {
-    // A list that links to itself, one unit twice, pointers past the last track and sector, and a broken header and chain.
-    for (place, at, bytes) in [
-        (62, 0x01, [0x03, 0x0e]),
-        (62, 0x0e, [0x03, 0x0f]),
-        (62, 0x40, [0x23, 0x00]),
-        (62, 0x40, [0x03, 0x10]),
-        (FIRST_CATALOG, 0x0b, [0x24, 0x0f]),
-        (VTOC, 0x34, [0x28, 0x10]),
-        (VTOC, 0x01, [0x12, 0x0f]),
-    ] {
-        let mut image = hello(rt.alloc())?;
-        put(&mut image, place, at, &bytes);
-        reads(&rt, rt.alloc(), image, b"HELLO", "Check")?;
-    }
-    Ok(())
-}
-
-#[test]
-fn reads_from_any_place_whatever_its_mark(rt: HostRuntime) -> Result<(), Fail> {
-    // The list stands on a place of the system, and the unit is marked free.
-    let mut image = hello(rt.alloc())?;
-    put(&mut image, VTOC, 0x44, &[0xff, 0xff]);
-    put(&mut image, FIRST_CATALOG, 0x0b, &[1, 3]);
-    put(&mut image, 19, 0x0c, &[3, 15]);
-    reads(&rt, rt.alloc(), image, b"HELLO", HELLO_BODY)?;
-    Ok(())
-}
-
-/// The volume with a second file, whose list links to itself and names the unit of the first.
-fn with_loop(alloc: Global) -> Result<Vec<u8>, AllocError>
-    ensures { IfOk result (λ image. vec_len image ≡ 143360) }
-{
-    let mut image = hello(alloc)?;
-    put_entry(&mut image, FIRST_CATALOG, 1, [3, 12], 0x00, b"LOOP", 2);
-    put(&mut image, 60, 0x01, &[3, 12]);
-    put(&mut image, 60, 0x0c, &[3, 15]);
-    Ok(image)
-}
-
-#[test]
-fn a_fault_of_another_file_does_not_matter(rt: HostRuntime) -> Result<(), Fail> {
-    let alloc = rt.alloc();
-    reads(&rt, alloc, with_loop(alloc)?, b"HELLO", HELLO_BODY)?;
-    reads(&rt, alloc, with_loop(alloc)?, b"LOOP", "Check")?;
-    Ok(())
-}
-
-#[test]
-fn the_first_file_of_a_name_counts(rt: HostRuntime) -> Result<(), Fail> {
-    let mut image = hello(rt.alloc())?;
-    put_entry(&mut image, FIRST_CATALOG, 1, [0x24, 0], 0x00, b"HELLO", 2);
-    reads(&rt, rt.alloc(), image, b"HELLO", HELLO_BODY)?;
     Ok(())
 }
 

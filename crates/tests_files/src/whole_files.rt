@@ -172,11 +172,14 @@ fn nothing_is_made_where_nothing_is_written(rt: HostRuntime) -> Result<(), Fail>
     Ok(())
 }
 
-/// Whether a file aside of which a write failed is not empty, and cannot be put onto the disk.
+/// Whether a file aside of which a write failed is not empty, cannot be put onto the disk, and does not take the place.
 fn remembers_a_failure(folder: &Folder, target: &Target<Global>) -> bool {
     let files = Mounted(folder);
     let mut out = AsideFile::new(&files, folder.alloc(), target);
-    write_aside(&mut out).is_err() && !out.is_empty() && out.flush_to_disk().is_err()
+    write_aside(&mut out).is_err()
+        && !out.is_empty()
+        && out.flush_to_disk().is_err()
+        && out.take_place().is_err()
 }
 
 /// The calls: made, written twice.
@@ -186,6 +189,7 @@ fn a_failed_write_is_not_forgotten(rt: HostRuntime) -> Result<(), Fail> {
         let folder = Folder::holding(rt.alloc(), &[], Some(failing))?;
         let target = place_of_image(rt.alloc())?;
         assert!(rt; remembers_a_failure(&folder, &target), "call {failing}");
+        assert_eq!(rt; folder.shown()?.as_str(), "");
     }
     Ok(())
 }

@@ -77,27 +77,6 @@ fn a_data_disk_has_lost_places(rt: HostRuntime) -> Result<(), Fail> {
 }
 
 #[test]
-fn names_the_fault(rt: HostRuntime) -> Result<(), Fail> {
-    for (place, at, bytes, fault) in [
-        (62, 0x01, [0x03, 0x0e], "[Shared(62)]"),
-        (62, 0x0c, [0x23, 0x00], "[OutOfRange(62)]"),
-        (62, 0x0c, [0x03, 0x10], "[OutOfRange(62)]"),
-        (62, 0x0c, [0x11, 0x01], "[InSystem(273)]"),
-        (VTOC, 0x44, [0x7f, 0xff], "[MarkedFree(62)]"),
-        (VTOC, 0x44, [0xff, 0xff], "[MarkedFree(62), MarkedFree(63)]"),
-        (VTOC, 0x34, [0x28, 0x10], "[Geometry(272)]"),
-        (VTOC, 0x01, [0x12, 0x0f], "[CatalogLink(272)]"),
-        (FIRST_CATALOG, 0x0b, [0x24, 0x0f], "[OutOfRange(287)]"),
-    ] {
-        let mut image = hello(rt.alloc())?;
-        put(&mut image, place, at, &bytes);
-        let text = told_of_image(rt.alloc(), image)?;
-        assert_eq!(rt; text.as_str(), fault);
-    }
-    Ok(())
-}
-
-#[test]
 fn lists_faults_in_the_order_of_the_parts(rt: HostRuntime) -> Result<(), Fail> {
     let mut image = hello(rt.alloc())?;
     put(&mut image, 62, 0x01, &[0x03, 0x0e]);

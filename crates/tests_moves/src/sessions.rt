@@ -161,22 +161,3 @@ fn a_failed_write_closes_the_session(rt: HostRuntime) -> Result<(), Fail> {
     }
     Ok(())
 }
-
-#[test]
-fn nothing_is_written_when_all_is_done(rt: HostRuntime) -> Result<(), Fail> {
-    let format = dos33(rt.alloc(), false)?;
-    match Session::open(
-        rt.alloc(),
-        dos_device(after_writes(rt.alloc(), 8)?),
-        &format,
-        KEEP,
-    ) {
-        Ok(mut session) => {
-            assert_eq!(rt; session.writes_left(), 0);
-            assert_eq!(rt; session.step(), Ok(Progress::Done));
-            assert_eq!(rt; session.into_device().writes(), 0);
-        }
-        Err(_) => return Err("refused".into()),
-    }
-    Ok(())
-}

@@ -67,7 +67,7 @@ impl<'a, R: Files, A: Allocator + Copy> AsideFile<'a, R, A> {
         self.made.is_none() && self.failure.is_none()
     }
 
-    /// Why a write failed, if one has.
+    /// Why a write or the flush to the disk failed, if one has. A write that was interrupted is tried again, and is none.
     pub fn failure(&self) -> Option<ErrorKind> {
         self.failure
     }
@@ -75,22 +75,30 @@ impl<'a, R: Files, A: Allocator + Copy> AsideFile<'a, R, A> {
     /// Puts what was written onto the disk.
     ///
     /// # Errors
-    /// A write that failed before, or what the file system answers.
+    /// A call that failed before, or what the file system answers.
     pub fn flush_to_disk(&mut self) -> io::Result<()> {
         if let Some(kind) = self.failure {
             return Err(io::Error::from(kind));
         }
-        match &self.made {
+        let flushed = match &self.made {
             Some((_, file)) => file.sync_all(),
             None => Ok(()),
+        };
+        if let Err(error) = &flushed {
+            self.failure = Some(error.kind());
         }
+        flushed
     }
 
     /// Takes the place. Where that fails, the file aside is removed.
     ///
     /// # Errors
-    /// What the file system answers; what stood at the place then stands.
+    /// A call that failed before, or what the file system answers; what stood at the place then stands.
     pub fn take_place(self) -> io::Result<()> {
+        if let Some(kind) = self.failure {
+            self.discard();
+            return Err(io::Error::from(kind));
+        }
         let AsideFile {
             rt,
             target,
@@ -146,8 +154,11 @@ impl<'a, R: Files, A: Allocator + Copy> AsideFile<'a, R, A> {
 impl<R: Files, A: Allocator + Copy> Write for AsideFile<'_, R, A> {
     fn write(&mut self, buf: &[u8]) -> io::Result<usize> {
         let written = self.put(buf);
-        if let Err(error) = &written {
-            self.failure = Some(error.kind());
+        match &written {
+            Err(error) if error.kind() != ErrorKind::Interrupted => {
+                self.failure = Some(error.kind());
+            }
+            _ => {}
         }
         written
     }
