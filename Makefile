@@ -3,7 +3,7 @@
 #                 checks, plans and optimizes a ProDOS sample, lists it before and after, and verifies the plan
 # make test       runs the gate (every proof from nothing, the must-fail edits, all tests) and the end-to-end tests
 # make assure     tries the further edits, crates/*/assure, that the prover must refuse; each run of the gate tries a share
-# make install    copies the program that was built to $(PREFIX)/bin, and proves nothing
+# make install    copies the program that was built, its manual page and the completions of the shells to $(PREFIX), and proves nothing
 # make bench      measures the program beside plain programs of the same work; no part of the tests
 
 PREFIX ?= /usr/local
@@ -14,10 +14,10 @@ CRATE = crates/a2_shop
 
 all: a2shop
 
-# Proves what has changed, on all processors, compiles, and runs the program once on a sample.
+# Proves what has changed of the program and of what it stands on, on all processors, compiles, and runs it once on a sample.
 a2shop: FORCE
 	@echo "proving what has changed, with $(JOBS) jobs; build.log has what the prover says"
-	@rt all check --jobs $(JOBS) > build.log 2>&1 || { tail -n 40 build.log; exit 1; }
+	@cd $(CRATE) && rt all check --jobs $(JOBS) > ../../build.log 2>&1 || { tail -n 40 ../../build.log; exit 1; }
 	@cd $(CRATE) && rt run < ../../samples/hello.dsk > /dev/null
 	cp $(CRATE)/out/a2_shop $@
 
@@ -50,6 +50,10 @@ assure:
 install:
 	@test -x a2shop || { echo "there is no ./a2shop to install: run make first"; exit 1; }
 	install -D -m 755 a2shop $(DESTDIR)$(PREFIX)/bin/a2shop
+	install -D -m 644 man/a2shop.1 $(DESTDIR)$(PREFIX)/share/man/man1/a2shop.1
+	install -D -m 644 completions/a2shop.bash $(DESTDIR)$(PREFIX)/share/bash-completion/completions/a2shop
+	install -D -m 644 completions/_a2shop $(DESTDIR)$(PREFIX)/share/zsh/site-functions/_a2shop
+	install -D -m 644 completions/a2shop.fish $(DESTDIR)$(PREFIX)/share/fish/vendor_completions.d/a2shop.fish
 
 bench: a2shop
 	bash bench/run

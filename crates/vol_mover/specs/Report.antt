@@ -26,7 +26,7 @@ use Rattle.vol_mover.specs.declared.report.Report.{Report}
 abbrev pub course_of : Present → List Task → Course
 course_of first made = course_after_all first.opening (start_of first) made
 
--- The lost places are two at most; or, while no part has moved, each is one of those that were lost at first, or the one that was marked used for the first move.
+-- The lost places are two at most; or each is one of those that were lost at first, but for one more.
 abbrev pub AreFewLost : List ℕ → List ℕ → Type 0
 AreFewLost first lost = (length lost ≤ 2) ⊎ ((more : ℕ) × ((place : ℕ) → Contains lost place → (place ≡ more) ⊎ Contains first place))
 

@@ -1,0 +1,49 @@
+# The completion of a2shop for bash.
+_a2shop() {
+  local word=${COMP_WORDS[COMP_CWORD]} before=${COMP_WORDS[COMP_CWORD-1]}
+  COMPREPLY=()
+  if [ "$COMP_CWORD" -eq 1 ]; then
+    mapfile -t COMPREPLY < <(compgen -W "catalog check read convert plan optimize verify identify help" -- "$word")
+    return
+  fi
+  case "${COMP_WORDS[1]} $before" in
+    'catalog --fs') mapfile -t COMPREPLY < <(compgen -W "dos prodos" -- "$word"); return ;;
+    'catalog --order') mapfile -t COMPREPLY < <(compgen -W "dos prodos nibble" -- "$word"); return ;;
+    'check --fs') mapfile -t COMPREPLY < <(compgen -W "dos prodos" -- "$word"); return ;;
+    'check --order') mapfile -t COMPREPLY < <(compgen -W "dos prodos nibble" -- "$word"); return ;;
+    'check --reserve') return ;;
+    'read --fs') mapfile -t COMPREPLY < <(compgen -W "dos prodos" -- "$word"); return ;;
+    'read --order') mapfile -t COMPREPLY < <(compgen -W "dos prodos nibble" -- "$word"); return ;;
+    'convert --order') mapfile -t COMPREPLY < <(compgen -W "dos prodos nibble" -- "$word"); return ;;
+    'convert --to') mapfile -t COMPREPLY < <(compgen -W "dos prodos nibble" -- "$word"); return ;;
+    'convert --out') mapfile -t COMPREPLY < <(compgen -f -- "$word"); return ;;
+    'convert --volume') return ;;
+    'plan --fs') mapfile -t COMPREPLY < <(compgen -W "dos prodos" -- "$word"); return ;;
+    'plan --order') mapfile -t COMPREPLY < <(compgen -W "dos prodos nibble" -- "$word"); return ;;
+    'plan --reserve') return ;;
+    'optimize --fs') mapfile -t COMPREPLY < <(compgen -W "dos prodos" -- "$word"); return ;;
+    'optimize --order') mapfile -t COMPREPLY < <(compgen -W "dos prodos nibble" -- "$word"); return ;;
+    'optimize --out') mapfile -t COMPREPLY < <(compgen -f -- "$word"); return ;;
+    'optimize --reserve') return ;;
+    'optimize --stop-after') return ;;
+    'verify --fs') mapfile -t COMPREPLY < <(compgen -W "dos prodos" -- "$word"); return ;;
+    'verify --order') mapfile -t COMPREPLY < <(compgen -W "dos prodos nibble" -- "$word"); return ;;
+    'verify --from') mapfile -t COMPREPLY < <(compgen -f -- "$word"); return ;;
+    'verify --reserve') return ;;
+  esac
+  if [[ $word != -* ]]; then
+    mapfile -t COMPREPLY < <(compgen -f -- "$word")
+    return
+  fi
+  case "${COMP_WORDS[1]}" in
+    catalog) mapfile -t COMPREPLY < <(compgen -W "--fs --order --data-disk --help" -- "$word") ;;
+    check) mapfile -t COMPREPLY < <(compgen -W "--fs --order --data-disk --reserve --help" -- "$word") ;;
+    read) mapfile -t COMPREPLY < <(compgen -W "--fs --order --whole --data-disk --help" -- "$word") ;;
+    convert) mapfile -t COMPREPLY < <(compgen -W "--order --to --out --volume --data-disk --help" -- "$word") ;;
+    plan) mapfile -t COMPREPLY < <(compgen -W "--fs --order --data-disk --reserve --reclaim --help" -- "$word") ;;
+    optimize) mapfile -t COMPREPLY < <(compgen -W "--fs --order --out --data-disk --reserve --reclaim --stop-after --help" -- "$word") ;;
+    verify) mapfile -t COMPREPLY < <(compgen -W "--fs --order --from --data-disk --reserve --reclaim --help" -- "$word") ;;
+    identify) mapfile -t COMPREPLY < <(compgen -W " --help" -- "$word") ;;
+  esac
+}
+complete -o filenames -F _a2shop a2shop

@@ -1,0 +1,202 @@
+#!/usr/bin/env python3
+"""Makes the manual page and the completions of the shells from what the program itself tells of its commands.
+
+tools/manual.py PROGRAM          writes man/a2shop.1 and completions/ anew
+tools/manual.py PROGRAM --check  writes nothing, and fails where one of them is not what the program tells
+"""
+
+import pathlib
+import re
+import subprocess
+import sys
+
+TOP = pathlib.Path(__file__).resolve().parent.parent
+
+DESCRIPTION = """\
+.B a2shop
+lists, checks, reads, converts and optimizes volumes of 5.25-inch Apple II disks, DOS 3.3 and ProDOS, in images of DOS order, of
+ProDOS order and of disk bytes. It writes to standard output and to the file of
+.BR \\-\\-out ,
+and to no other file.
+.PP
+Without words it lists the DOS 3.3 volume of the image in DOS order on standard input."""
+
+STATUSES = [
+    ("0", "It is done."),
+    ("1", "Something is wrong with the volume or the certificate, and the text says what."),
+    ("2", "The words make no sense, and the text says which; or help was asked for."),
+    ("3", "The job is refused; one line says why."),
+    ("4", "A file, the image or memory failed."),
+]
+
+NOTES = [
+    "Sectors 0 and 15 of a track are the same in DOS order and in ProDOS order, so a volume may seem sound in the wrong order."
+    " Where the listing lacks files, or places are lost without a reason, try the other order before anything is written.",
+    "Lost places are marked used and belong to no file.  They come of a save that was stopped, but also of an image that is read in"
+    " the wrong order, or of a disk whose first tracks hold what is no file.  \\fB\\-\\-reclaim\\fR gives them to files.",
+    "\\fB\\-\\-data\\-disk\\fR says that tracks 1 and 2 hold files.  Together with \\fB\\-\\-reclaim\\fR on a disk that starts a machine it"
+    " gives the tracks of the system to files.",
+    "What \\fB\\-\\-out\\fR names is at every moment what stood there before or the whole new image.",
+    "A captured track may hold one sector twice.  The first field that counts is read and written, and the other stays as it was;"
+    " \\fBa2shop convert \\-\\-order nibble \\-\\-to nibble\\fR makes every track anew.",
+]
+
+EXAMPLES = [
+    ("List a disk", "a2shop catalog disk.dsk --fs dos --order dos"),
+    ("Check it", "a2shop check disk.dsk --fs dos --order dos"),
+    ("Put its files in order, in a file of its own", "a2shop optimize disk.dsk --fs dos --order dos --out ordered.dsk"),
+    ("Make disk bytes of it", "a2shop convert disk.dsk --order dos --to nibble --out disk.nib"),
+]
+
+
+class Command:
+    """A command: its name, one line of what it does, its usage, and its arguments and options with their texts."""
+
+    def __init__(self, program, name, text):
+        self.name, self.text = name, text
+        told = help_of(program, name)
+        self.usage = re.search(r"^Usage: (.*)$", told, re.M)[1]
+        self.arguments = rows_of(told, "Arguments")
+        self.options = [row for row in rows_of(told, "Options") if row[0] != "-h, --help"]
+
+
+def help_of(program, *words):
+    return subprocess.run([program, *words, "--help"], capture_output=True, text=True, check=False).stdout
+
+
+def rows_of(told, section):
+    """The rows of a section: the words and what they mean."""
+    found = re.search(rf"^{section}:\n((?:  .*\n?)+)", told, re.M)
+    return re.findall(r"^ +(\S.*?)  +(\S.*)$", found[1], re.M) if found else []
+
+
+def commands_of(program):
+    return [Command(program, name, text) for name, text in rows_of(help_of(program), "Commands") if name != "help"]
+
+
+def choices_of(text):
+    """The words that an option takes, where its text ends with them."""
+    found = re.search(r": ((?:\w+, )*\w+ or \w+)$", text)
+    return re.split(r", | or ", found[1]) if found else []
+
+
+def takes_file(text):
+    return text.startswith(("File of", "File that"))
+
+
+def troff(text):
+    return text.replace("\\", "\\e").replace("-", "\\-")
+
+
+def manual(commands):
+    lines = ['.TH A2SHOP 1 "" "a2shop" "User Commands"', ".SH NAME", "a2shop \\- work on images of Apple II disks", ".SH SYNOPSIS"]
+    for command in commands:
+        lines += [f".B {troff(command.usage.replace(' [OPTIONS]', ''))}", ".RI [ options ]", ".br"]
+    lines += [".SH DESCRIPTION", DESCRIPTION, ".SH COMMANDS"]
+    for command in commands:
+        lines += [f".SS {troff(command.name)}", troff(command.text) + "."]
+        for words, text in command.arguments + command.options:
+            lines += [".TP", f".B {troff(words)}", troff(text) + "."]
+    lines += [".SH EXIT STATUS"]
+    for status, text in STATUSES:
+        lines += [".TP", f".B {status}", troff(text)]
+    lines += [".SH NOTES"]
+    for text in NOTES:
+        lines += [".PP", text]
+    lines += [".SH EXAMPLES"]
+    for text, line in EXAMPLES:
+        lines += [".TP", troff(text), f".B {troff(line)}"]
+    return "\n".join(lines) + "\n"
+
+
+def flag_of(words):
+    return words.split()[0]
+
+
+def bash(commands):
+    names = " ".join(command.name for command in commands)
+    lines = [
+        "# The completion of a2shop for bash.",
+        "_a2shop() {",
+        "  local word=${COMP_WORDS[COMP_CWORD]} before=${COMP_WORDS[COMP_CWORD-1]}",
+        "  COMPREPLY=()",
+        '  if [ "$COMP_CWORD" -eq 1 ]; then',
+        f'    mapfile -t COMPREPLY < <(compgen -W "{names} help" -- "$word")',
+        "    return",
+        "  fi",
+        '  case "${COMP_WORDS[1]} $before" in',
+    ]
+    for command in commands:
+        for words, text in command.options:
+            flag, choices = flag_of(words), choices_of(text)
+            if choices:
+                lines.append(f"""    '{command.name} {flag}') mapfile -t COMPREPLY < <(compgen -W "{' '.join(choices)}" -- "$word"); return ;;""")
+            elif takes_file(text):
+                lines.append(f"""    '{command.name} {flag}') mapfile -t COMPREPLY < <(compgen -f -- "$word"); return ;;""")
+            elif "<" in words:
+                lines.append(f"    '{command.name} {flag}') return ;;")
+    lines += ["  esac", '  if [[ $word != -* ]]; then', '    mapfile -t COMPREPLY < <(compgen -f -- "$word")', "    return", "  fi", '  case "${COMP_WORDS[1]}" in']
+    for command in commands:
+        flags = " ".join(flag_of(words) for words, _ in command.options)
+        lines.append(f"""    {command.name}) mapfile -t COMPREPLY < <(compgen -W "{flags} --help" -- "$word") ;;""")
+    lines += ["  esac", "}", "complete -o filenames -F _a2shop a2shop"]
+    return "\n".join(lines) + "\n"
+
+
+def quoted(text):
+    return text.replace("'", "'\\''").replace("[", "(").replace("]", ")").replace(":", "\\:")
+
+
+def zsh(commands):
+    lines = ["#compdef a2shop", "# The completion of a2shop for zsh.", "_a2shop() {", "  local -a commands", "  commands=("]
+    lines += [f"    '{command.name}:{quoted(command.text)}'" for command in commands]
+    lines += ["  )", "  if (( CURRENT == 2 )); then", "    _describe command commands", "    return", "  fi", "  local command=$words[2]", "  shift words", "  (( CURRENT -= 1 ))", "  case $command in"]
+    for command in commands:
+        lines.append(f"    {command.name}) _arguments \\")
+        for words, text in command.options:
+            flag, choices = flag_of(words), choices_of(text)
+            value = f":value:({' '.join(choices)})" if choices else ":file:_files" if takes_file(text) else ":value: " if "<" in words else ""
+            lines.append(f"      '{flag}[{quoted(text)}]{value}' \\")
+        lines.append("      '*:file:_files' ;;")
+    lines += ["  esac", "}", '_a2shop "$@"']
+    return "\n".join(lines) + "\n"
+
+
+def fish(commands):
+    lines = ["# The completion of a2shop for fish."]
+    for command in commands:
+        text = command.text.replace("'", "\\'")
+        lines.append(f"complete -c a2shop -n __fish_use_subcommand -f -a {command.name} -d '{text}'")
+        for words, text in command.options:
+            flag, choices = flag_of(words)[2:], choices_of(text)
+            value = f" -x -a '{' '.join(choices)}'" if choices else " -r" if takes_file(text) else " -x" if "<" in words else ""
+            text = text.replace("'", "\\'")
+            lines.append(f"complete -c a2shop -n '__fish_seen_subcommand_from {command.name}' -l {flag}{value} -d '{text}'")
+    return "\n".join(lines) + "\n"
+
+
+def main():
+    words = sys.argv[1:]
+    if len(words) not in (1, 2) or words[1:] not in ([], ["--check"]):
+        sys.exit(__doc__)
+    commands = commands_of(words[0])
+    made = {
+        "man/a2shop.1": manual(commands),
+        "completions/a2shop.bash": bash(commands),
+        "completions/_a2shop": zsh(commands),
+        "completions/a2shop.fish": fish(commands),
+    }
+    old = []
+    for name, text in made.items():
+        path = TOP / name
+        if words[1:] != ["--check"]:
+            path.parent.mkdir(exist_ok=True)
+            path.write_text(text, encoding="utf-8")
+        elif not path.is_file() or path.read_text(encoding="utf-8") != text:
+            old.append(name)
+    if old:
+        sys.exit(f"not what the program tells: {', '.join(old)}; make them anew by tools/manual.py PROGRAM")
+
+
+if __name__ == "__main__":
+    main()
