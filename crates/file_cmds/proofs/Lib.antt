@@ -10,3 +10,4 @@ pub mod Texts
 pub mod OwnParts
 pub mod Whole
 pub mod Outcomes
+pub mod ByList

@@ -16,7 +16,8 @@ use Rattle.vol_format.specs.Reach.{Reach, at_root, at_child, Before, IsPartsOf}
 use Rattle.vol_format.specs.Accepted.{IsAccepted, PartFaultAt, FaultAt}
 use Rattle.vol_format.specs.Laws.{IsReadable, IsDirectory}
 use Rattle.vol_check.specs.Answer.{AreFaults}
-use Rattle.file_cmds.specs.Text.{OwnFault, other_type, wild_root, wild_pointer, shared, Stored, IsStored, AreUnitsOf}
+use Rattle.file_cmds.specs.Text.{OwnFault, other_type, wild_root, wild_pointer, shared, AreUnitsOf}
+use Rattle.vol_files.specs.Files.{Stored, IsStored}
 use Rattle.file_cmds.specs.Walked.{is_body, stored_at, stored_of}
 use Rattle.file_cmds.specs.OneFile.{file_alone, of_one_file}
 use Rattle.file_cmds.specs.lemmas.FileAlone.{entries-alone, root-alone, root_of-same, root_of-link, outside_system}

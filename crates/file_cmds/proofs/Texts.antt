@@ -5,7 +5,8 @@ use Rattle.std.proofs.lemmas.List.{append_assoc, append-nil, map-append, replica
 use Rattle.std.proofs.lemmas.List.Elements.{filter_more}
 use Rattle.a2_device.specs.Device.{DeviceState, unit_at}
 use Rattle.vol_parts.specs.declared.part.Part.{Part}
-use Rattle.file_cmds.specs.Text.{Stored, text_from, whole_text}
+use Rattle.vol_files.specs.Files.{Stored}
+use Rattle.file_cmds.specs.Text.{text_from, whole_text}
 use Rattle.file_cmds.specs.Walked.{is_body, stored_at, stored_of, number_behind, number_after, text_with}
 
 abbrev pub zeros : ℕ → List ℕ

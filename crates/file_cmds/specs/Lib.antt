@@ -3,6 +3,7 @@ pub mod Files
 pub mod Listing
 pub mod Text
 pub mod Read
+pub mod FileList
 pub mod Walked
 pub mod OneFile
 pub mod DosFiles

@@ -4,7 +4,8 @@ use Rattle.vol_format.specs.Directory.{Directory, entry_of}
 use Rattle.vol_format.specs.Meaning.{Meaning}
 use Rattle.file_cmds.specs.Files.{FileMeaning, IsFirstNamed, NamesNone}
 use Rattle.file_cmds.specs.Listing.{HasHeaderFault}
-use Rattle.file_cmds.specs.Text.{OwnFault, Stored, AreUnitsOf, text_of}
+use Rattle.vol_files.specs.Files.{Stored}
+use Rattle.file_cmds.specs.Text.{OwnFault, AreUnitsOf, text_of}
 
 -- the first file that a path names has no fault of its own, and this is its text
 pub record IsTextAt (format : Meaning) (files : FileMeaning) (store : List (List ℕ)) (path : List ℕ) (whole : Bool) (text : List ℕ) : Type 0 where

@@ -1,12 +1,11 @@
 -- The text of a file.
 use Rattle.std.specs.Prelude.{◌≡◌, ◌≢◌, ◌↔◌, ◌<◌, ◌+◌, ◌-◌, ◌*◌, ℕ, Bool, true, false, List, [], ◌∷◌, ◌++◌, replicate, AllPairs, Contains}
-use Rattle.a2_device.specs.Device.{unit_at}
 use Rattle.vol_parts.specs.declared.part.Part.{Part}
-use Rattle.vol_parts.specs.declared.part.PartKind.TheVariants.{Body}
 use Rattle.vol_format.specs.declared.link.Link.TheVariants.{Wild, OtherType}
 use Rattle.vol_format.specs.Directory.{Directory, root_of}
 use Rattle.vol_format.specs.Meaning.{Meaning, link_from}
 use Rattle.vol_format.specs.Reach.{Reach}
+use Rattle.vol_files.specs.Files.{Stored, IsStored}
 use Rattle.file_cmds.specs.Files.{FileMeaning}
 
 -- What is wrong with a file by itself: it is of a kind that is not read, one of its pointers is wild, or two of its parts stand at one place.
@@ -17,20 +16,6 @@ pub data OwnFault (format : Meaning) (directory : Directory) (store : List (List
       → link_from format store part pointer ≡ Wild → OwnFault format directory store file
   shared : (part other : Part) → Reach format directory store part → Reach format directory store other → part.file ≡ file → other.file ≡ file
       → part.place ≡ other.place → part ≢ other → OwnFault format directory store file
-
--- a unit of a file's body, and its number
-pub record Stored : Type 0 where
-  pub number : ℕ
-  pub unit : List ℕ
-
--- the file has a part of its body of this number, and this unit stands there
-pub record IsStored (format : Meaning) (directory : Directory) (store : List (List ℕ)) (file : ℕ) (stored : Stored) : Type 0 where
-  pub part : Part
-  pub reached : Reach format directory store part
-  pub in_file : part.file ≡ file
-  pub of_body : part.kind ≡ Body
-  pub numbered : part.number ≡ stored.number
-  pub stands : unit_at store part.place ≡ stored.unit
 
 -- the units of a file's body, in rising order of their numbers
 pub record AreUnitsOf (format : Meaning) (directory : Directory) (store : List (List ℕ)) (file : ℕ) (units : List Stored) : Type 0 where

@@ -4,7 +4,7 @@ use Rattle.a2_device.specs.Device.{unit_at}
 use Rattle.vol_parts.specs.declared.part.Part.{Part}
 use Rattle.vol_parts.specs.declared.part.PartKind.{PartKind}
 use Rattle.vol_parts.specs.declared.part.PartKind.TheVariants.{Body}
-use Rattle.file_cmds.specs.Text.{Stored}
+use Rattle.vol_files.specs.Files.{Stored}
 
 abbrev pub is_body : PartKind → Bool
 is_body Body = true

@@ -27,7 +27,7 @@ pub use command::catalog;
 pub use dos_text::dos_listing_text;
 pub use error::CmdError;
 pub use format::FileFormat;
-pub use law::answers_exclude_one_another;
+pub use law::{a_read_answers_by_the_list_of_files, answers_exclude_one_another};
 pub use listing::{ListEntry, Listing};
 pub use name::StoredName;
 pub use pro_text::pro_listing_text;

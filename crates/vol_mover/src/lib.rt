@@ -10,9 +10,11 @@
 //! (`IsOpen`, `specs/Open.antt`). No struct holds the course: each clause is for every course of which the session is one.
 //!
 //! `specs/Steps.antt` says what a step does, `specs/Resuming.antt` on which devices a session that was paused can go on, `specs/Begun.antt` what an opened session is and how many writes it takes,
-//! and `specs/Report.antt` what an optimizer has done at every limit and after every failure. That two stores hold the same volume is `SameVolume` of `specs/Volume.antt`.
+//! and `specs/Report.antt` what an optimizer has done at every limit and after every failure. That two stores hold the same volume is `SameVolume` of `specs/Volume.antt`;
+//! such stores have the same list of files (`the_same_volume_has_the_same_files`).
 #![tactic(auto)]
 
+mod laws;
 mod open;
 mod optimizer;
 mod paused;
@@ -23,6 +25,7 @@ mod run;
 mod session;
 mod units;
 
+pub use laws::the_same_volume_has_the_same_files;
 pub use optimizer::optimize;
 pub use paused::Paused;
 pub use progress::{Progress, StepError, Wrote};

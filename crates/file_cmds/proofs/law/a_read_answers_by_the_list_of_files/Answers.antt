@@ -1,0 +1,14 @@
+use Rattle.file_cmds.proofs.ByList.{text_by_list, none_by_list, readable}
+use Rattle.file_cmds.proofs.law.a_read_answers_by_the_list_of_files.Goals as goal
+
+pub returns-clause-text : goal.returns-clause-text
+returns-clause-text g c = λ store files path whole text has.
+    text_by_list (g.F.Format.meaning c.args.format.now) (g.met.F.Format.readable c.args.format.now) (g.F.FileFormat.files c.args.format.now) store files has path whole text
+
+pub returns-clause-none : goal.returns-clause-none
+returns-clause-none g c = λ store files path has.
+    none_by_list (g.F.Format.meaning c.args.format.now) (g.met.F.Format.readable c.args.format.now) (g.F.FileFormat.files c.args.format.now) store files has path
+
+pub returns-clause-readable : goal.returns-clause-readable
+returns-clause-readable g c = λ store files path has.
+    readable (g.F.Format.meaning c.args.format.now) (g.met.F.Format.readable c.args.format.now) (g.F.FileFormat.files c.args.format.now) store files has path
