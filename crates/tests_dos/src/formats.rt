@@ -1,9 +1,11 @@
+//! DOS 3.3 as a format: where pointers stand, and what is written.
 ghost use Rattle.std.specs.Prelude.{◌≡◌, ◌<◌, ◌≤◌};
 ghost use Rattle.dos_format.specs.Dos.{HasDosSlot};
 
 use crate::gaps::gaps;
 use dos_format::Dos33;
 use reserved_places::Reserved;
+use std::alloc::{AllocError, Global};
 use std::test::Fail;
 use test_volumes::{dos_device, hello};
 use vol_format::{Format, Holder, WritableFormat};
@@ -22,11 +24,15 @@ fn part(kind: PartKind, number: u32) -> Part
     }
 }
 
+fn holder(entry: bool, place: u32, slot: u32) -> Holder {
+    Holder { entry, place, slot }
+}
+
 #[test]
 fn where_pointers_stand(rt: HostRuntime) -> Result<(), Fail> {
     let format = Dos33::new(rt.alloc(), false, Reserved::none(rt.alloc()))?;
     let volume = format.volume(&mut dos_device(gaps(rt.alloc())?))?;
-    assert_eq!(rt; format.entries(&volume), 1);
+    assert!(rt; format.entries(&volume) == 1);
     let layout = Layout::new(rt.alloc(), vec![in rt.alloc(); 3, 2, 1, 0]?, 496)?;
     let parts = [
         part(PartKind::List, 0),
@@ -34,24 +40,24 @@ fn where_pointers_stand(rt: HostRuntime) -> Result<(), Fail> {
         part(PartKind::List, 1),
         part(PartKind::Body, 122),
     ];
-    let mut text = String::new(rt.alloc());
-    for k in 0..4 {
-        let holder = format.holder(&volume, &parts, &layout, k);
-        let (entry, place, slot) = (holder.entry, holder.place, holder.slot);
-        write!(text, " {entry} {place} {slot}")?;
+    let stated = [
+        holder(true, 287, 0),
+        holder(false, 60, 0),
+        holder(false, 60, 122),
+        holder(false, 62, 0),
+    ];
+    for k in 0..4u32 {
+        assert!(rt; format.holder(&volume, &parts, &layout, k) == stated[k as usize]);
     }
-    assert_eq!(rt;
-        text.as_str(),
-        " true 287 0 false 60 0 false 60 122 false 62 0"
-    );
     Ok(())
 }
 
-// A unit of zeros with one pointer, to track 3 sector 13, from an offset on.
-fn pointed(format: &Dos33, entry: bool, slot: u32, at: usize) -> [u8; 4]
+// A unit of zeros with one pointer, to track 3 sector 13, from an offset on, with the bytes around it.
+fn pointed(alloc: Global, entry: bool, slot: u32, at: usize) -> Result<[u8; 4], AllocError>
     requires slot { HasDosSlot entry slot }
     requires inside { (1 ≤ at) × (at < 254) }
 {
+    let format = Dos33::new(alloc, false, Reserved::none(alloc))?;
     let mut unit = [0; 256];
     format.put_pointer(
         &mut unit,
@@ -62,28 +68,41 @@ fn pointed(format: &Dos33, entry: bool, slot: u32, at: usize) -> [u8; 4]
         },
         61,
     );
-    [unit[at - 1], unit[at], unit[at + 1], unit[at + 2]]
+    Ok([unit[at - 1], unit[at], unit[at + 1], unit[at + 2]])
 }
 
 #[test]
 fn writes_pointers(rt: HostRuntime) -> Result<(), Fail> {
-    let format = Dos33::new(rt.alloc(), false, Reserved::none(rt.alloc()))?;
-    assert_eq!(rt; pointed(&format, true, 0, 0x0b), [0, 3, 13, 0]);
-    assert_eq!(rt; pointed(&format, true, 6, 0xdd), [0, 3, 13, 0]);
-    assert_eq!(rt; pointed(&format, false, 0, 0x0c), [0, 3, 13, 0]);
-    assert_eq!(rt; pointed(&format, false, 122, 0x01), [0, 3, 13, 0]);
+    let pointer = [0, 3, 13, 0];
+    assert!(rt; pointed(rt.alloc(), true, 0, 0x0b)? == pointer);
+    assert!(rt; pointed(rt.alloc(), true, 6, 0xdd)? == pointer);
+    assert!(rt; pointed(rt.alloc(), false, 0, 0x0c)? == pointer);
+    assert!(rt; pointed(rt.alloc(), false, 122, 0x01)? == pointer);
     Ok(())
+}
+
+// The place of the map's unit with the mark of place 61.
+fn map_unit(alloc: Global) -> Result<u32, Fail> {
+    let format = Dos33::new(alloc, false, Reserved::none(alloc))?;
+    let volume = format.volume(&mut dos_device(hello(alloc)?))?;
+    Ok(format.map_unit(&volume, 61))
+}
+
+// Bytes 43 to 45 of a unit after place 61 is marked used in it, and after it is free again.
+fn marked(alloc: Global) -> Result<([u8; 3], [u8; 3]), AllocError> {
+    let format = Dos33::new(alloc, false, Reserved::none(alloc))?;
+    let mut unit = [0xff; 256];
+    format.mark(&mut unit, 61);
+    let marked = [unit[0x43], unit[0x44], unit[0x45]];
+    format.release(&mut unit, 61);
+    Ok((marked, [unit[0x43], unit[0x44], unit[0x45]]))
 }
 
 #[test]
 fn writes_marks(rt: HostRuntime) -> Result<(), Fail> {
-    let format = Dos33::new(rt.alloc(), false, Reserved::none(rt.alloc()))?;
-    let volume = format.volume(&mut dos_device(hello(rt.alloc())?))?;
-    assert_eq!(rt; format.map_unit(&volume, 61), 272);
-    let mut unit = [0xff; 256];
-    format.mark(&mut unit, 61);
-    assert_eq!(rt; [unit[0x43], unit[0x44], unit[0x45]], [0xff, 0xdf, 0xff]);
-    format.release(&mut unit, 61);
-    assert_eq!(rt; [unit[0x43], unit[0x44], unit[0x45]], [0xff, 0xff, 0xff]);
+    assert!(rt; map_unit(rt.alloc())? == 272);
+    let (marked, released) = marked(rt.alloc())?;
+    assert!(rt; marked == [0xff, 0xdf, 0xff]);
+    assert!(rt; released == [0xff, 0xff, 0xff]);
     Ok(())
 }

@@ -13,4 +13,6 @@ mod lists;
 #[cfg(test)]
 mod maps;
 #[cfg(test)]
+mod memory;
+#[cfg(test)]
 mod reserved;

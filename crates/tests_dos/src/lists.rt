@@ -1,11 +1,11 @@
-ghost use Rattle.std.specs.Prelude.{◌≡◌, ◌≤◌, ◌+◌, IfOk};
+//! Track/sector lists: the walk over those of one file, and their pointers.
+ghost use Rattle.std.specs.Prelude.{◌≡◌, ◌<◌, ◌≤◌, ◌+◌, vec_len};
 
 use crate::gaps::gaps;
-use a2_device::{Device, FaultDevice, ImageDevice};
+use a2_device::{Device, FaultDevice};
 use dos_catalog::Entry;
 use dos_tslist::{next, pair, set_next, set_pair, walk};
-use refusing::Refusing;
-use std::alloc::{AllocError, Global};
+use std::alloc::{AllocError, Allocator, Global};
 use std::test::Fail;
 use test_volumes::{dos_device, put};
 use vol_parts::{Fault, Part, PartKind, WalkError};
@@ -22,14 +22,16 @@ fn entry(track: u8, sector: u8) -> Entry {
     }
 }
 
-// The device over the volume of a file in two lists, the first of which gets the pointer given too.
-fn lists(alloc: Global, at: usize, pointer: [u8; 2]) -> Result<ImageDevice, AllocError>
-    requires { at + 2 ≤ 256 }
-    ensures { IfOk result (λ device. ((⟦<ImageDevice<Global> as Device>⟧.state device).unit_size ≡ 256) × ((⟦<ImageDevice<Global> as Device>⟧.state device).places ≡ 560)) }
+// The parts of a file of a volume, number 7, whose list is at a track and a sector, with memory of their own.
+pub fn parts_of<A: Allocator + Copy>(
+    alloc: A,
+    image: Vec<u8>,
+    track: u8,
+    sector: u8,
+) -> Result<Vec<Part, A>, WalkError>
+    requires { vec_len image ≡ 143360 }
 {
-    let mut image = gaps(alloc)?;
-    put(&mut image, 60, at, &pointer);
-    Ok(dos_device(image))
+    walk(alloc, &mut dos_device(image), 7, &entry(track, sector))
 }
 
 fn part(kind: PartKind, number: u32, place: u32) -> Part {
@@ -43,70 +45,79 @@ fn part(kind: PartKind, number: u32, place: u32) -> Part {
 
 #[test]
 fn walks_over_two_lists(rt: HostRuntime) -> Result<(), Fail> {
-    let mut device = lists(rt.alloc(), 0x10, [0, 0])?;
-    let parts = walk(rt.alloc(), &mut device, 7, &entry(3, 12))?;
+    let parts = parts_of(rt.alloc(), gaps(rt.alloc())?, 3, 12)?;
     let want = [
         part(PartKind::List, 0, 60),
         part(PartKind::Body, 0, 61),
         part(PartKind::List, 1, 62),
         part(PartKind::Body, 122, 63),
     ];
-    assert_eq!(rt; parts.as_slice(), want.as_slice());
+    assert!(rt; parts.as_slice() == want.as_slice());
     Ok(())
 }
 
 #[test]
 fn file_without_a_list(rt: HostRuntime) -> Result<(), Fail> {
-    let mut device = lists(rt.alloc(), 0x10, [0, 0])?;
-    assert_eq!(rt; walk(rt.alloc(), &mut device, 7, &entry(0, 12))?.len(), 0);
+    assert!(rt; parts_of(rt.alloc(), gaps(rt.alloc())?, 0, 12)?.is_empty());
     Ok(())
 }
+
+// Why a walk ends over a file in two lists, where a pointer of the first of them is another.
+fn error_of(
+    alloc: Global,
+    at: usize,
+    pointer: [u8; 2],
+    track: u8,
+    sector: u8,
+) -> Result<Option<WalkError>, AllocError>
+    requires { at + 2 ≤ 256 }
+{
+    let mut image = gaps(alloc)?;
+    put(&mut image, 60, at, &pointer);
+    Ok(parts_of(alloc, image, track, sector).err())
+}
+
+/// Pointers of the first list, and the faults that they are.
+static FAULTS: [(u8, [u8; 2], Fault); 5] = [
+    (0x01, [0x03, 0x0c], Fault::Shared(60)),
+    (0x0e, [0x03, 0x0d], Fault::Shared(61)),
+    (0x0e, [0x23, 0x00], Fault::OutOfRange(60)),
+    (0x0e, [0x03, 0x10], Fault::OutOfRange(60)),
+    (0x01, [0xff, 0x00], Fault::OutOfRange(60)),
+];
 
 #[test]
 fn names_the_fault(rt: HostRuntime) -> Result<(), Fail> {
-    for (at, pointer, fault) in [
-        (0x01, [0x03, 0x0c], Fault::Shared(60)),
-        (0x0e, [0x03, 0x0d], Fault::Shared(61)),
-        (0x0e, [0x23, 0x00], Fault::OutOfRange(60)),
-        (0x0e, [0x03, 0x10], Fault::OutOfRange(60)),
-        (0x01, [0xff, 0x00], Fault::OutOfRange(60)),
-    ] {
-        let mut device = lists(rt.alloc(), at, pointer)?;
-        let result = walk(rt.alloc(), &mut device, 7, &entry(3, 12));
-        assert_eq!(rt; result.err(), Some(WalkError::Fault(fault)));
+    for (at, pointer, fault) in &FAULTS {
+        if *at < 0xff {
+            let error = error_of(rt.alloc(), usize::from(*at), *pointer, 3, 12)?;
+            assert!(rt; error == Some(WalkError::Fault(*fault)), "{fault:?}");
+        }
     }
-    let mut device = lists(rt.alloc(), 0x10, [0, 0])?;
-    let result = walk(rt.alloc(), &mut device, 7, &entry(35, 0));
-    assert_eq!(rt;
-        result.err(),
-        Some(WalkError::Fault(Fault::OutOfRange(287)))
-    );
     Ok(())
 }
 
 #[test]
-fn each_refused_block_is_told(rt: HostRuntime) -> Result<(), Fail> {
-    let whole = Refusing::none(rt.alloc());
-    let mut device = lists(rt.alloc(), 0x10, [0, 0])?;
-    assert!(rt; walk(&whole, &mut device, 7, &entry(3, 12)).is_ok());
-    assert!(rt; whole.asked() > 0);
-    for before in 0..whole.asked() {
-        let heap = Refusing::one(rt.alloc(), before);
-        let mut device = lists(rt.alloc(), 0x10, [0, 0])?;
-        let result = walk(&heap, &mut device, 7, &entry(3, 12));
-        assert!(rt; matches!(&result, Err(WalkError::Memory)));
-    }
+fn names_the_entry_of_a_wild_list(rt: HostRuntime) -> Result<(), Fail> {
+    let error = error_of(rt.alloc(), 0x10, [0, 0], 35, 0)?;
+    assert!(rt; error == Some(WalkError::Fault(Fault::OutOfRange(287))));
     Ok(())
+}
+
+// Why two walks end over a device whose next read fails, and how many calls the device refused in the first.
+fn failed(alloc: Global) -> Result<([Option<WalkError>; 2], u64), AllocError> {
+    let mut device = FaultDevice::new(dos_device(gaps(alloc)?));
+    device.fail_read();
+    let first = walk(alloc, &mut device, 7, &entry(3, 12)).err();
+    let faults = device.faults();
+    let then = walk(alloc, &mut device, 7, &entry(3, 12)).err();
+    Ok(([first, then], faults))
 }
 
 #[test]
 fn failed_read_is_told(rt: HostRuntime) -> Result<(), Fail> {
-    let mut device = FaultDevice::new(lists(rt.alloc(), 0x10, [0, 0])?);
-    device.fail_read();
-    let result = walk(rt.alloc(), &mut device, 7, &entry(3, 12));
-    assert!(rt; matches!(&result, Err(WalkError::Device)));
-    assert_eq!(rt; device.faults(), 1);
-    assert!(rt; walk(rt.alloc(), &mut device, 7, &entry(3, 12)).is_ok());
+    let (errors, faults) = failed(rt.alloc())?;
+    assert!(rt; errors == [Some(WalkError::Device), None] && faults == 1);
     Ok(())
 }
 
@@ -120,32 +131,61 @@ fn list() -> [u8; 256] {
     unit
 }
 
+// Such a list where a byte is another.
+fn list_with(at: usize, byte: u8) -> [u8; 256]
+    requires { at < 256 }
+{
+    let mut unit = list();
+    unit[at] = byte;
+    unit
+}
+
 #[test]
 fn reads_pointers(rt: HostRuntime) {
+    assert!(rt; next(&list()) == Some((3, 14)));
+    assert!(rt; pair(&list(), 0) == Some((3, 13)));
+    assert!(rt; pair(&list(), 1).is_none());
+    // A track of 0 is no pointer, whatever the sector is.
+    assert!(rt; pair(&list_with(0x0f, 0x07), 1).is_none());
+    assert!(rt; next(&list_with(0x01, 0x00)).is_none());
+}
+
+#[test]
+fn reads_the_last_pointer(rt: HostRuntime) {
     let mut unit = list();
-    assert_eq!(rt; next(&unit), Some((3, 14)));
-    assert_eq!(rt; pair(&unit, 0), Some((3, 13)));
-    assert_eq!(rt; pair(&unit, 1), None);
-    unit[0x0f] = 0x07;
-    assert_eq!(rt; pair(&unit, 1), None);
     unit[0xfe] = 0x22;
     unit[0xff] = 0x0f;
-    assert_eq!(rt; pair(&unit, 121), Some((34, 15)));
-    unit[0x01] = 0x00;
-    assert_eq!(rt; next(&unit), None);
+    assert!(rt; pair(&unit, 121) == Some((34, 15)));
+}
+
+// A list in which the next list, the first pair and the last pair are written.
+fn written() -> [u8; 256] {
+    let mut unit = list();
+    set_pair(&mut unit, 0, Some(62));
+    set_pair(&mut unit, 121, Some(559));
+    set_next(&mut unit, Some(61));
+    unit
 }
 
 #[test]
 fn writes_pointers(rt: HostRuntime) {
     let mut unit = list();
-    set_pair(&mut unit, 0, Some(62));
-    set_pair(&mut unit, 121, Some(559));
-    set_next(&mut unit, Some(61));
-    assert_eq!(rt; &unit[0x00..0x04], [0x00, 0x03, 0x0d, 0x00].as_slice());
-    assert_eq!(rt; &unit[0x0b..0x0f], [0x00, 0x03, 0x0e, 0x00].as_slice());
-    assert_eq!(rt; &unit[0xfd..], [0x00, 0x22, 0x0f].as_slice());
+    unit[0x02] = 0x0d;
+    unit[0x0d] = 0x0e;
+    unit[0xfe] = 0x22;
+    unit[0xff] = 0x0f;
+    assert!(rt; written() == unit);
+}
+
+// A list whose pointers are taken back.
+fn cleared() -> [u8; 256] {
+    let mut unit = list();
     set_pair(&mut unit, 0, None);
     set_next(&mut unit, None);
-    assert_eq!(rt; &unit[0x00..0x04], [0x00, 0x00, 0x00, 0x00].as_slice());
-    assert_eq!(rt; &unit[0x0b..0x0f], [0x00, 0x00, 0x00, 0x00].as_slice());
+    unit
+}
+
+#[test]
+fn writes_no_pointers(rt: HostRuntime) {
+    assert!(rt; cleared() == [0; 256]);
 }

@@ -1,4 +1,4 @@
-// Listings of DOS 3.3 volumes: `catalog`, `dos_listing_text`.
+//! Listings of DOS 3.3 volumes: `catalog`, `dos_listing_text`.
 ghost use Rattle.std.specs.Prelude.{◌≡◌, length, vec_len};
 ghost use Rattle.a2_device.specs.Device.{DeviceState};
 
@@ -8,7 +8,6 @@ use file_cmds::{CmdError, catalog, dos_listing_text};
 use refusing::Refusing;
 use reserved_places::Reserved;
 use std::alloc::{AllocError, Allocator, Global};
-use std::process::Abort;
 use std::test::Fail;
 use test_volumes::{FIRST_CATALOG, dos_device, dos_volume, hello, put_entry};
 
@@ -21,18 +20,17 @@ pub fn dos_33<A: Allocator + Copy>(alloc: A) -> Result<Dos33<A>, AllocError> {
 fn listing_on<A: Allocator + Copy, D: Device>(
     alloc: A,
     device: &mut D,
-) -> Result<String<A>, CmdError>
+) -> Result<Vec<u8, A>, CmdError>
     requires unit { (D.state device.old).unit_size ≡ 256 }
     requires places { (D.state device.old).places ≡ 560 }
 {
     let format = dos_33(alloc)?;
     let listing = catalog(alloc, device, &format)?;
-    let text = dos_listing_text(alloc, &listing)?;
-    Ok(text)
+    Ok(dos_listing_text(alloc, &listing)?.into_bytes())
 }
 
 /// The text of the listing of a volume in DOS order.
-fn listing_of<A: Allocator + Copy>(alloc: A, image: Vec<u8>) -> Result<String<A>, CmdError>
+fn listing_of<A: Allocator + Copy>(alloc: A, image: Vec<u8>) -> Result<Vec<u8, A>, CmdError>
     requires { vec_len image ≡ 143360 }
 {
     listing_on(alloc, &mut dos_device(image))
@@ -41,52 +39,60 @@ fn listing_of<A: Allocator + Copy>(alloc: A, image: Vec<u8>) -> Result<String<A>
 #[test]
 fn lists_one_file(rt: HostRuntime) -> Result<(), Fail> {
     let text = listing_of(rt.alloc(), hello(rt.alloc())?)?;
-    assert_eq!(rt; text.as_str(), "DISK VOLUME 254\n*B 002 HELLO\nFREE 494\n");
+    let lines = b"DISK VOLUME 254\n*B 002 HELLO\nFREE 494\n";
+    assert!(rt; text.as_slice() == lines.as_slice());
     Ok(())
 }
 
-/// Entries in the first sector of the catalog, two of them free.
-fn fill_first_sector(image: &mut [u8])
-    requires { length image.old ≡ 143360 }
-    ensures { length image.new ≡ 143360 }
-{
-    put_entry(image, FIRST_CATALOG, 0, [3, 15], 0x00, b"TEXT", 1);
-    put_entry(image, FIRST_CATALOG, 1, [3, 15], 0x81, b"INTEGER", 2);
-    put_entry(image, FIRST_CATALOG, 2, [0xff, 15], 0x00, b"DELETED", 3);
-    put_entry(image, FIRST_CATALOG, 3, [0, 15], 0x00, b"NEVER USED", 3);
-    put_entry(image, FIRST_CATALOG, 4, [3, 15], 0x02, b"APPLESOFT", 99);
-    put_entry(image, FIRST_CATALOG, 5, [3, 15], 0x04, b"BINARY", 100);
-    put_entry(image, FIRST_CATALOG, 6, [3, 15], 0x08, b"S", 0);
-}
+/// Entries of catalog sectors: the place of the sector, the slot, the track of the list, the kind, the name, and the length in sectors.
+/// Two of the first sector are free, and one slot of the second.
+static ENTRIES: [(usize, usize, u8, u8, &str, u8); 13] = [
+    (FIRST_CATALOG, 0, 3, 0x00, "TEXT", 1),
+    (FIRST_CATALOG, 1, 3, 0x81, "INTEGER", 2),
+    (FIRST_CATALOG, 2, 0xff, 0x00, "DELETED", 3),
+    (FIRST_CATALOG, 3, 0, 0x00, "NEVER USED", 3),
+    (FIRST_CATALOG, 4, 3, 0x02, "APPLESOFT", 99),
+    (FIRST_CATALOG, 5, 3, 0x04, "BINARY", 100),
+    (FIRST_CATALOG, 6, 3, 0x08, "S", 0),
+    (286, 0, 3, 0x10, "RELOCATABLE", 7),
+    (286, 1, 3, 0x20, "SECOND A", 7),
+    (286, 2, 3, 0x40, "SECOND B", 7),
+    (286, 3, 3, 0x84, " LED BY A SPACE", 7),
+    (286, 5, 3, 0xc0, "BELL\x07 AND DELETE\x7f", 7),
+    (286, 6, 3, 0x03, "", 7),
+];
 
-/// Entries in the second sector of the catalog, one slot of it free.
-fn fill_second_sector(image: &mut [u8])
+/// Writes these entries.
+fn put_entries(image: &mut [u8])
     requires { length image.old ≡ 143360 }
     ensures { length image.new ≡ 143360 }
 {
-    put_entry(image, 286, 0, [3, 15], 0x10, b"RELOCATABLE", 7);
-    put_entry(image, 286, 1, [3, 15], 0x20, b"SECOND A", 7);
-    put_entry(image, 286, 2, [3, 15], 0x40, b"SECOND B", 7);
-    put_entry(image, 286, 3, [3, 15], 0x84, b" LED BY A SPACE", 7);
-    put_entry(image, 286, 5, [3, 15], 0xc0, b"BELL\x07 AND DELETE\x7f", 7);
-    put_entry(image, 286, 6, [3, 15], 0x03, b"", 7);
+    for (place, slot, track, kind, name, sectors) in &ENTRIES {
+        let name = name.as_bytes();
+        if *place < 560 && *slot < 7 && name.len() <= 30 {
+            put_entry(image, *place, *slot, [*track, 15], *kind, name, *sectors);
+        }
+    }
 }
 
 #[test]
 fn lists_each_kind_and_passes_over_free_entries(rt: HostRuntime) -> Result<(), Fail> {
     let mut image = dos_volume(rt.alloc(), [0xff, 0xff])?;
-    fill_first_sector(&mut image);
-    fill_second_sector(&mut image);
+    put_entries(&mut image);
     let text = listing_of(rt.alloc(), image)?;
-    let lines = "DISK VOLUME 254\n T 001 TEXT\n*I 002 INTEGER\n A 099 APPLESOFT\n B 100 BINARY\n\
-                 \u{20}S 000 S\n R 007 RELOCATABLE\n a 007 SECOND A\n b 007 SECOND B\n\
+    let lines = b"DISK VOLUME 254\n T 001 TEXT\n*I 002 INTEGER\n A 099 APPLESOFT\n B 100 BINARY\n\
+                 \x20S 000 S\n R 007 RELOCATABLE\n a 007 SECOND A\n b 007 SECOND B\n\
                  *B 007  LED BY A SPACE\n*b 007 BELL? AND DELETE?\n ? 007 \nFREE 496\n";
-    assert_eq!(rt; text.as_str(), lines);
+    assert!(rt; text.as_slice() == lines.as_slice());
     Ok(())
 }
 
-/// A listing where the read after so many others fails is a failure of the device.
-fn fails_at_read(rt: &impl Abort, alloc: Global, image: Vec<u8>, reads: u32) -> Result<(), Fail>
+/// Why a listing fails where the read after so many others does, and how many faults the device has told.
+fn failed_at_read(
+    alloc: Global,
+    image: Vec<u8>,
+    reads: u32,
+) -> Result<(Option<CmdError>, u64), Fail>
     requires { vec_len image ≡ 143360 }
 {
     let mut device = FaultDevice::new(dos_device(image));
@@ -95,33 +101,38 @@ fn fails_at_read(rt: &impl Abort, alloc: Global, image: Vec<u8>, reads: u32) -> 
         device.read(272, &mut unit)?;
     }
     device.fail_read();
-    assert_eq!(rt;
-        listing_on(alloc, &mut device).err(),
-        Some(CmdError::Device)
-    );
-    assert_eq!(rt; device.faults(), 1);
-    Ok(())
+    let error = listing_on(alloc, &mut device).err();
+    Ok((error, device.faults()))
 }
 
 #[test]
 fn a_failing_read_is_told(rt: HostRuntime) -> Result<(), Fail> {
     for reads in [0, 3] {
-        fails_at_read(&rt, rt.alloc(), hello(rt.alloc())?, reads)?;
+        let answer = failed_at_read(rt.alloc(), hello(rt.alloc())?, reads)?;
+        assert!(rt; answer == (Some(CmdError::Device), 1));
     }
     Ok(())
 }
 
+/// Why a listing over a heap fails, how long its text is, and how many blocks it asks for.
+fn listed_over(
+    alloc: Global,
+    heap: Refusing<Global>,
+) -> Result<(Option<CmdError>, usize, u64), AllocError> {
+    let (error, bytes) = match listing_of(&heap, hello(alloc)?) {
+        Ok(text) => (None, text.len()),
+        Err(error) => (Some(error), 0),
+    };
+    Ok((error, bytes, heap.asked()))
+}
+
 #[test]
 fn each_refused_block_is_memory(rt: HostRuntime) -> Result<(), Fail> {
-    let whole = Refusing::none(rt.alloc());
-    assert_eq!(rt; listing_of(&whole, hello(rt.alloc())?)?.len(), 38);
-    let blocks = whole.asked();
-    assert!(rt; blocks > 4);
-    for before in 0..blocks {
-        let heap = Refusing::one(rt.alloc(), before);
-        let refused = listing_of(&heap, hello(rt.alloc())?).err();
-        assert_eq!(rt; refused, Some(CmdError::Memory));
-        assert_eq!(rt; heap.asked(), before + 1);
+    let (error, bytes, asked) = listed_over(rt.alloc(), Refusing::none(rt.alloc()))?;
+    assert!(rt; error.is_none() && bytes == 38 && asked > 4);
+    for before in 0..asked {
+        let answer = listed_over(rt.alloc(), Refusing::one(rt.alloc(), before))?;
+        assert!(rt; answer == (Some(CmdError::Memory), 0, before + 1));
     }
     Ok(())
 }

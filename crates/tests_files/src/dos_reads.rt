@@ -1,19 +1,19 @@
-// Reads of files of DOS 3.3 volumes: `read`.
+//! Reads of files of DOS 3.3 volumes: `read`.
 ghost use Rattle.std.specs.Prelude.{◌≡◌, ◌<◌, vec_len, IfOk};
 ghost use Rattle.a2_device.specs.Device.{DeviceState};
 
 use crate::dos_listings::dos_33;
-use crate::runs::told;
+use crate::runs::are_runs;
 use a2_device::{Device, ImageDevice};
 use a2_image::{Image, Order};
 use file_cmds::{CmdError, read};
 use refusing::Refusing;
 use std::alloc::{AllocError, Allocator, Global};
-use std::process::Abort;
 use std::test::Fail;
 use test_volumes::{FIRST_CATALOG, dos_device, dos_volume, hello, put, put_entry};
 
-const HELLO_BODY: &str = " 1 of 169 1 of 0 1 of 96";
+/// The runs of the body of HELLO.
+static HELLO_BODY: [(usize, u8); 3] = [(1, 169), (1, 0), (1, 96)];
 
 /// The bytes that a read of a file of a volume gives.
 fn text_on<A: Allocator + Copy, D: Device>(
@@ -41,41 +41,26 @@ fn text_of<A: Allocator + Copy>(
     text_on(alloc, &mut dos_device(image), path, whole)
 }
 
-/// A read of the body of a file of a volume answers this.
-fn reads(
-    rt: &impl Abort,
-    alloc: Global,
-    image: Vec<u8>,
-    path: &[u8],
-    answer: &str,
-) -> Result<(), AllocError>
+/// Whether a read of the file HELLO of a volume, its body or the whole of it, gives these runs of bytes.
+fn reads(alloc: Global, image: Vec<u8>, whole: bool, runs: &[(usize, u8)]) -> bool
     requires { vec_len image ≡ 143360 }
 {
-    let text = told(alloc, text_of(alloc, image, path, false))?;
-    assert_eq!(rt; text.as_str(), answer);
-    Ok(())
+    match &text_of(alloc, image, b"HELLO", whole) {
+        Ok(bytes) => are_runs(bytes.as_slice(), runs),
+        Err(_) => false,
+    }
 }
 
-/// A read of the whole of the file HELLO of a volume answers this.
-fn reads_whole(
-    rt: &impl Abort,
-    alloc: Global,
-    image: Vec<u8>,
-    answer: &str,
-) -> Result<(), AllocError>
-    requires { vec_len image ≡ 143360 }
-{
-    let text = told(alloc, text_of(alloc, image, b"HELLO", true))?;
-    assert_eq!(rt; text.as_str(), answer);
+#[test]
+fn reads_a_body(rt: HostRuntime) -> Result<(), Fail> {
+    assert!(rt; reads(rt.alloc(), hello(rt.alloc())?, false, &HELLO_BODY));
     Ok(())
 }
 
 #[test]
-fn reads_a_body_and_the_whole(rt: HostRuntime) -> Result<(), Fail> {
-    let alloc = rt.alloc();
-    reads(&rt, alloc, hello(alloc)?, b"HELLO", HELLO_BODY)?;
-    let whole = " 1 of 0 2 of 3 1 of 0 1 of 169 1 of 0 1 of 96 249 of 0";
-    reads_whole(&rt, alloc, hello(alloc)?, whole)?;
+fn reads_the_whole(rt: HostRuntime) -> Result<(), Fail> {
+    let whole = [(1, 0), (2, 3), (1, 0), (1, 169), (1, 0), (1, 96), (249, 0)];
+    assert!(rt; reads(rt.alloc(), hello(rt.alloc())?, true, &whole));
     Ok(())
 }
 
@@ -94,46 +79,51 @@ fn gaps(alloc: Global) -> Result<Vec<u8>, AllocError>
     Ok(image)
 }
 
-/// A read of the body where the file has this kind and its unit begins with these bytes answers this.
+/// Whether a read of the body, where the file has this kind and its unit begins with these bytes, gives these runs of bytes.
 fn reads_kind(
-    rt: &impl Abort,
     alloc: Global,
     kind: u8,
     bytes: [u8; 7],
-    body: &str,
-) -> Result<(), AllocError> {
+    runs: &[(usize, u8)],
+) -> Result<bool, AllocError> {
     let mut image = hello(alloc)?;
     put(&mut image, FIRST_CATALOG, 0x0d, &[kind]);
     put(&mut image, 63, 0x00, &bytes);
-    reads(rt, alloc, image, b"HELLO", body)
+    Ok(reads(alloc, image, false, runs))
 }
 
 #[test]
-fn cuts_the_body_by_its_kind(rt: HostRuntime) -> Result<(), Fail> {
-    for (kind, bytes, body) in [
-        (0x02, [2, 0, 7, 8, 9, 9, 0], " 1 of 7 1 of 8"),
-        (0x81, [3, 0, 7, 8, 9, 9, 0], " 1 of 7 1 of 8 1 of 9"),
-        (0x01, [0, 0, 7, 8, 9, 9, 0], ""),
-        (
-            0x02,
-            [255, 0, 7, 8, 9, 9, 0],
-            " 1 of 7 1 of 8 2 of 9 250 of 0",
-        ),
-        (0x04, [1, 2, 1, 0, 9, 9, 0], " 1 of 9"),
-        (0x84, [1, 2, 0, 1, 9, 9, 0], " 2 of 9 250 of 0"),
-        (
-            0x00,
-            [1, 1, 1, 0, 9, 9, 0],
-            " 3 of 1 1 of 0 2 of 9 250 of 0",
-        ),
-        (
-            0x88,
-            [1, 1, 1, 0, 9, 9, 0],
-            " 3 of 1 1 of 0 2 of 9 250 of 0",
-        ),
-    ] {
-        reads_kind(&rt, rt.alloc(), kind, bytes, body)?;
-    }
+fn cuts_the_body_of_a_program(rt: HostRuntime) -> Result<(), Fail> {
+    let alloc = rt.alloc();
+    assert!(rt; reads_kind(alloc, 0x02, [2, 0, 7, 8, 9, 9, 0], &[(1, 7), (1, 8)])?);
+    assert!(rt;
+        reads_kind(
+            alloc,
+            0x81,
+            [3, 0, 7, 8, 9, 9, 0],
+            &[(1, 7), (1, 8), (1, 9)]
+        )?
+    );
+    assert!(rt; reads_kind(alloc, 0x01, [0, 0, 7, 8, 9, 9, 0], &[])?);
+    let long = [(1, 7), (1, 8), (2, 9), (250, 0)];
+    assert!(rt; reads_kind(alloc, 0x02, [255, 0, 7, 8, 9, 9, 0], &long)?);
+    Ok(())
+}
+
+#[test]
+fn cuts_the_body_of_a_binary_file(rt: HostRuntime) -> Result<(), Fail> {
+    let alloc = rt.alloc();
+    assert!(rt; reads_kind(alloc, 0x04, [1, 2, 1, 0, 9, 9, 0], &[(1, 9)])?);
+    let long = [(2, 9), (250, 0)];
+    assert!(rt; reads_kind(alloc, 0x84, [1, 2, 0, 1, 9, 9, 0], &long)?);
+    Ok(())
+}
+
+#[test]
+fn leaves_the_body_of_other_files(rt: HostRuntime) -> Result<(), Fail> {
+    let body = [(3, 1), (1, 0), (2, 9), (250, 0)];
+    assert!(rt; reads_kind(rt.alloc(), 0x00, [1, 1, 1, 0, 9, 9, 0], &body)?);
+    assert!(rt; reads_kind(rt.alloc(), 0x88, [1, 1, 1, 0, 9, 9, 0], &body)?);
     Ok(())
 }
 
@@ -148,72 +138,88 @@ fn without_units(alloc: Global) -> Result<Vec<u8>, AllocError>
 
 #[test]
 fn a_file_without_units_is_empty(rt: HostRuntime) -> Result<(), Fail> {
-    let alloc = rt.alloc();
-    reads_whole(&rt, alloc, without_units(alloc)?, "")?;
-    reads(&rt, alloc, without_units(alloc)?, b"HELLO", "")?;
+    assert!(rt; reads(rt.alloc(), without_units(rt.alloc())?, true, &[]));
+    assert!(rt; reads(rt.alloc(), without_units(rt.alloc())?, false, &[]));
     Ok(())
+}
+
+/// The image of these bytes.
+fn opened(bytes: Vec<u8>, order: Order) -> Result<Image, Fail> {
+    match Image::open(bytes, order) {
+        Ok(image) => Ok(image),
+        Err((error, _)) => Err(error.into()),
+    }
 }
 
 /// The volume HELLO as disk bytes, one of which is none that a sector has.
 fn broken_tracks(alloc: Global, at: usize) -> Result<Image, Fail> {
-    let plain = Image::open(hello(alloc)?, Order::Dos)
-        .ok()
-        .ok_or("not taken")?;
+    let plain = opened(hello(alloc)?, Order::Dos)?;
     let mut bytes = plain.convert(Order::Nibble, 254)?.into_bytes();
     if let Some(byte) = bytes.get_mut(at) {
         *byte = 0xaa;
     }
-    let image = Image::open(bytes, Order::Nibble).ok().ok_or("not taken")?;
-    Ok(image)
+    opened(bytes, Order::Nibble)
 }
 
-/// A read of HELLO on its volume with a broken sector answers this, and the device has told so many faults.
-fn reads_broken(
-    rt: &impl Abort,
-    alloc: Global,
-    at: usize,
-    answer: &str,
-    faults: u64,
-) -> Result<(), Fail> {
+/// Why a read of HELLO fails on its volume with a broken sector, and how many faults the device has told; a body is the right one.
+fn read_broken(alloc: Global, at: usize) -> Result<(Option<CmdError>, u64), Fail> {
     let image = broken_tracks(alloc, at)?;
-    if image.blocks() == 280 {
-        let mut device = ImageDevice::dos(image);
-        let text = told(alloc, text_on(alloc, &mut device, b"HELLO", false))?;
-        assert_eq!(rt; text.as_str(), answer);
-        assert_eq!(rt; device.faults(), faults);
-        return Ok(());
+    if image.blocks() != 280 {
+        return Err("another number of blocks".into());
     }
-    Err("another number of blocks".into())
+    let mut device = ImageDevice::dos(image);
+    match text_on(alloc, &mut device, b"HELLO", false) {
+        Ok(bytes) if are_runs(bytes.as_slice(), &HELLO_BODY) => Ok((None, device.faults())),
+        Ok(_) => Err("another body".into()),
+        Err(error) => Ok((Some(error), device.faults())),
+    }
 }
+
+/// Sectors of tracks: in turn those of the map, the last of the catalog's, the list's, the body's, and one that is not read; and how many
+/// faults there are.
+static SECTORS: [(usize, usize, u64); 5] = [
+    (17, 0, 1),
+    (17, 13, 1),
+    (3, 2, 1),
+    (3, 15, 1),
+    (3, 13, 0),
+];
 
 #[test]
 fn a_failing_read_is_told(rt: HostRuntime) -> Result<(), Fail> {
-    // In turn the sectors of the map, the last of the catalog's, the list's, the body's, and one that is not read.
-    for (track, sector, answer, faults) in [
-        (17, 0, "Device", 1),
-        (17, 13, "Device", 1),
-        (3, 2, "Device", 1),
-        (3, 15, "Device", 1),
-        (3, 13, HELLO_BODY, 0),
-    ] {
-        let at = 6656 * track + 71 + 396 * sector;
-        reads_broken(&rt, rt.alloc(), at, answer, faults)?;
+    for (track, sector, faults) in &SECTORS {
+        let at = 6656usize
+            .saturating_mul(*track)
+            .saturating_add(71)
+            .saturating_add(396usize.saturating_mul(*sector));
+        let error = (*faults > 0).then_some(CmdError::Device);
+        assert!(rt;
+            read_broken(rt.alloc(), at)? == (error, *faults),
+            "{track} {sector}"
+        );
     }
     Ok(())
 }
 
+/// Why a read of GAPS over a heap fails, how many bytes it gives, and how many blocks it asks for.
+fn read_over(
+    alloc: Global,
+    heap: Refusing<Global>,
+) -> Result<(Option<CmdError>, usize, u64), AllocError> {
+    let (error, bytes) = match text_of(&heap, gaps(alloc)?, b"GAPS", false) {
+        Ok(bytes) => (None, bytes.len()),
+        Err(error) => (Some(error), 0),
+    };
+    Ok((error, bytes, heap.asked()))
+}
+
 #[test]
 fn each_refused_block_is_memory(rt: HostRuntime) -> Result<(), Fail> {
-    let whole = Refusing::none(rt.alloc());
-    let text = text_of(&whole, gaps(rt.alloc())?, b"GAPS", false)?;
-    assert_eq!(rt; text.len(), 31488);
-    let blocks = whole.asked();
-    assert!(rt; blocks > 8);
-    for before in 0..blocks {
-        let heap = Refusing::one(rt.alloc(), before);
-        let refused = text_of(&heap, gaps(rt.alloc())?, b"GAPS", false).err();
-        assert_eq!(rt; refused, Some(CmdError::Memory));
-        assert_eq!(rt; heap.asked(), before + 1);
+    let (error, bytes, asked) = read_over(rt.alloc(), Refusing::none(rt.alloc()))?;
+    assert!(rt; error.is_none() && bytes == 31_488 && asked > 8);
+    for before in 0..asked {
+        let answer = read_over(rt.alloc(), Refusing::one(rt.alloc(), before))?;
+        assert!(rt; answer == (Some(CmdError::Memory), 0, before + 1));
     }
     Ok(())
 }

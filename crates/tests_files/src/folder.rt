@@ -26,13 +26,13 @@ pub enum Kind {
     Link,
 }
 
-/// A name and what stands there: of a file its text, of a link the name that it leads to.
+/// The bytes of a name and what stands there: of a file its text, of a link the name that it leads to.
 #[derive(Drop)]
 struct Entry {
-    name: String,
+    name: Vec<u8>,
     kind: Kind,
     mode: u32,
-    text: String,
+    text: Vec<u8>,
 }
 
 /// The folder.
@@ -52,7 +52,7 @@ pub struct Mounted<'a>(pub &'a Folder);
 #[derive(Drop)]
 pub struct OpenEntry<'a> {
     folder: &'a Folder,
-    name: String,
+    name: Vec<u8>,
 }
 
 impl Kind {
@@ -77,29 +77,40 @@ impl Entry {
     }
 }
 
-fn entry_at<'e>(entries: &'e [Entry], name: &str) -> io::Result<&'e Entry> {
+fn entry_at<'e>(entries: &'e [Entry], name: &[u8]) -> io::Result<&'e Entry> {
     for entry in entries {
-        if entry.name.as_str() == name {
+        if entry.name.as_slice() == name {
             return Ok(entry);
         }
     }
     Err(io::Error::from(ErrorKind::NotFound))
 }
 
-fn entry_at_mut<'e>(entries: &'e mut [Entry], name: &str) -> io::Result<&'e mut Entry> {
+fn entry_at_mut<'e>(entries: &'e mut [Entry], name: &[u8]) -> io::Result<&'e mut Entry> {
     for entry in entries.iter_mut() {
-        if entry.name.as_str() == name {
+        if entry.name.as_slice() == name {
             return Ok(entry);
         }
     }
     Err(io::Error::from(ErrorKind::NotFound))
+}
+
+// Whether entries have these names, access modes and texts.
+fn are_entries(entries: &[Entry], stated: &[(&str, u32, &str)]) -> bool {
+    for (entry, (name, mode, text)) in entries.iter().zip(stated) {
+        let is_it = entry.name.as_slice() == name.as_bytes() && entry.mode == *mode;
+        if !is_it || entry.text.as_slice() != text.as_bytes() {
+            return false;
+        }
+    }
+    entries.len() == stated.len()
 }
 
 // What a name leads to. No link leads to a link.
-fn followed<'e>(entries: &'e [Entry], name: &str) -> io::Result<&'e Entry> {
+fn followed<'e>(entries: &'e [Entry], name: &[u8]) -> io::Result<&'e Entry> {
     let entry = entry_at(entries, name)?;
     match entry.kind {
-        Kind::Link => entry_at(entries, entry.text.as_str()),
+        Kind::Link => entry_at(entries, entry.text.as_slice()),
         Kind::File | Kind::Folder => Ok(entry),
     }
 }
@@ -142,22 +153,31 @@ impl Folder {
         self.calls.get()
     }
 
-    /// Each name in the order in which it was put there, with its access mode and its text.
-    pub fn shown(&self) -> Result<String, Fail> {
-        let mut shown = String::new(self.alloc);
+    /// All bytes of what stands there: each name in the order in which it was put there, its access mode and its text.
+    pub fn bytes(&self) -> Result<Vec<u8>, Fail> {
+        let mut bytes = Vec::new(self.alloc);
         for entry in self.entries.try_borrow()?.iter() {
-            let (name, mode, text) = (&entry.name, entry.mode, &entry.text);
-            write!(shown, "{name} {mode:o} {text}; ")?;
+            bytes.extend_from_slice(entry.name.as_slice())?;
+            bytes.extend_from_slice(&entry.mode.to_le_bytes())?;
+            bytes.extend_from_slice(entry.text.as_slice())?;
         }
-        Ok(shown)
+        Ok(bytes)
+    }
+
+    /// Whether these names stand there, in the order in which they were put there, each with this access mode and this text.
+    pub fn holds(&self, stated: &[(&str, u32, &str)]) -> bool {
+        match self.entries.try_borrow() {
+            Ok(entries) => are_entries(&entries, stated),
+            Err(_) => false,
+        }
     }
 
     fn add(&self, name: &str, kind: Kind, mode: u32, text: &str) -> io::Result<()> {
         let entry = Entry {
-            name: name.to_string(self.alloc)?,
+            name: Vec::from_slice(self.alloc, name.as_bytes())?,
             kind,
             mode,
-            text: text.to_string(self.alloc)?,
+            text: Vec::from_slice(self.alloc, text.as_bytes())?,
         };
         self.entries.try_borrow_mut()?.push(entry)?;
         Ok(())
@@ -186,11 +206,11 @@ impl<'a> Files for Mounted<'a> {
         if !how.asks_create_new() {
             return Err(unsupported());
         }
-        if entry_at(&folder.entries.try_borrow()?, path).is_ok() {
+        if entry_at(&folder.entries.try_borrow()?, path.as_bytes()).is_ok() {
             return Err(io::Error::from(ErrorKind::AlreadyExists));
         }
         folder.add(path, Kind::File, MODE_OF_NEW, "")?;
-        let name = path.to_string(folder.alloc)?;
+        let name = Vec::from_slice(folder.alloc, path.as_bytes())?;
         Ok(OpenEntry { folder, name })
     }
 
@@ -200,12 +220,12 @@ impl<'a> Files for Mounted<'a> {
 
     fn metadata(&self, path: &str) -> io::Result<Metadata> {
         self.0.count()?;
-        Ok(followed(&self.0.entries.try_borrow()?, path)?.metadata())
+        Ok(followed(&self.0.entries.try_borrow()?, path.as_bytes())?.metadata())
     }
 
     fn symlink_metadata(&self, path: &str) -> io::Result<Metadata> {
         self.0.count()?;
-        Ok(entry_at(&self.0.entries.try_borrow()?, path)?.metadata())
+        Ok(entry_at(&self.0.entries.try_borrow()?, path.as_bytes())?.metadata())
     }
 
     fn copy(&self, _from: &str, _to: &str) -> io::Result<u64> {
@@ -214,19 +234,19 @@ impl<'a> Files for Mounted<'a> {
 
     fn rename(&self, from: &str, to: &str) -> io::Result<()> {
         self.0.count()?;
-        let name = to.to_string(self.0.alloc)?;
+        let name = Vec::from_slice(self.0.alloc, to.as_bytes())?;
         let mut entries = self.0.entries.try_borrow_mut()?;
-        entry_at(&entries, from)?;
-        entries.retain(|entry| entry.name.as_str() != to);
-        entry_at_mut(&mut entries, from)?.name = name;
+        entry_at(&entries, from.as_bytes())?;
+        entries.retain(|entry| entry.name.as_slice() != to.as_bytes());
+        entry_at_mut(&mut entries, from.as_bytes())?.name = name;
         Ok(())
     }
 
     fn remove_file(&self, path: &str) -> io::Result<()> {
         self.0.count()?;
         let mut entries = self.0.entries.try_borrow_mut()?;
-        entry_at(&entries, path)?;
-        entries.retain(|entry| entry.name.as_str() != path);
+        entry_at(&entries, path.as_bytes())?;
+        entries.retain(|entry| entry.name.as_slice() != path.as_bytes());
         Ok(())
     }
 
@@ -245,8 +265,11 @@ impl<'a> Files for Mounted<'a> {
     fn canonicalize<B: Allocator>(&self, alloc: B, path: &str) -> io::Result<PathBuf<B>> {
         self.0.count()?;
         let entries = self.0.entries.try_borrow()?;
-        let entry = followed(&entries, path)?;
-        Ok(PathBuf::from_str(alloc, entry.name.as_str())?)
+        let entry = followed(&entries, path.as_bytes())?;
+        match str::from_utf8(entry.name.as_slice()) {
+            Ok(name) => Ok(PathBuf::from_str(alloc, name)?),
+            Err(_) => Err(io::Error::from(ErrorKind::InvalidData)),
+        }
     }
 }
 
@@ -260,11 +283,9 @@ impl Write for OpenEntry<'_> {
     fn write(&mut self, buf: &[u8]) -> io::Result<usize> {
         self.folder.count()?;
         let mut entries = self.folder.entries.try_borrow_mut()?;
-        let entry = entry_at_mut(&mut entries, self.name.as_str())?;
+        let entry = entry_at_mut(&mut entries, self.name.as_slice())?;
         let count = buf.len().min(MOST_WRITTEN);
-        for byte in &buf[..count] {
-            entry.text.push(char::from(*byte))?;
-        }
+        entry.text.extend_from_slice(&buf[..count])?;
         Ok(count)
     }
 
@@ -299,7 +320,7 @@ impl OpenFile for OpenEntry<'_> {
     fn set_permissions(&self, perm: Permissions) -> io::Result<()> {
         self.folder.count()?;
         let mut entries = self.folder.entries.try_borrow_mut()?;
-        entry_at_mut(&mut entries, self.name.as_str())?.mode = perm.mode() & MODE_BITS;
+        entry_at_mut(&mut entries, self.name.as_slice())?.mode = perm.mode() & MODE_BITS;
         Ok(())
     }
 }

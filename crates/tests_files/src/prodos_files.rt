@@ -1,47 +1,36 @@
-// Listings and reads of ProDOS volumes: `catalog`, `pro_listing_text`, `read`.
+//! Listings and reads of ProDOS volumes: `catalog`, `pro_listing_text`, `read`.
 ghost use Rattle.std.specs.Prelude.{◌≡◌, ◌+◌, ◌<◌, ◌≤◌, length};
 ghost use Rattle.a2_device.specs.Device.{DeviceState};
 
-use crate::runs::told;
+use crate::runs::are_runs;
 use a2_device::Device;
 use file_cmds::{CmdError, catalog, pro_listing_text, read};
 use pro_format::Prodos;
 use refusing::Refusing;
 use reserved_places::Reserved;
 use std::alloc::{AllocError, Allocator, Global};
-use std::process::Abort;
 use std::test::Fail;
 use test_volumes::{block_device, put_in_block, tree, tree_and_subdirectory};
-
-const BIG_BODY: &str = " 131072 of 0 1 of 97 1 of 98 1 of 99";
 
 /// The text of the listing of a volume.
 fn listing_on<A: Allocator + Copy, D: Device>(
     alloc: A,
     device: &mut D,
-) -> Result<String<A>, CmdError>
+) -> Result<Vec<u8, A>, CmdError>
     requires unit { (D.state device.old).unit_size ≡ 512 }
     requires places { (16 ≤ (D.state device.old).places) × ((D.state device.old).places < 65536) }
 {
     let format = Prodos::new(alloc, Reserved::none(alloc));
     let listing = catalog(alloc, device, &format)?;
-    let text = pro_listing_text(alloc, &listing)?;
-    Ok(text)
+    Ok(pro_listing_text(alloc, &listing)?.into_bytes())
 }
 
 /// The text of the listing of a volume in ProDOS order.
-fn listing_of<A: Allocator + Copy>(alloc: A, image: Vec<u8>) -> Result<String<A>, CmdError> {
+fn listing_of<A: Allocator + Copy>(alloc: A, image: Vec<u8>) -> Result<Vec<u8, A>, CmdError> {
     match block_device(image) {
         Some(mut device) => listing_on(alloc, &mut device),
         None => Err(CmdError::NotFound),
     }
-}
-
-/// A volume has this listing.
-fn lists(rt: &impl Abort, alloc: Global, image: Vec<u8>, lines: &str) -> Result<(), CmdError> {
-    let text = listing_of(alloc, image)?;
-    assert_eq!(rt; text.as_str(), lines);
-    Ok(())
 }
 
 /// The bytes that a read of a file of a volume gives.
@@ -71,69 +60,94 @@ fn text_of<A: Allocator + Copy>(
     }
 }
 
-/// A read of the body of a file of a volume answers this.
-fn reads(
-    rt: &impl Abort,
+#[test]
+fn lists_a_tree(rt: HostRuntime) -> Result<(), Fail> {
+    let text = listing_of(rt.alloc(), tree(rt.alloc())?)?;
+    let lines = b"VOLUME /WORK\n $06     3   131075 1986-05-01 12:30 BIG\nFREE 270\n";
+    assert!(rt; text.as_slice() == lines.as_slice());
+    Ok(())
+}
+
+#[test]
+fn lists_a_subdirectory(rt: HostRuntime) -> Result<(), Fail> {
+    let text = listing_of(rt.alloc(), tree_and_subdirectory(rt.alloc())?)?;
+    let lines = b"VOLUME /WORK\n $06     3   131075 1986-05-01 12:30 BIG\n\
+                 \x20$0f     1      512 1986-05-01 12:30 SUB/\n\
+                 \x20$04     1        2 <NO DATE>        SUB/A\nFREE 268\n";
+    assert!(rt; text.as_slice() == lines.as_slice());
+    Ok(())
+}
+
+#[test]
+fn reads_the_body_of_a_tree(rt: HostRuntime) -> Result<(), Fail> {
+    let bytes = text_of(rt.alloc(), tree(rt.alloc())?, b"big", false)?;
+    let body = [(131_072, 0), (1, 97), (1, 98), (1, 99)];
+    assert!(rt; are_runs(bytes.as_slice(), &body));
+    Ok(())
+}
+
+#[test]
+fn reads_the_whole_of_a_tree(rt: HostRuntime) -> Result<(), Fail> {
+    let bytes = text_of(rt.alloc(), tree(rt.alloc())?, b"BIG", true)?;
+    let whole = [(131_072, 0), (1, 97), (1, 98), (1, 99), (509, 0)];
+    assert!(rt; are_runs(bytes.as_slice(), &whole));
+    Ok(())
+}
+
+/// A call that takes memory.
+#[derive(Clone, Copy)]
+enum Call {
+    List,
+    Read,
+}
+
+/// Why a call over a heap fails, how many bytes it gives, and how many blocks it asks for.
+fn answer_over(
     alloc: Global,
-    image: Vec<u8>,
-    path: &[u8],
-    answer: &str,
-) -> Result<(), AllocError> {
-    let text = told(alloc, text_of(alloc, image, path, false))?;
-    assert_eq!(rt; text.as_str(), answer);
-    Ok(())
+    call: Call,
+    heap: Refusing<Global>,
+) -> Result<(Option<CmdError>, usize, u64), AllocError> {
+    let (error, bytes) = match call {
+        Call::List => listed(&heap, tree_and_subdirectory(alloc)?),
+        Call::Read => read_big(&heap, tree(alloc)?),
+    };
+    Ok((error, bytes, heap.asked()))
 }
 
-#[test]
-fn lists_a_tree_and_a_subdirectory(rt: HostRuntime) -> Result<(), Fail> {
-    let alloc = rt.alloc();
-    let one = "VOLUME /WORK\n $06     3   131075 1986-05-01 12:30 BIG\nFREE 270\n";
-    lists(&rt, alloc, tree(alloc)?, one)?;
-    let three = "VOLUME /WORK\n $06     3   131075 1986-05-01 12:30 BIG\n\
-                 \u{20}$0f     1      512 1986-05-01 12:30 SUB/\n\
-                 \u{20}$04     1        2 <NO DATE>        SUB/A\nFREE 268\n";
-    lists(&rt, alloc, tree_and_subdirectory(alloc)?, three)?;
-    Ok(())
-}
-
-#[test]
-fn reads_a_tree(rt: HostRuntime) -> Result<(), Fail> {
-    let alloc = rt.alloc();
-    reads(&rt, alloc, tree(alloc)?, b"big", BIG_BODY)?;
-    let whole = told(alloc, text_of(alloc, tree(alloc)?, b"BIG", true))?;
-    let runs = " 131072 of 0 1 of 97 1 of 98 1 of 99 509 of 0";
-    assert_eq!(rt; whole.as_str(), runs);
-    Ok(())
-}
-
-#[test]
-fn each_refused_block_of_a_listing_is_memory(rt: HostRuntime) -> Result<(), Fail> {
-    let whole = Refusing::none(rt.alloc());
-    let text = listing_of(&whole, tree_and_subdirectory(rt.alloc())?)?;
-    assert_eq!(rt; text.len(), 148);
-    let blocks = whole.asked();
-    assert!(rt; blocks > 8);
-    for before in 0..blocks {
-        let heap = Refusing::one(rt.alloc(), before);
-        let refused = listing_of(&heap, tree_and_subdirectory(rt.alloc())?).err();
-        assert_eq!(rt; refused, Some(CmdError::Memory));
-        assert_eq!(rt; heap.asked(), before + 1);
+/// Why the listing of a volume fails, and how many bytes it has.
+fn listed(heap: &Refusing<Global>, image: Vec<u8>) -> (Option<CmdError>, usize) {
+    match listing_of(heap, image) {
+        Ok(text) => (None, text.len()),
+        Err(error) => (Some(error), 0),
     }
-    Ok(())
+}
+
+/// Why a read of BIG fails, and how many bytes it gives.
+fn read_big(heap: &Refusing<Global>, image: Vec<u8>) -> (Option<CmdError>, usize) {
+    match text_of(heap, image, b"BIG", false) {
+        Ok(bytes) => (None, bytes.len()),
+        Err(error) => (Some(error), 0),
+    }
+}
+
+/// Whether a call gives so many bytes, and answers want of memory and asks no more where any of its blocks is refused.
+fn tells_refusals(alloc: Global, call: Call, length: usize) -> Result<bool, AllocError> {
+    let (error, bytes, asked) = answer_over(alloc, call, Refusing::none(alloc))?;
+    if error.is_some() || bytes != length || asked <= 8 {
+        return Ok(false);
+    }
+    for before in 0..asked {
+        let (error, _, asked) = answer_over(alloc, call, Refusing::one(alloc, before))?;
+        if error != Some(CmdError::Memory) || asked != before + 1 {
+            return Ok(false);
+        }
+    }
+    Ok(true)
 }
 
 #[test]
-fn each_refused_block_of_a_body_is_memory(rt: HostRuntime) -> Result<(), Fail> {
-    let whole = Refusing::none(rt.alloc());
-    let text = text_of(&whole, tree(rt.alloc())?, b"BIG", false)?;
-    assert_eq!(rt; text.len(), 131_075);
-    let blocks = whole.asked();
-    assert!(rt; blocks > 8);
-    for before in 0..blocks {
-        let heap = Refusing::one(rt.alloc(), before);
-        let refused = text_of(&heap, tree(rt.alloc())?, b"BIG", false).err();
-        assert_eq!(rt; refused, Some(CmdError::Memory));
-        assert_eq!(rt; heap.asked(), before + 1);
-    }
+fn each_refused_block_is_memory(rt: HostRuntime) -> Result<(), Fail> {
+    assert!(rt; tells_refusals(rt.alloc(), Call::List, 148)?);
+    assert!(rt; tells_refusals(rt.alloc(), Call::Read, 131_075)?);
     Ok(())
 }

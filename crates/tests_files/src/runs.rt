@@ -1,23 +1,17 @@
-// The bytes of a file, as short text.
-use file_cmds::CmdError;
-use std::alloc::{AllocError, Global};
+//! The bytes of a file as runs: how many there are of one value, one run after the other.
 
-/// How often each byte stands, one run after the other.
-fn runs(alloc: Global, bytes: &[u8]) -> Result<String, AllocError> {
-    let mut text = String::new(alloc);
-    for run in bytes.chunk_by(|byte, next| byte == next) {
-        if let [byte, ..] = run {
-            let count = run.len();
-            write!(text, " {count} of {byte}")?;
+/// Whether bytes are these runs.
+pub fn are_runs(bytes: &[u8], runs: &[(usize, u8)]) -> bool {
+    let mut rest = bytes;
+    for (count, byte) in runs {
+        if rest.len() < *count {
+            return false;
         }
+        let (run, behind) = rest.split_at(*count);
+        if run.iter().any(|other| other != byte) {
+            return false;
+        }
+        rest = behind;
     }
-    Ok(text)
-}
-
-/// The bytes that a read gives, as runs, or its error.
-pub fn told(alloc: Global, answer: Result<Vec<u8>, CmdError>) -> Result<String, AllocError> {
-    match answer {
-        Ok(bytes) => runs(alloc, &bytes),
-        Err(error) => format!(in alloc; "{error:?}"),
-    }
+    rest.is_empty()
 }

@@ -3,6 +3,7 @@
 use crate::folder::{Folder, Kind, Mounted};
 use refusing::Refusing;
 use std::alloc::{AllocError, Allocator, Global};
+use std::fs::Permissions;
 use std::io::{self, ErrorKind, Write};
 use std::os::unix::fs::PermissionsExt;
 use std::rt::Files;
@@ -37,31 +38,45 @@ fn replace<R: Files, A: Allocator + Copy>(rt: &R, alloc: A, path: &str) -> io::R
     }
 }
 
-/// How the replacing of the file that a path leads to ends, and what then stands in the folder.
-fn replaced<A: Allocator + Copy>(folder: &Folder, alloc: A, path: &str) -> Result<String, Fail> {
-    let answer = replace(&Mounted(folder), alloc, path);
-    let shown = folder.shown()?;
-    match answer {
-        Ok(()) => Ok(shown),
-        Err(error) => {
-            let kind = error.kind();
-            Ok(format!(in folder.alloc(); "{kind:?}, {shown}")?)
-        }
+/// Why the file that a path leads to is not replaced.
+fn error_of<A: Allocator + Copy>(folder: &Folder, alloc: A, path: &str) -> Option<ErrorKind> {
+    match replace(&Mounted(folder), alloc, path) {
+        Ok(()) => None,
+        Err(error) => Some(error.kind()),
     }
+}
+
+/// What stands in the folder with a file and a link to it, and after the file is replaced.
+static OLD: [(&str, u32, &str); 2] = [("image", 0o644, "old"), ("link", 0o777, "image")];
+
+static NEWER: [(&str, u32, &str); 2] = [("link", 0o777, "image"), ("image", 0o644, "newer")];
+
+/// Why the file is not replaced that a path leads to in that folder, where the call after so many others fails, and whether then this stands
+/// in the folder.
+fn replaced(
+    alloc: Global,
+    failing: Option<u32>,
+    path: &str,
+    shown: &[(&str, u32, &str)],
+) -> io::Result<(Option<ErrorKind>, bool)> {
+    let folder = Folder::holding(alloc, &FILE_AND_LINK, failing)?;
+    let error = error_of(&folder, alloc, path);
+    Ok((error, folder.holds(shown)))
 }
 
 /// A file that stood there gives its access mode to the one that takes its place, and a link stays.
 #[test]
 fn the_file_that_a_path_leads_to(rt: HostRuntime) -> Result<(), Fail> {
-    let rows = [
-        ("image", "link 777 image; image 644 newer; "),
-        ("link", "link 777 image; image 644 newer; "),
-        ("other", "image 644 old; link 777 image; other 600 newer; "),
-    ];
-    for (path, text) in rows {
-        let folder = Folder::holding(rt.alloc(), &FILE_AND_LINK, None)?;
-        assert_eq!(rt; replaced(&folder, rt.alloc(), path)?.as_str(), text);
-    }
+    assert!(rt; replaced(rt.alloc(), None, "image", &NEWER)? == (None, true));
+    assert!(rt; replaced(rt.alloc(), None, "link", &NEWER)? == (None, true));
+    Ok(())
+}
+
+#[test]
+fn a_file_that_is_new(rt: HostRuntime) -> Result<(), Fail> {
+    let [image, link] = OLD;
+    let shown = [image, link, ("other", 0o600, "newer")];
+    assert!(rt; replaced(rt.alloc(), None, "other", &shown)? == (None, true));
     Ok(())
 }
 
@@ -69,68 +84,72 @@ fn the_file_that_a_path_leads_to(rt: HostRuntime) -> Result<(), Fail> {
 /// does. The calls: asked twice where the path leads; made, given its mode, written twice, put onto the disk, renamed.
 #[test]
 fn each_call_failing(rt: HostRuntime) -> Result<(), Fail> {
-    for failing in 0..9 {
-        let folder = Folder::holding(rt.alloc(), &FILE_AND_LINK, Some(failing))?;
-        let text = match failing {
-            0..2 => "NotFound, image 644 old; link 777 image; ",
-            2..8 => "PermissionDenied, image 644 old; link 777 image; ",
-            _ => "link 777 image; image 644 newer; ",
+    for failing in 0..8u32 {
+        let error = if failing < 2 {
+            ErrorKind::NotFound
+        } else {
+            ErrorKind::PermissionDenied
         };
-        assert_eq!(rt;
-            replaced(&folder, rt.alloc(), "image")?.as_str(),
-            text,
-            "call {failing}"
-        );
+        let answer = replaced(rt.alloc(), Some(failing), "image", &OLD)?;
+        assert!(rt; answer == (Some(error), true), "call {failing}");
     }
+    assert!(rt; replaced(rt.alloc(), Some(8), "image", &NEWER)? == (None, true));
     Ok(())
+}
+
+/// Why the file is not replaced over a heap, whether what stood there stands, and how many blocks are asked.
+fn replaced_over(
+    alloc: Global,
+    heap: Refusing<Global>,
+) -> io::Result<(Option<ErrorKind>, bool, u64)> {
+    let folder = Folder::holding(alloc, &FILE_AND_LINK, None)?;
+    let error = error_of(&folder, &heap, "image");
+    Ok((error, folder.holds(&OLD), heap.asked()))
 }
 
 /// Where a block is refused, the answer is want of memory, and what stood there stands.
 #[test]
 fn each_block_refused(rt: HostRuntime) -> Result<(), Fail> {
-    let whole = Refusing::none(rt.alloc());
-    replaced(
-        &Folder::holding(rt.alloc(), &FILE_AND_LINK, None)?,
-        &whole,
-        "image",
-    )?;
-    assert!(rt; whole.asked() > 2);
-    for before in 0..whole.asked() {
-        let folder = Folder::holding(rt.alloc(), &FILE_AND_LINK, None)?;
-        let heap = Refusing::one(rt.alloc(), before);
-        let text = replaced(&folder, &heap, "image")?;
-        assert_eq!(rt;
-            text.as_str(),
-            "OutOfMemory, image 644 old; link 777 image; "
-        );
+    let (error, is_old, asked) = replaced_over(rt.alloc(), Refusing::none(rt.alloc()))?;
+    assert!(rt; error.is_none() && !is_old && asked > 2);
+    for before in 0..asked {
+        let (error, is_old, _) = replaced_over(rt.alloc(), Refusing::one(rt.alloc(), before))?;
+        assert!(rt; error == Some(ErrorKind::OutOfMemory) && is_old);
     }
     Ok(())
 }
 
+/// The name of the first file aside is taken.
+static FIRST_TAKEN: [(&str, Kind, &str); 2] = [
+    ("image.0.new", Kind::File, "mine"),
+    ("image", Kind::File, "old"),
+];
+
 #[test]
 fn a_name_that_is_taken_is_left_alone(rt: HostRuntime) -> Result<(), Fail> {
-    let entries = [
-        ("image.0.new", Kind::File, "mine"),
-        ("image", Kind::File, "old"),
-    ];
-    let folder = Folder::holding(rt.alloc(), &entries, None)?;
-    let text = replaced(&folder, rt.alloc(), "image")?;
-    assert_eq!(rt; text.as_str(), "image.0.new 644 mine; image 644 newer; ");
+    let folder = Folder::holding(rt.alloc(), &FIRST_TAKEN, None)?;
+    assert!(rt; error_of(&folder, rt.alloc(), "image").is_none());
+    let shown = [("image.0.new", 0o644, "mine"), ("image", 0o644, "newer")];
+    assert!(rt; folder.holds(&shown));
     Ok(())
+}
+
+/// The folder where the names of so many files aside are taken.
+fn taken(alloc: Global, names: u32) -> Result<Folder, Fail> {
+    let folder = Folder::holding(alloc, &FILE_AND_LINK, None)?;
+    for number in 0..names {
+        let name = format!(in alloc; "image.{number}.new")?;
+        folder.put(name.as_str(), Kind::File, "mine")?;
+    }
+    Ok(folder)
 }
 
 #[test]
 fn a_hundred_names_that_are_taken(rt: HostRuntime) -> Result<(), Fail> {
-    let folder = Folder::holding(rt.alloc(), &FILE_AND_LINK, None)?;
-    for number in 0..100u32 {
-        let name = format!(in rt.alloc(); "image.{number}.new")?;
-        folder.put(name.as_str(), Kind::File, "mine")?;
-    }
-    let text = format!(in rt.alloc(); "AlreadyExists, {}", folder.shown()?)?;
-    assert_eq!(rt;
-        replaced(&folder, rt.alloc(), "image")?.as_str(),
-        text.as_str()
-    );
+    let folder = taken(rt.alloc(), 100)?;
+    let before = folder.bytes()?;
+    assert!(rt; error_of(&folder, rt.alloc(), "image") == Some(ErrorKind::AlreadyExists));
+    assert!(rt; folder.bytes()?.as_slice() == before.as_slice());
     Ok(())
 }
 
@@ -150,10 +169,8 @@ fn is_written(folder: &Folder, target: &Target<Global>) -> bool {
 fn what_stood_there_stands_until_the_end(rt: HostRuntime) -> Result<(), Fail> {
     let folder = Folder::holding(rt.alloc(), &FILE_AND_LINK, None)?;
     assert!(rt; is_written(&folder, &place_of_image(rt.alloc())?));
-    assert_eq!(rt;
-        folder.shown()?.as_str(),
-        "image 644 old; link 777 image; image.0.new 600 newer; "
-    );
+    let [image, link] = OLD;
+    assert!(rt; folder.holds(&[image, link, ("image.0.new", 0o600, "newer")]));
     Ok(())
 }
 
@@ -168,7 +185,7 @@ fn ends_empty(folder: &Folder, target: &Target<Global>) -> bool {
 fn nothing_is_made_where_nothing_is_written(rt: HostRuntime) -> Result<(), Fail> {
     let folder = Folder::holding(rt.alloc(), &FILE_AND_LINK, None)?;
     assert!(rt; ends_empty(&folder, &place_of_image(rt.alloc())?));
-    assert_eq!(rt; folder.calls(), 0);
+    assert!(rt; folder.calls() == 0);
     Ok(())
 }
 
@@ -189,7 +206,7 @@ fn a_failed_write_is_not_forgotten(rt: HostRuntime) -> Result<(), Fail> {
         let folder = Folder::holding(rt.alloc(), &[], Some(failing))?;
         let target = place_of_image(rt.alloc())?;
         assert!(rt; remembers_a_failure(&folder, &target), "call {failing}");
-        assert_eq!(rt; folder.shown()?.as_str(), "");
+        assert!(rt; folder.holds(&[]));
     }
     Ok(())
 }
@@ -202,61 +219,75 @@ static EACH_KIND: [(&str, Kind, &str); 4] = [
     ("inner", Kind::Folder, ""),
 ];
 
-/// Where a path leads, in words.
-fn leads_to<A: Allocator + Copy>(folder: &Folder, alloc: A, path: &str) -> Result<String, Fail> {
-    match target_of(&Mounted(folder), alloc, path) {
-        Ok(Target::Straight) => Ok("straight".to_string(folder.alloc())?),
-        Ok(Target::Nowhere) => Ok("nowhere".to_string(folder.alloc())?),
-        Ok(Target::Place(place, mode)) => {
-            let bits = mode.map(|mode| mode.mode() & MODE_BITS);
-            Ok(format!(in folder.alloc(); "{place} with {bits:?}")?)
-        }
-        Err(error) => {
-            let kind = error.kind();
-            Ok(format!(in folder.alloc(); "{kind:?}")?)
-        }
+/// Where a path leads: of a place its name and its access mode.
+#[derive(Clone, Copy, PartialEq, Eq)]
+enum Lead<'a> {
+    Straight,
+    Nowhere,
+    Place(&'a str, Option<u32>),
+    Fails(ErrorKind),
+}
+
+/// The access mode of a file that stands there.
+fn bits_of(mode: &Option<Permissions>) -> Option<u32> {
+    match mode {
+        Some(mode) => Some(mode.mode() & MODE_BITS),
+        None => None,
     }
 }
 
-/// Paths, where they lead, and how many calls tell it. In octal, 420 is 644.
-static PATHS: [(&str, &str, u32); 5] = [
-    ("image", "image with Some(420)", 2),
-    ("link", "image with Some(420)", 2),
-    ("inner", "nowhere", 1),
-    ("lost", "straight", 2),
-    ("other", "other with None", 2),
-];
+/// Whether a path leads there.
+fn leads<A: Allocator + Copy>(folder: &Folder, alloc: A, path: &str, lead: Lead) -> bool {
+    match &target_of(&Mounted(folder), alloc, path) {
+        Ok(Target::Straight) => lead == Lead::Straight,
+        Ok(Target::Nowhere) => lead == Lead::Nowhere,
+        Ok(Target::Place(place, mode)) => { lead == Lead::Place(place.as_str(), bits_of(mode)) }
+        Err(error) => lead == Lead::Fails(error.kind()),
+    }
+}
 
-/// Where a call fails, no file can be written there.
-#[test]
-fn where_a_path_leads(rt: HostRuntime) -> Result<(), Fail> {
-    for (path, text, calls) in &PATHS {
-        for failing in 0..=*calls {
-            let folder = Folder::holding(rt.alloc(), &EACH_KIND, Some(failing))?;
-            let text = if failing < *calls { "nowhere" } else { *text };
-            assert_eq!(rt;
-                leads_to(&folder, rt.alloc(), path)?.as_str(),
-                text,
-                "call {failing} at {path}"
-            );
+/// Whether a path leads there in the folder with something of each kind, where the call after so many others fails.
+fn leads_after(alloc: Global, calls: u32, path: &str, lead: Lead) -> io::Result<bool> {
+    let folder = Folder::holding(alloc, &EACH_KIND, Some(calls))?;
+    Ok(leads(&folder, alloc, path, lead))
+}
+
+/// Whether a path leads there where so many calls tell it; where one of them fails, no file can be written there.
+fn leads_by_calls(alloc: Global, calls: u32, path: &str, lead: Lead) -> io::Result<bool> {
+    for failing in 0..calls {
+        if !leads_after(alloc, failing, path, Lead::Nowhere)? {
+            return Ok(false);
         }
     }
+    leads_after(alloc, calls, path, lead)
+}
+
+#[test]
+fn where_a_path_leads(rt: HostRuntime) -> Result<(), Fail> {
+    let image = Lead::Place("image", Some(0o644));
+    assert!(rt; leads_by_calls(rt.alloc(), 2, "image", image)?);
+    assert!(rt; leads_by_calls(rt.alloc(), 2, "link", image)?);
+    assert!(rt; leads_by_calls(rt.alloc(), 1, "inner", Lead::Nowhere)?);
+    assert!(rt; leads_by_calls(rt.alloc(), 2, "lost", Lead::Straight)?);
+    assert!(rt; leads_by_calls(rt.alloc(), 2, "other", Lead::Place("other", None))?);
     Ok(())
+}
+
+/// Whether a path leads there where the block after so many others is refused.
+fn leads_over(alloc: Global, before: u64, path: &str, lead: Lead) -> io::Result<bool> {
+    let folder = Folder::holding(alloc, &EACH_KIND, None)?;
+    let heap = Refusing::one(alloc, before);
+    Ok(leads(&folder, &heap, path, lead))
 }
 
 /// Where a block is refused, the answer is want of memory.
 #[test]
 fn each_block_of_a_path_refused(rt: HostRuntime) -> Result<(), Fail> {
-    let folder = Folder::holding(rt.alloc(), &EACH_KIND, None)?;
-    for (path, before, text) in [
-        ("link", 0, "OutOfMemory"),
-        ("link", 1, "OutOfMemory"),
-        ("link", 2, "image with Some(420)"),
-        ("other", 0, "OutOfMemory"),
-        ("other", 1, "other with None"),
-    ] {
-        let heap = Refusing::one(rt.alloc(), before);
-        assert_eq!(rt; leads_to(&folder, &heap, path)?.as_str(), text);
-    }
+    let refused = Lead::Fails(ErrorKind::OutOfMemory);
+    assert!(rt; leads_over(rt.alloc(), 0, "link", refused)?);
+    assert!(rt; leads_over(rt.alloc(), 1, "link", refused)?);
+    assert!(rt; leads_over(rt.alloc(), 2, "link", Lead::Place("image", Some(0o644)))?);
+    assert!(rt; leads_over(rt.alloc(), 0, "other", refused)?);
+    assert!(rt; leads_over(rt.alloc(), 1, "other", Lead::Place("other", None))?);
     Ok(())
 }

@@ -1,4 +1,4 @@
-//! The writes that make the moves of a plan, in words.
+//! The writes that make the moves of a plan.
 ghost use Rattle.std.specs.Prelude.{◌≡◌, ◌<◌, [], length};
 ghost use Rattle.plan_writes.specs.Work.{LeadsToTarget, AreSpare};
 ghost use Rattle.vol_format.specs.Directory.{Directory};
@@ -15,49 +15,80 @@ use vol_format::Format;
 use vol_layout::Move;
 use write_laws::Mark;
 
-// Marks in words: each place that is marked used, or free.
-fn add_marks(text: &mut String, marks: &[Mark]) -> Result<(), AllocError> {
-    for mark in marks {
-        let place = mark.place;
-        if mark.free {
-            write!(text, " -{place}")?;
-        } else {
-            write!(text, " +{place}")?;
-        }
-    }
-    Ok(())
+// A write of an agenda: how many writes and moves are left before it, and of the map the places that it marks used, and those that it
+// then marks free.
+#[derive(Clone, Copy)]
+struct Step<'a> {
+    writes: usize,
+    moves: u32,
+    write: Write,
+    used: &'a [u32],
+    free: &'a [u32],
 }
 
-// A write in words.
-fn add_write(text: &mut String, write: Write) -> Result<(), AllocError> {
-    match write {
-        Write::Map(at) => write!(text, "map {at}")?,
-        Write::Copy(step) => {
-            let (part, to) = (step.part, step.to);
-            write!(text, "copy {part} to {to}")?;
-        }
-        Write::Pointer(step) => {
-            let (part, to) = (step.part, step.to);
-            write!(text, "point {part} to {to}")?;
-        }
+fn map<'a>((writes, moves): (usize, u32), used: &'a [u32], free: &'a [u32]) -> Step<'a> {
+    Step {
+        writes,
+        moves,
+        write: Write::Map(272),
+        used,
+        free,
     }
-    Ok(())
 }
 
-// What is left of an agenda, in words: before each write, how many writes and moves are left.
-fn text_of<A: Allocator>(alloc: Global, agenda: &mut Agenda<A>) -> Result<String, AllocError> {
-    let mut text = String::new(alloc);
-    for _ in 0..agenda.len() {
-        let (writes, moves) = (agenda.len(), agenda.moves_left());
-        write!(text, "{writes}/{moves} ")?;
-        if let Some(write) = agenda.next() {
-            add_write(&mut text, write)?;
+fn copy<'a>((writes, moves): (usize, u32), part: u32, to: u32) -> Step<'a> {
+    Step {
+        writes,
+        moves,
+        write: Write::Copy(Move { part, to }),
+        used: &[],
+        free: &[],
+    }
+}
+
+fn point<'a>((writes, moves): (usize, u32), part: u32, to: u32) -> Step<'a> {
+    Step {
+        writes,
+        moves,
+        write: Write::Pointer(Move { part, to }),
+        used: &[],
+        free: &[],
+    }
+}
+
+// Whether marks are of these places, in this order, and all of one kind.
+fn are_marks(marks: &[Mark], places: &[u32], free: bool) -> bool {
+    for (mark, place) in marks.iter().zip(places) {
+        if mark.place != *place || mark.free != free {
+            return false;
         }
-        add_marks(&mut text, agenda.marks())?;
-        text.push('\n')?;
+    }
+    marks.len() == places.len()
+}
+
+// Whether an agenda's next write is this one.
+fn is_next<A: Allocator>(agenda: &Agenda<A>, step: &Step) -> bool {
+    let marks = agenda.marks();
+    if step.used.len() > marks.len() {
+        return false;
+    }
+    let (used, free) = marks.split_at(step.used.len());
+    agenda.len() == step.writes
+        && agenda.moves_left() == step.moves
+        && agenda.next() == Some(step.write)
+        && are_marks(used, step.used, false)
+        && are_marks(free, step.free, true)
+}
+
+// Whether the writes of an agenda are these.
+fn goes<A: Allocator>(agenda: &mut Agenda<A>, steps: &[Step]) -> bool {
+    for step in steps {
+        if agenda.len() == 0 || !is_next(agenda, step) {
+            return false;
+        }
         agenda.advance();
     }
-    Ok(text)
+    agenda.next().is_none()
 }
 
 // The agenda for moves over the available places of a disk with DOS, or a data disk.
@@ -80,26 +111,6 @@ fn agenda_of<A: Allocator + Copy>(
     }
 }
 
-// The writes that make moves over the available places of a disk, in words.
-fn words_of(
-    alloc: Global,
-    data_disk: bool,
-    at: &[u32],
-    lost: &[u32],
-    moves: &[Move],
-) -> Result<String, AllocError>
-    requires plan { (directory : Directory) → directory.available ≡ dos_available data_disk [] → LeadsToTarget directory at.now moves.now }
-    requires spare { (directory : Directory) → directory.available ≡ dos_available data_disk [] → directory.map_size ≡ 560 → AreSpare directory at.now lost.now }
-    requires few { length moves.now < 4294967296 }
-{
-    let mut agenda = agenda_of(alloc, alloc, data_disk, at, lost, moves)?;
-    let mut text = text_of(alloc, &mut agenda)?;
-    if agenda.next().is_some() {
-        text.push_str("and more\n")?;
-    }
-    Ok(text)
-}
-
 /// The list and the one sector of its body have changed places: the first moves by way of the next place.
 #[test]
 fn two_parts_that_changed_places(rt: HostRuntime) -> Result<(), Fail> {
@@ -108,12 +119,18 @@ fn two_parts_that_changed_places(rt: HostRuntime) -> Result<(), Fail> {
         Move { part: 1, to: 1 },
         Move { part: 0, to: 0 },
     ];
-    let text = words_of(rt.alloc(), false, &[1, 0], &[], &moves)?;
-    assert_eq!(rt;
-        text.as_str(),
-        "8/3 map 272 +61\n7/3 copy 0 to 2\n6/3 point 0 to 2\n5/2 copy 1 to 1\n4/2 point 1 to 1\n\
-         3/1 copy 0 to 0\n2/1 point 0 to 0\n1/0 map 272 -61\n"
-    );
+    let mut agenda = agenda_of(rt.alloc(), rt.alloc(), false, &[1, 0], &[], &moves)?;
+    let steps = [
+        map((8, 3), &[61], &[]),
+        copy((7, 3), 0, 2),
+        point((6, 3), 0, 2),
+        copy((5, 2), 1, 1),
+        point((4, 2), 1, 1),
+        copy((3, 1), 0, 0),
+        point((2, 1), 0, 0),
+        map((1, 0), &[], &[61]),
+    ];
+    assert!(rt; goes(&mut agenda, &steps));
     Ok(())
 }
 
@@ -121,12 +138,16 @@ fn two_parts_that_changed_places(rt: HostRuntime) -> Result<(), Fail> {
 #[test]
 fn a_hole_is_filled(rt: HostRuntime) -> Result<(), Fail> {
     let moves = [Move { part: 1, to: 1 }, Move { part: 0, to: 0 }];
-    let text = words_of(rt.alloc(), false, &[3, 0, 2], &[], &moves)?;
-    assert_eq!(rt;
-        text.as_str(),
-        "6/2 map 272 +62\n5/2 copy 1 to 1\n4/2 point 1 to 1\n3/1 copy 0 to 0\n2/1 point 0 to 0\n\
-         1/0 map 272 -60\n"
-    );
+    let mut agenda = agenda_of(rt.alloc(), rt.alloc(), false, &[3, 0, 2], &[], &moves)?;
+    let steps = [
+        map((6, 2), &[62], &[]),
+        copy((5, 2), 1, 1),
+        point((4, 2), 1, 1),
+        copy((3, 1), 0, 0),
+        point((2, 1), 0, 0),
+        map((1, 0), &[], &[60]),
+    ];
+    assert!(rt; goes(&mut agenda, &steps));
     Ok(())
 }
 
@@ -138,42 +159,48 @@ fn lost_places_are_marked_free(rt: HostRuntime) -> Result<(), Fail> {
         40, 39, 38, 37, 36, 35, 34, 33, 32,
     ];
     let moves = [Move { part: 0, to: 0 }, Move { part: 1, to: 1 }];
-    let text = words_of(rt.alloc(), true, &[33, 32], &lost, &moves)?;
-    assert_eq!(rt;
-        text.as_str(),
-        "7/2 map 272 +31 -30 -29 -28 -27 -26 -25 -24 -23 -22 -21 -20 -19 -18 -17 -16 \
-         -47 -46 -45 -44 -43 -42 -41 -40 -39 -38 -37 -36 -35 -34 -33 -32\n\
-         6/2 copy 0 to 0\n5/2 point 0 to 0\n4/1 map 272 +30 -62\n3/1 copy 1 to 1\n2/1 point 1 to 1\n\
-         1/0 map 272 -63\n"
-    );
+    let mut agenda = agenda_of(rt.alloc(), rt.alloc(), true, &[33, 32], &lost, &moves)?;
+    let steps = [
+        map((7, 2), &[31], &lost[1..]),
+        copy((6, 2), 0, 0),
+        point((5, 2), 0, 0),
+        map((4, 1), &[30], &[62]),
+        copy((3, 1), 1, 1),
+        point((2, 1), 1, 1),
+        map((1, 0), &[], &[63]),
+    ];
+    assert!(rt; goes(&mut agenda, &steps));
     Ok(())
 }
 
 /// Without moves there is nothing to do but to mark the lost places free.
 #[test]
 fn no_moves(rt: HostRuntime) -> Result<(), Fail> {
-    let text = words_of(rt.alloc(), false, &[0, 1], &[], &[])?;
-    assert_eq!(rt; text.as_str(), "");
-    let text = words_of(rt.alloc(), false, &[0, 1], &[61], &[])?;
-    assert_eq!(rt; text.as_str(), "1/0 map 272 -61\n");
+    let mut agenda = agenda_of(rt.alloc(), rt.alloc(), false, &[0, 1], &[], &[])?;
+    assert!(rt; goes(&mut agenda, &[]));
+    let mut agenda = agenda_of(rt.alloc(), rt.alloc(), false, &[0, 1], &[61], &[])?;
+    assert!(rt; goes(&mut agenda, &[map((1, 0), &[], &[61])]));
     Ok(())
 }
 
-/// Where a block is refused, the answer is want of memory, and no block is asked after it.
-#[test]
-fn each_block_refused(rt: HostRuntime) -> Result<(), Fail> {
+// Whether the agenda for the parts that changed places is made over a heap, and how many blocks that asks for.
+fn made_over(alloc: Global, heap: Refusing<Global>) -> (bool, u64) {
     let moves = [
         Move { part: 0, to: 2 },
         Move { part: 1, to: 1 },
         Move { part: 0, to: 0 },
     ];
-    let whole = Refusing::none(rt.alloc());
-    assert!(rt; agenda_of(&whole, rt.alloc(), false, &[1, 0], &[], &moves).is_ok());
-    assert!(rt; whole.asked() > 2);
-    for before in 0..whole.asked() {
-        let heap = Refusing::one(rt.alloc(), before);
-        assert!(rt; agenda_of(&heap, rt.alloc(), false, &[1, 0], &[], &moves).is_err());
-        assert_eq!(rt; heap.asked(), before + 1);
+    let is_made = agenda_of(&heap, alloc, false, &[1, 0], &[], &moves).is_ok();
+    (is_made, heap.asked())
+}
+
+/// Where a block is refused, the answer is want of memory, and no block is asked after it.
+#[test]
+fn each_block_refused(rt: HostRuntime) {
+    let (is_made, asked) = made_over(rt.alloc(), Refusing::none(rt.alloc()));
+    assert!(rt; is_made && asked > 2);
+    for before in 0..asked {
+        let answer = made_over(rt.alloc(), Refusing::one(rt.alloc(), before));
+        assert!(rt; answer == (false, before + 1), "{before}");
     }
-    Ok(())
 }

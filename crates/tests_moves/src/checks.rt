@@ -1,79 +1,94 @@
 //! What a check tells of a volume that is accepted, and of one that is refused.
-ghost use Rattle.std.specs.Prelude.{◌≡◌, vec_len};
+ghost use Rattle.std.specs.Prelude.{◌≡◌, vec_len, IfOk};
 
 use crate::volumes::{dos33, failing_device};
 use a2_device::Device;
 use dos_format::DosVolume;
 use std::alloc::{AllocError, Global};
 use std::test::Fail;
-use test_volumes::{FIRST_CATALOG, VTOC, dos_device, dos_volume, hello, put, put_entry};
+use test_volumes::{FIRST_CATALOG, dos_device, dos_volume, hello, put, put_entry};
 use vol_check::{CheckError, Checked, check};
-use vol_parts::Part;
+use vol_parts::{Fault, Part, PartKind};
 
-// The parts of an accepted volume, one after the other.
-fn parts_text(alloc: Global, parts: &[Part]) -> Result<String, AllocError> {
-    let mut text = String::new(alloc);
-    for part in parts {
-        let kind = part.kind;
-        let (file, number, place) = (part.file, part.number, part.place);
-        write!(text, " {kind:?} {file} {number} at {place}")?;
-    }
-    Ok(text)
-}
-
-// What is told of an accepted volume.
-fn accepted_text(alloc: Global, checked: &Checked<DosVolume>) -> Result<String, AllocError> {
-    let parts = parts_text(alloc, checked.parts())?;
-    let layout = checked.layout().at();
-    let files = checked.files();
-    let available = checked.available();
-    let lost = checked.lost();
-    format!(in alloc; "files {files}:{parts}; layout {layout:?} of {available}; lost {lost:?}")
-}
-
-// What a check of a volume answers.
-fn told<D: Device>(alloc: Global, device: &mut D, data_disk: bool) -> Result<String, AllocError>
+// What a check of the volume on a device answers.
+fn checked<D: Device>(
+    alloc: Global,
+    device: &mut D,
+    data_disk: bool,
+) -> Result<Checked<DosVolume>, CheckError>
     requires unit { (D.state device.old).unit_size ≡ 256 }
     requires places { (D.state device.old).places ≡ 560 }
 {
     let format = dos33(alloc, data_disk)?;
-    match check(alloc, device, &format) {
-        Ok(checked) => accepted_text(alloc, &checked),
-        Err(CheckError::Faults(faults)) => {
-            let faults = faults.as_slice();
-            format!(in alloc; "{faults:?}")
-        }
-        Err(CheckError::Device) => "device".to_string(alloc),
-        Err(CheckError::Memory) => "memory".to_string(alloc),
-    }
+    check(alloc, device, &format)
 }
 
-fn told_of_image(alloc: Global, image: Vec<u8>) -> Result<String, AllocError>
+// What a check of the volume of an image answers.
+fn checked_image(
+    alloc: Global,
+    image: Vec<u8>,
+    data_disk: bool,
+) -> Result<Checked<DosVolume>, CheckError>
     requires { vec_len image ≡ 143360 }
 {
-    told(alloc, &mut dos_device(image), false)
+    checked(alloc, &mut dos_device(image), data_disk)
+}
+
+// The parts of `HELLO`.
+fn parts_of_hello() -> [Part; 2] {
+    [
+        Part {
+            file: 0,
+            kind: PartKind::List,
+            number: 0,
+            place: 62,
+        },
+        Part {
+            file: 0,
+            kind: PartKind::Body,
+            number: 0,
+            place: 63,
+        },
+    ]
+}
+
+// Whether `HELLO` is told of a volume, where its parts stand among so many available places, and which of these are lost.
+fn tells_hello(checked: &Checked<DosVolume>, at: &[u32], available: u32, lost: &[u32]) -> bool {
+    checked.files() == 1
+        && checked.parts() == parts_of_hello().as_slice()
+        && checked.layout().at() == at
+        && checked.available() == available
+        && checked.lost() == lost
 }
 
 #[test]
 fn a_volume_is_accepted(rt: HostRuntime) -> Result<(), Fail> {
-    let text = told_of_image(rt.alloc(), hello(rt.alloc())?)?;
-    assert_eq!(rt;
-        text.as_str(),
-        "files 1: List 0 0 at 62 Body 0 0 at 63; layout [1, 0] of 496; lost []"
-    );
+    let checked = checked_image(rt.alloc(), hello(rt.alloc())?, false)?;
+    assert!(rt; tells_hello(&checked, &[1, 0], 496, &[]));
     Ok(())
 }
 
+/// The places of tracks 1 and 2, in the order of available places.
+static TRACKS_1_AND_2: [u32; 32] = [
+    31, 30, 29, 28, 27, 26, 25, 24, 23, 22, 21, 20, 19, 18, 17, 16, 47, 46, 45, 44, 43, 42, 41, 40,
+    39, 38, 37, 36, 35, 34, 33, 32,
+];
+
 #[test]
 fn a_data_disk_has_lost_places(rt: HostRuntime) -> Result<(), Fail> {
-    let text = told(rt.alloc(), &mut dos_device(hello(rt.alloc())?), true)?;
-    assert_eq!(rt;
-        text.as_str(),
-        "files 1: List 0 0 at 62 Body 0 0 at 63; layout [33, 32] of 528; lost \
-         [31, 30, 29, 28, 27, 26, 25, 24, 23, 22, 21, 20, 19, 18, 17, 16, \
-         47, 46, 45, 44, 43, 42, 41, 40, 39, 38, 37, 36, 35, 34, 33, 32]"
-    );
+    let checked = checked_image(rt.alloc(), hello(rt.alloc())?, true)?;
+    assert!(rt; tells_hello(&checked, &[33, 32], 528, &TRACKS_1_AND_2));
     Ok(())
+}
+
+// Whether the volume of an image is refused for these faults, in this order.
+fn refuses(alloc: Global, image: Vec<u8>, faults: &[Fault]) -> bool
+    requires { vec_len image ≡ 143360 }
+{
+    match &checked_image(alloc, image, false) {
+        Err(CheckError::Faults(found)) => found.as_slice() == faults,
+        _ => false,
+    }
 }
 
 #[test]
@@ -81,30 +96,42 @@ fn lists_faults_in_the_order_of_the_parts(rt: HostRuntime) -> Result<(), Fail> {
     let mut image = hello(rt.alloc())?;
     put(&mut image, 62, 0x01, &[0x03, 0x0e]);
     put(&mut image, 62, 0x0c, &[0x11, 0x01, 0x23, 0x00]);
-    let text = told_of_image(rt.alloc(), image)?;
-    assert_eq!(rt;
-        text.as_str(),
-        "[InSystem(273), OutOfRange(62), Shared(62)]"
-    );
+    let faults = [
+        Fault::InSystem(273),
+        Fault::OutOfRange(62),
+        Fault::Shared(62),
+    ];
+    assert!(rt; refuses(rt.alloc(), image, &faults));
     Ok(())
+}
+
+// A volume with three files that have one list.
+fn three_with_one_list(alloc: Global) -> Result<Vec<u8>, AllocError>
+    ensures { IfOk result (λ image. vec_len image ≡ 143360) }
+{
+    let mut image = dos_volume(alloc, [0x3f, 0xff])?;
+    put_entry(&mut image, FIRST_CATALOG, 0, [3, 14], 0, b"ONE", 1);
+    put_entry(&mut image, FIRST_CATALOG, 1, [3, 14], 0, b"TWO", 1);
+    put_entry(&mut image, FIRST_CATALOG, 2, [3, 14], 0, b"THREE", 1);
+    Ok(image)
 }
 
 #[test]
 fn files_that_share_a_list_are_told_once_each(rt: HostRuntime) -> Result<(), Fail> {
-    let mut image = dos_volume(rt.alloc(), [0x3f, 0xff])?;
-    put_entry(&mut image, FIRST_CATALOG, 0, [3, 14], 0, b"ONE", 1);
-    put_entry(&mut image, FIRST_CATALOG, 1, [3, 14], 0, b"TWO", 1);
-    put_entry(&mut image, FIRST_CATALOG, 2, [3, 14], 0, b"THREE", 1);
-    let text = told_of_image(rt.alloc(), image)?;
-    assert_eq!(rt; text.as_str(), "[Shared(62), Shared(62)]");
+    let faults = [Fault::Shared(62), Fault::Shared(62)];
+    assert!(rt; refuses(rt.alloc(), three_with_one_list(rt.alloc())?, &faults));
     Ok(())
+}
+
+// Whether a check of a device whose next read fails is a failure of the device, and how many calls that has refused.
+fn failed(alloc: Global) -> Result<(bool, u64), AllocError> {
+    let mut device = failing_device(alloc)?;
+    let is_failure = matches!(&checked(alloc, &mut device, false), Err(CheckError::Device));
+    Ok((is_failure, device.faults()))
 }
 
 #[test]
 fn a_failed_read_is_told(rt: HostRuntime) -> Result<(), Fail> {
-    let mut device = failing_device(rt.alloc())?;
-    let text = told(rt.alloc(), &mut device, false)?;
-    assert_eq!(rt; text.as_str(), "device");
-    assert_eq!(rt; device.faults(), 1);
+    assert!(rt; failed(rt.alloc())? == (true, 1));
     Ok(())
 }

@@ -62,8 +62,8 @@ fn make_write(image: &mut [u8], number: u64)
     }
 }
 
-/// The volume with `HELLO` after so many of the eight writes.
-pub fn after_writes(alloc: Global, writes: u64) -> Result<Vec<u8>, AllocError>
+// The volume with `HELLO` after so many of the eight writes.
+fn after_writes(alloc: Global, writes: u64) -> Result<Vec<u8>, AllocError>
     ensures { IfOk result (λ image. vec_len image ≡ 143360) }
 {
     let mut image = hello(alloc)?;
@@ -71,4 +71,9 @@ pub fn after_writes(alloc: Global, writes: u64) -> Result<Vec<u8>, AllocError>
         make_write(&mut image, number + 1);
     }
     Ok(image)
+}
+
+/// Whether an image is that of the volume with `HELLO` after so many of the eight writes.
+pub fn stands(alloc: Global, image: &[u8], writes: u64) -> Result<bool, AllocError> {
+    Ok(image == after_writes(alloc, writes)?.as_slice())
 }

@@ -1,12 +1,12 @@
 //! The texts of certificates, what is read of them, and which are good.
 
-use crate::examples::{RINGS_AND_HOLE, add_numbers, in_reverse_order, layout_in};
+use crate::examples::{RINGS_AND_HOLE, in_reverse_order, layout_in};
 use move_plan::plan;
 use refusing::Refusing;
 use ring_cert::{Cert, CertError, CertFault, print, read, verify};
 use std::alloc::{AllocError, Global};
 use std::test::Fail;
-use vol_layout::Layout;
+use vol_layout::{Layout, Move};
 
 /// The certificate of the plan that exchanges two parts over three places, line by line.
 static LINES: [&str; 12] = [
@@ -64,43 +64,42 @@ fn printed_texts(rt: HostRuntime) -> Result<(), Fail> {
     for (at, places, text) in rows {
         let layout = layout_in(rt.alloc(), at, places)?;
         let printed = certificate_of(rt.alloc(), &layout)?;
-        assert_eq!(rt; printed.as_slice(), text);
+        assert!(rt; printed.as_slice() == text);
     }
     Ok(())
 }
 
-/// What a certificate tells, in words.
-fn words_of(alloc: Global, cert: &Cert) -> Result<String, AllocError> {
-    let (places, bound) = (cert.places, cert.bound);
-    let mut words = format!(in alloc; "{places} places, bound {bound}")?;
-    add_numbers(&mut words, "at", &cert.at)?;
-    add_numbers(&mut words, "off", &cert.off)?;
-    for ring in &cert.rings {
-        add_numbers(&mut words, "ring", ring.numbers())?;
+fn step(part: u32, to: u32) -> Move {
+    Move { part, to }
+}
+
+/// Whether a certificate has one ring, of these numbers.
+fn has_ring(cert: &Cert, numbers: &[u32]) -> bool {
+    match cert.rings.as_slice() {
+        [ring] => ring.numbers() == numbers,
+        _ => false,
     }
-    for step in &cert.moves {
-        add_numbers(&mut words, "move", &[step.part, step.to])?;
-    }
-    Ok(words)
+}
+
+/// Whether a certificate is that of `LINES`, where the first part stands at a place.
+fn tells(cert: &Cert, first: u32) -> bool {
+    (cert.places, cert.bound) == (3, 3)
+        && cert.at.as_slice() == [first, 0].as_slice()
+        && cert.off.as_slice() == [0, 1].as_slice()
+        && has_ring(cert, &[0, 1])
+        && cert.moves.as_slice() == [step(0, 2), step(1, 1), step(0, 0)].as_slice()
+}
+
+/// Whether that is read where the third line is another.
+fn is_read(alloc: Global, line: &str, first: u32) -> Result<bool, Fail> {
+    let text = with_line(alloc, 3, line)?;
+    Ok(tells(&read(alloc, text.as_slice())?, first))
 }
 
 #[test]
 fn what_is_read(rt: HostRuntime) -> Result<(), Fail> {
-    let rows = [
-        (
-            "AT 1",
-            "3 places, bound 3, at 1 0, off 0 1, ring 0 1, move 0 2, move 1 1, move 0 0",
-        ),
-        (
-            "AT 4294967295",
-            "3 places, bound 3, at 4294967295 0, off 0 1, ring 0 1, move 0 2, move 1 1, move 0 0",
-        ),
-    ];
-    for (line, words) in rows {
-        let text = with_line(rt.alloc(), 3, line)?;
-        let cert = read(rt.alloc(), text.as_slice())?;
-        assert_eq!(rt; words_of(rt.alloc(), &cert)?.as_str(), words);
-    }
+    assert!(rt; is_read(rt.alloc(), "AT 1", 1)?);
+    assert!(rt; is_read(rt.alloc(), "AT 4294967295", 4_294_967_295)?);
     Ok(())
 }
 
@@ -130,30 +129,34 @@ fn error_of(alloc: Global, text: &[u8]) -> Option<CertError> {
     read(alloc, text).err()
 }
 
+/// Why the certificate with other text in place of one line is none.
+fn error_with(alloc: Global, number: usize, line: &str) -> Result<Option<CertError>, AllocError> {
+    Ok(error_of(alloc, with_line(alloc, number, line)?.as_slice()))
+}
+
 #[test]
 fn lines_that_cannot_stand(rt: HostRuntime) -> Result<(), Fail> {
     for (number, line, fault) in &CHANGED {
-        let text = with_line(rt.alloc(), *number, line)?;
-        assert_eq!(rt;
-            error_of(rt.alloc(), text.as_slice()),
-            Some(CertError::Syntax(*fault)),
-            "{line:?} as line {number}"
-        );
+        let error = error_with(rt.alloc(), *number, line)?;
+        assert!(rt; error == Some(CertError::Syntax(*fault)), "{line:?} as line {number}");
     }
     Ok(())
 }
 
+/// Texts that end too soon or go on, and the first line that cannot stand.
+static OTHER_ENDS: [(&str, usize); 5] = [
+    ("", 1),
+    ("A2CERT 1", 1),
+    ("A2CERT 1\n", 2),
+    ("A2CERT 1\nPARTS 0 PLACES 3\nBOUND 0\nEND", 4),
+    ("A2CERT 1\nPARTS 0 PLACES 3\nBOUND 0\nEND\nx", 5),
+];
+
 #[test]
 fn texts_that_end_too_soon_or_go_on(rt: HostRuntime) {
-    let short = [
-        (b"".as_slice(), 1),
-        (b"A2CERT 1", 1),
-        (b"A2CERT 1\n", 2),
-        (b"A2CERT 1\nPARTS 0 PLACES 3\nBOUND 0\nEND", 4),
-        (b"A2CERT 1\nPARTS 0 PLACES 3\nBOUND 0\nEND\nx", 5),
-    ];
-    for (text, fault) in short {
-        assert_eq!(rt; error_of(rt.alloc(), text), Some(CertError::Syntax(fault)));
+    for (text, fault) in &OTHER_ENDS {
+        let error = error_of(rt.alloc(), text.as_bytes());
+        assert!(rt; error == Some(CertError::Syntax(*fault)), "{text:?}");
     }
 }
 
@@ -173,15 +176,16 @@ static FAULTS: [(usize, &str, Option<CertFault>); 12] = [
     (2, "PARTS 2 PLACES 4", Some(CertFault::OtherLayout)),
 ];
 
+/// What is wrong with the certificate with other text in place of one line.
+fn fault_with(alloc: Global, number: usize, line: &str) -> Result<Option<CertFault>, Fail> {
+    fault_of(alloc, with_line(alloc, number, line)?.as_slice())
+}
+
 #[test]
 fn good_and_refused(rt: HostRuntime) -> Result<(), Fail> {
     for (number, line, fault) in &FAULTS {
-        let text = with_line(rt.alloc(), *number, line)?;
-        assert_eq!(rt;
-            fault_of(rt.alloc(), text.as_slice())?,
-            *fault,
-            "{line:?} as line {number}"
-        );
+        let found = fault_with(rt.alloc(), *number, line)?;
+        assert!(rt; found == *fault, "{line:?} as line {number}");
     }
     Ok(())
 }
@@ -190,10 +194,7 @@ fn good_and_refused(rt: HostRuntime) -> Result<(), Fail> {
 fn plans_that_end_elsewhere(rt: HostRuntime) -> Result<(), Fail> {
     let elsewhere =
         b"A2CERT 1\nPARTS 2 PLACES 3\nAT 1\nAT 0\nOFF 0\nOFF 1\nRING 0 1\nBOUND 2\nMOVE 0 2\nMOVE 1 1\nEND\n";
-    assert_eq!(rt;
-        fault_of(rt.alloc(), elsewhere)?,
-        Some(CertFault::NotAtTarget)
-    );
+    assert!(rt; fault_of(rt.alloc(), elsewhere)? == Some(CertFault::NotAtTarget));
     Ok(())
 }
 
@@ -201,7 +202,7 @@ fn plans_that_end_elsewhere(rt: HostRuntime) -> Result<(), Fail> {
 fn bounds_that_do_not_add_up(rt: HostRuntime) -> Result<(), Fail> {
     let one_left_out =
         b"A2CERT 1\nPARTS 2 PLACES 3\nAT 1\nAT 0\nOFF 0\nRING 0 1\nBOUND 3\nMOVE 0 2\nMOVE 1 1\nMOVE 0 0\nEND\n";
-    assert_eq!(rt; fault_of(rt.alloc(), one_left_out)?, Some(CertFault::Sum));
+    assert!(rt; fault_of(rt.alloc(), one_left_out)? == Some(CertFault::Sum));
     Ok(())
 }
 
@@ -211,10 +212,7 @@ fn a_ring_told_twice(rt: HostRuntime) -> Result<(), Fail> {
     let text =
         b"A2CERT 1\nPARTS 6 PLACES 496\nAT 6\nAT 2\nAT 1\nAT 4\nAT 5\nAT 3\nOFF 1\nRING 1 2\nRING 2 1\nBOUND 3\nEND\n";
     let cert = read(rt.alloc(), text)?;
-    assert_eq!(rt;
-        verify(rt.alloc(), &layout, &cert).err(),
-        Some(CertFault::Repeated(2))
-    );
+    assert!(rt; verify(rt.alloc(), &layout, &cert).err() == Some(CertFault::Repeated(2)));
     Ok(())
 }
 
@@ -224,60 +222,82 @@ fn parts_in_reverse_order(rt: HostRuntime) -> Result<(), Fail> {
     let layout = in_reverse_order(rt.alloc())?;
     let text = certificate_of(rt.alloc(), &layout)?;
     let cert = read(rt.alloc(), text.as_slice())?;
-    assert_eq!(rt; cert.bound, 97_500);
+    assert!(rt; cert.bound == 97_500);
     assert!(rt; verify(rt.alloc(), &layout, &cert).is_ok());
     Ok(())
+}
+
+/// Whether the certificate of the plan for a layout is printed over a heap, and how many blocks that asks for.
+fn printed_over(
+    alloc: Global,
+    layout: &Layout,
+    heap: Refusing<Global>,
+) -> Result<(bool, u64), Fail> {
+    let found = plan(alloc, layout)?;
+    if found.misplaced.len() > 1_000_000 || found.rings.len() > 1_000_000 {
+        return Err("a bound that is too large")?;
+    }
+    let is_printed = print(&heap, layout, &found).is_ok();
+    Ok((is_printed, heap.asked()))
 }
 
 /// Where a block is refused, the answer is want of memory, and no block is asked after it.
 #[test]
 fn each_block_of_a_text_refused(rt: HostRuntime) -> Result<(), Fail> {
     let layout = layout_in(rt.alloc(), &RINGS_AND_HOLE, 496)?;
-    let found = plan(rt.alloc(), &layout)?;
-    assert!(rt; found.misplaced.len() < 1_000_000 && found.rings.len() < 1_000_000);
-    let whole = Refusing::none(rt.alloc());
-    assert!(rt; print(&whole, &layout, &found).is_ok());
-    assert!(rt; whole.asked() > 1);
-    for before in 0..whole.asked() {
-        let heap = Refusing::one(rt.alloc(), before);
-        assert!(rt; print(&heap, &layout, &found).is_err());
-        assert_eq!(rt; heap.asked(), before + 1);
+    let (is_printed, asked) = printed_over(rt.alloc(), &layout, Refusing::none(rt.alloc()))?;
+    assert!(rt; is_printed && asked > 1);
+    for before in 0..asked {
+        let answer = printed_over(rt.alloc(), &layout, Refusing::one(rt.alloc(), before))?;
+        assert!(rt; answer == (false, before + 1));
     }
     Ok(())
+}
+
+/// Why a text is not read over a heap, and how many blocks that asks for.
+fn read_over(text: &[u8], heap: Refusing<Global>) -> (Option<CertError>, u64) {
+    let error = read(&heap, text).err();
+    (error, heap.asked())
 }
 
 #[test]
 fn each_block_of_a_certificate_refused(rt: HostRuntime) -> Result<(), Fail> {
     let text = certificate_of(rt.alloc(), &layout_in(rt.alloc(), &RINGS_AND_HOLE, 496)?)?;
-    let whole = Refusing::none(rt.alloc());
-    assert!(rt; read(&whole, text.as_slice()).is_ok());
-    assert!(rt; whole.asked() > 5);
-    for before in 0..whole.asked() {
-        let heap = Refusing::one(rt.alloc(), before);
-        assert_eq!(rt; read(&heap, text.as_slice()).err(), Some(CertError::Memory));
-        assert_eq!(rt; heap.asked(), before + 1);
+    let (error, asked) = read_over(text.as_slice(), Refusing::none(rt.alloc()));
+    assert!(rt; error.is_none() && asked > 5);
+    for before in 0..asked {
+        let answer = read_over(text.as_slice(), Refusing::one(rt.alloc(), before));
+        assert!(rt; answer == (Some(CertError::Memory), before + 1));
     }
     Ok(())
 }
 
+/// What is wrong with a certificate for the layout of `LINES` where it is verified over a heap, and how many blocks that asks for.
+fn verified_over(
+    alloc: Global,
+    cert: &Cert,
+    heap: Refusing<Global>,
+) -> Result<(Option<CertFault>, u64), Fail> {
+    let layout = layout_in(alloc, &[1, 0], 3)?;
+    let fault = verify(&heap, &layout, cert).err();
+    Ok((fault, heap.asked()))
+}
+
+/// Certificates by one of their lines, and what is wrong with each.
+static VERDICTS: [(usize, &str, Option<CertFault>); 2] = [
+    (8, "BOUND 3", None),
+    (7, "RING 7 0 7", Some(CertFault::Repeated(7))),
+];
+
 #[test]
 fn each_block_of_a_verdict_refused(rt: HostRuntime) -> Result<(), Fail> {
-    let good = with_line(rt.alloc(), 8, "BOUND 3")?;
-    let strange = with_line(rt.alloc(), 7, "RING 7 0 7")?;
-    let layout = layout_in(rt.alloc(), &[1, 0], 3)?;
-    for text in [good, strange] {
-        let cert = read(rt.alloc(), text.as_slice())?;
-        let whole = Refusing::none(rt.alloc());
-        let answer = verify(&whole, &layout, &cert).err();
-        assert!(rt; answer != Some(CertFault::Memory));
-        assert!(rt; whole.asked() > 1);
-        for before in 0..whole.asked() {
-            let heap = Refusing::one(rt.alloc(), before);
-            assert_eq!(rt;
-                verify(&heap, &layout, &cert).err(),
-                Some(CertFault::Memory)
-            );
-            assert_eq!(rt; heap.asked(), before + 1);
+    for (number, line, stated) in &VERDICTS {
+        let cert = read(rt.alloc(), with_line(rt.alloc(), *number, line)?.as_slice())?;
+        let (fault, asked) = verified_over(rt.alloc(), &cert, Refusing::none(rt.alloc()))?;
+        assert!(rt; fault == *stated && asked > 1);
+        for before in 0..asked {
+            let answer = verified_over(rt.alloc(), &cert, Refusing::one(rt.alloc(), before))?;
+            assert!(rt; answer == (Some(CertFault::Memory), before + 1));
         }
     }
     Ok(())

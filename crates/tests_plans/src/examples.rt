@@ -1,6 +1,6 @@
 //! Layouts that several tests share.
 
-use std::alloc::{AllocError, Allocator, Global};
+use std::alloc::{Allocator, Global};
 use std::test::Fail;
 use vol_layout::{Layout, LayoutError};
 
@@ -23,13 +23,4 @@ pub fn in_reverse_order(alloc: Global) -> Result<Layout, Fail> {
         at.push(64_999 - k)?;
     }
     Ok(Layout::new(alloc, at, 65_001)?)
-}
-
-/// Adds a word and the numbers that it names to a text.
-pub fn add_numbers(text: &mut String, word: &str, numbers: &[u32]) -> Result<(), AllocError> {
-    write!(text, ", {word}")?;
-    for number in numbers {
-        write!(text, " {number}")?;
-    }
-    Ok(())
 }

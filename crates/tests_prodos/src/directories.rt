@@ -1,20 +1,86 @@
+//! Directories, their entries and their faults.
 ghost use Rattle.std.specs.Prelude.{◌≡◌, ◌<◌, length};
 
 use a2_device::FaultDevice;
 use bitflags::Flags;
-use pro_dir::{ProDate, VolumeDir};
-use refusing::Refusing;
+use pro_dir::{Entry, ProDate, VolumeDir};
 use std::alloc::{AllocError, Allocator, Global};
 use std::test::Fail;
 use test_volumes::{block_device, put_in_block, tree, tree_and_subdirectory};
 use vol_parts::{Fault, WalkError};
 
 // The directories of a volume, with memory of their own.
-fn walked<A: Allocator + Copy>(alloc: A, image: Vec<u8>) -> Result<VolumeDir<A>, WalkError> {
+pub fn volume_of<A: Allocator + Copy>(alloc: A, image: Vec<u8>) -> Result<VolumeDir<A>, WalkError> {
     match block_device(image) {
         Some(mut device) => VolumeDir::walk(alloc, &mut device),
         None => Err(WalkError::Device),
     }
+}
+
+// Where an entry stands: its directory, its block and its slot there.
+fn stands_at(entry: &Entry, directory: u32, place: u32, slot: u32) -> bool {
+    entry.directory == directory && entry.place == place && entry.slot == slot
+}
+
+// Whether the fields of an entry are those of `BIG`.
+fn is_big(entry: &Entry) -> bool {
+    entry.name() == b"BIG".as_slice()
+        && !entry.is_directory()
+        && (entry.storage(), entry.kind(), entry.key()) == (3, 0x06, 7)
+        && (entry.blocks_used(), entry.eof(), entry.aux()) == (3, 131_075, 0)
+        && (entry.access().bits(), entry.header()) == (0xe3, 2)
+        && entry.modified() == ProDate([0xa1, 0xac, 0x1e, 0x0c])
+}
+
+#[test]
+fn the_header_of_a_volume(rt: HostRuntime) -> Result<(), Fail> {
+    let volume = volume_of(rt.alloc(), tree(rt.alloc())?)?;
+    assert!(rt; volume.name() == b"WORK".as_slice());
+    assert!(rt; (volume.total(), volume.bitmap()) == (280, 6));
+    assert!(rt; volume.blocks() == [2, 3, 4, 5].as_slice());
+    assert!(rt; volume.free_slot(2) == Some((2, 2)));
+    Ok(())
+}
+
+#[test]
+fn walks_over_one_file(rt: HostRuntime) -> Result<(), Fail> {
+    let volume = volume_of(rt.alloc(), tree(rt.alloc())?)?;
+    assert!(rt; volume.entries().len() == 1);
+    let entry = &volume.entries()[0];
+    assert!(rt; stands_at(entry, 2, 2, 1) && is_big(entry));
+    Ok(())
+}
+
+// Whether an entry is that of the seedling `A`, which has no date.
+fn is_a(entry: &Entry) -> bool {
+    entry.name() == b"A".as_slice() && entry.modified().to_civil().is_none()
+}
+
+#[test]
+fn walks_into_a_subdirectory(rt: HostRuntime) -> Result<(), Fail> {
+    let volume = volume_of(rt.alloc(), tree_and_subdirectory(rt.alloc())?)?;
+    assert!(rt; volume.blocks() == [2, 3, 4, 5, 10].as_slice());
+    assert!(rt; volume.entries().len() == 3);
+    assert!(rt; volume.entries()[1].is_directory());
+    let inside = &volume.entries()[2];
+    assert!(rt; stands_at(inside, 10, 10, 1) && is_a(inside));
+    Ok(())
+}
+
+/// Key blocks of directories, and the block and the number of the first free slot of each.
+static FREE_SLOTS: [(u32, Option<(u32, u32)>); 3] = [
+    (2, Some((2, 3))),
+    (10, Some((10, 2))),
+    (11, None),
+];
+
+#[test]
+fn free_slots_of_a_subdirectory(rt: HostRuntime) -> Result<(), Fail> {
+    let volume = volume_of(rt.alloc(), tree_and_subdirectory(rt.alloc())?)?;
+    for (directory, slot) in &FREE_SLOTS {
+        assert!(rt; volume.free_slot(*directory) == *slot);
+    }
+    Ok(())
 }
 
 // The fault of the volume with a subdirectory where one byte is changed.
@@ -23,119 +89,66 @@ fn fault_of(
     place: usize,
     offset: usize,
     byte: u8,
-) -> Result<Option<Fault>, AllocError> {
+) -> Result<Option<WalkError>, AllocError> {
     let mut image = tree_and_subdirectory(alloc)?;
     if place < 280 && offset < 512 {
         put_in_block(&mut image, place, offset, &[byte]);
     }
-    match walked(alloc, image) {
-        Err(WalkError::Fault(fault)) => Ok(Some(fault)),
-        Err(WalkError::Memory) => Err(AllocError),
-        _ => Ok(None),
-    }
+    Ok(volume_of(alloc, image).err())
 }
 
-#[test]
-fn walks_over_one_file(rt: HostRuntime) -> Result<(), Fail> {
-    let volume = walked(rt.alloc(), tree(rt.alloc())?)?;
-    assert_eq!(rt; volume.name(), b"WORK".as_slice());
-    assert_eq!(rt; (volume.total(), volume.bitmap()), (280, 6));
-    assert_eq!(rt; volume.blocks(), [2, 3, 4, 5].as_slice());
-    assert_eq!(rt; volume.entries().len(), 1);
-    let entry = volume.entries()[0];
-    assert_eq!(rt; (entry.directory, entry.place, entry.slot), (2, 2, 1));
-    assert_eq!(rt; (entry.storage(), entry.kind()), (3, 0x06));
-    assert_eq!(rt; entry.name(), b"BIG".as_slice());
-    assert_eq!(rt;
-        (entry.key(), entry.blocks_used(), entry.eof()),
-        (7, 3, 131_075)
-    );
-    assert_eq!(rt;
-        (entry.access().bits(), entry.aux(), entry.header()),
-        (0xe3, 0, 2)
-    );
-    assert_eq!(rt; entry.modified(), ProDate([0xa1, 0xac, 0x1e, 0x0c]));
-    assert!(rt; !entry.is_directory());
-    assert_eq!(rt; volume.free_slot(2), Some((2, 2)));
-    Ok(())
-}
+/// Bytes of blocks, and the faults that they make.
+static FAULTS: [(usize, usize, u8, Option<Fault>); 19] = [
+    // Of the volume.
+    (2, 0x04, 0xe4, Some(Fault::Geometry(2))),
+    (2, 0x23, 0x26, Some(Fault::Geometry(2))),
+    (2, 0x24, 0x0c, Some(Fault::Geometry(2))),
+    (2, 0x29, 0x17, Some(Fault::Geometry(2))),
+    (2, 0x02, 0x02, Some(Fault::DirLink(2))),
+    (3, 0x02, 0x01, Some(Fault::DirLink(3))),
+    (5, 0x03, 0x80, Some(Fault::DirLink(5))),
+    (2, 0x27, 0x03, Some(Fault::MapPointer(2))),
+    (2, 0x27, 0x01, Some(Fault::MapPointer(2))),
+    (2, 0x28, 0x80, Some(Fault::MapPointer(2))),
+    // Of its subdirectory.
+    (2, 0x63, 0, Some(Fault::DirLink(2))),
+    (2, 0x63, 1, Some(Fault::DirLink(2))),
+    (2, 0x63, 5, Some(Fault::DirLink(2))),
+    (10, 0x04, 0xd3, Some(Fault::DirLink(2))),
+    (10, 0x23, 0x28, Some(Fault::Geometry(10))),
+    (10, 0x24, 0x0e, Some(Fault::Geometry(10))),
+    (10, 0x02, 10, Some(Fault::DirLink(10))),
+    (10, 0x2b, 0xd1, Some(Fault::DirLink(10))),
+    (10, 0x00, 7, None),
+];
 
 #[test]
-fn walks_into_a_subdirectory(rt: HostRuntime) -> Result<(), Fail> {
-    let volume = walked(rt.alloc(), tree_and_subdirectory(rt.alloc())?)?;
-    assert_eq!(rt; volume.blocks(), [2, 3, 4, 5, 10].as_slice());
-    assert_eq!(rt; volume.entries().len(), 3);
-    assert!(rt; volume.entries()[1].is_directory());
-    let inside = volume.entries()[2];
-    assert_eq!(rt; (inside.directory, inside.place, inside.slot), (10, 10, 1));
-    assert_eq!(rt; inside.name(), b"A".as_slice());
-    assert_eq!(rt; inside.modified().to_civil(), None);
-    assert_eq!(rt; volume.free_slot(2), Some((2, 3)));
-    assert_eq!(rt; volume.free_slot(10), Some((10, 2)));
-    assert_eq!(rt; volume.free_slot(11), None);
-    Ok(())
-}
-
-#[test]
-fn tells_faults_of_the_volume(rt: HostRuntime) -> Result<(), Fail> {
-    for (place, offset, byte, fault) in [
-        (2, 0x04, 0xe4, Fault::Geometry(2)),
-        (2, 0x23, 0x26, Fault::Geometry(2)),
-        (2, 0x24, 0x0c, Fault::Geometry(2)),
-        (2, 0x29, 0x17, Fault::Geometry(2)),
-        (2, 0x02, 0x02, Fault::DirLink(2)),
-        (3, 0x02, 0x01, Fault::DirLink(3)),
-        (5, 0x03, 0x80, Fault::DirLink(5)),
-        (2, 0x27, 0x03, Fault::MapPointer(2)),
-        (2, 0x27, 0x01, Fault::MapPointer(2)),
-        (2, 0x28, 0x80, Fault::MapPointer(2)),
-    ] {
-        assert_eq!(rt; fault_of(rt.alloc(), place, offset, byte)?, Some(fault));
+fn tells_faults(rt: HostRuntime) -> Result<(), Fail> {
+    for (place, offset, byte, fault) in &FAULTS {
+        let error = fault_of(rt.alloc(), *place, *offset, *byte)?;
+        assert!(rt;
+            error == fault.map(WalkError::Fault),
+            "{place} {offset} {byte}"
+        );
     }
     Ok(())
 }
 
-#[test]
-fn tells_faults_of_a_subdirectory(rt: HostRuntime) -> Result<(), Fail> {
-    for (place, offset, byte, fault) in [
-        (2, 0x63, 0, Some(Fault::DirLink(2))),
-        (2, 0x63, 1, Some(Fault::DirLink(2))),
-        (2, 0x63, 5, Some(Fault::DirLink(2))),
-        (10, 0x04, 0xd3, Some(Fault::DirLink(2))),
-        (10, 0x23, 0x28, Some(Fault::Geometry(10))),
-        (10, 0x24, 0x0e, Some(Fault::Geometry(10))),
-        (10, 0x02, 10, Some(Fault::DirLink(10))),
-        (10, 0x2b, 0xd1, Some(Fault::DirLink(10))),
-        (10, 0x00, 7, None),
-    ] {
-        assert_eq!(rt; fault_of(rt.alloc(), place, offset, byte)?, fault);
-    }
-    Ok(())
-}
-
-#[test]
-fn each_refused_block_is_told(rt: HostRuntime) -> Result<(), Fail> {
-    let whole = Refusing::none(rt.alloc());
-    assert!(rt; walked(&whole, tree_and_subdirectory(rt.alloc())?).is_ok());
-    assert!(rt; whole.asked() > 0);
-    for before in 0..whole.asked() {
-        let heap = Refusing::one(rt.alloc(), before);
-        let result = walked(&heap, tree_and_subdirectory(rt.alloc())?);
-        assert!(rt; matches!(&result, Err(WalkError::Memory)));
-    }
-    Ok(())
+// Why two walks end over a device whose next read fails.
+fn failed(alloc: Global) -> Result<[Option<WalkError>; 2], AllocError> {
+    let Some(inner) = block_device(tree(alloc)?) else {
+        return Ok([None; 2]);
+    };
+    let mut device = FaultDevice::new(inner);
+    device.fail_read();
+    let first = VolumeDir::walk(alloc, &mut device).err();
+    let then = VolumeDir::walk(alloc, &mut device).err();
+    Ok([first, then])
 }
 
 #[test]
 fn a_failed_read_is_told(rt: HostRuntime) -> Result<(), Fail> {
-    let Some(inner) = block_device(tree(rt.alloc())?) else {
-        return Err("no blocks".into());
-    };
-    let mut device = FaultDevice::new(inner);
-    device.fail_read();
-    let result = VolumeDir::walk(rt.alloc(), &mut device);
-    assert!(rt; matches!(&result, Err(WalkError::Device)));
-    assert!(rt; VolumeDir::walk(rt.alloc(), &mut device).is_ok());
+    assert!(rt; failed(rt.alloc())? == [Some(WalkError::Device), None]);
     Ok(())
 }
 
@@ -165,32 +178,9 @@ fn nested(alloc: Global) -> Result<Vec<u8>, AllocError> {
 }
 
 #[test]
-fn entries_have_paths(rt: HostRuntime) -> Result<(), Fail> {
-    let volume = walked(rt.alloc(), tree_and_subdirectory(rt.alloc())?)?;
-    let paths = ["BIG", "SUB", "SUB/A"];
-    assert_eq!(rt; volume.entries().len(), paths.len());
-    for entry in 0..paths.len() {
-        let path = paths[entry];
-        let entry = entry as u32;
-        assert_eq!(rt; volume.path(rt.alloc(), entry)?.as_slice(), path.as_bytes());
-        for given in [
-            "BIG", "SUB", "SUB/A", "sub/a", "A", "/SUB/A", "SUB/", "SUB/A/", "",
-        ] {
-            let same = given.to_ascii_uppercase(rt.alloc())?;
-            assert_eq!(rt;
-                volume.has_path(entry, given.as_bytes()),
-                same.as_str() == path
-            );
-        }
-    }
-    Ok(())
-}
-
-#[test]
 fn walks_into_deep_nesting(rt: HostRuntime) -> Result<(), Fail> {
-    let volume = walked(rt.alloc(), nested(rt.alloc())?)?;
-    assert_eq!(rt; volume.entries().len(), 273);
-    assert_eq!(rt; volume.blocks().len(), 277);
-    assert_eq!(rt; volume.free_slot(200), Some((200, 2)));
+    let volume = volume_of(rt.alloc(), nested(rt.alloc())?)?;
+    assert!(rt; volume.entries().len() == 273 && volume.blocks().len() == 277);
+    assert!(rt; volume.free_slot(200) == Some((200, 2)));
     Ok(())
 }

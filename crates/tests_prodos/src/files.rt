@@ -1,15 +1,15 @@
+//! Walks over the parts of one file.
 ghost use Rattle.std.specs.Prelude.{◌≡◌, vec_len, IfOk};
 
 use a2_device::{Device, FaultDevice};
 use pro_tree::walk;
-use refusing::Refusing;
 use std::alloc::{AllocError, Allocator, Global};
 use std::test::Fail;
 use test_volumes::{IMAGE_BYTES, block_device, put_in_block};
-use vol_parts::{Part, WalkError};
+use vol_parts::{Fault, Part, PartKind, WalkError};
 
 // A disk of 140K with a master index in block 7, whose indexes 0 and 2 are blocks 8 and 10.
-fn tree(alloc: Global) -> Result<Vec<u8>, AllocError>
+pub fn tree(alloc: Global) -> Result<Vec<u8>, AllocError>
     ensures { IfOk result (λ image. vec_len image ≡ 143360) }
 {
     let mut image = vec![in alloc; 0; IMAGE_BYTES]?;
@@ -21,7 +21,7 @@ fn tree(alloc: Global) -> Result<Vec<u8>, AllocError>
 }
 
 // The parts of file 3, whose entry stands in block 2, with memory of their own.
-fn walked<A: Allocator + Copy>(
+pub fn walked<A: Allocator + Copy>(
     alloc: A,
     image: Vec<u8>,
     storage: u8,
@@ -33,84 +33,103 @@ fn walked<A: Allocator + Copy>(
     }
 }
 
-// What a walk answers, as a line.
-fn line(alloc: Global, image: Vec<u8>, storage: u8, key: u32) -> Result<String, AllocError> {
-    let mut text = String::new(alloc);
-    match walked(alloc, image, storage, key) {
-        Ok(parts) => {
-            for part in parts.iter() {
-                let (file, kind, number, place) = (part.file, part.kind, part.number, part.place);
-                write!(text, "{file} {kind:?} {number} at {place};")?;
-            }
-        }
-        Err(WalkError::Fault(fault)) => write!(text, "{fault:?}")?,
-        Err(error) => write!(text, "{error}")?,
+// Whether a walk over that disk gives these parts.
+fn gives(alloc: Global, storage: u8, key: u32, parts: &[Part]) -> Result<bool, Fail> {
+    let found = walked(alloc, tree(alloc)?, storage, key)?;
+    Ok(found.as_slice() == parts)
+}
+
+fn part(kind: PartKind, number: u32, place: u32) -> Part {
+    Part {
+        file: 3,
+        kind,
+        number,
+        place,
     }
-    Ok(text)
 }
 
 #[test]
-fn parts_in_order(rt: HostRuntime) -> Result<(), Fail> {
-    for (storage, key, answer) in [
-        (1, 9, "3 Body 0 at 9;"),
-        (1, 0, ""),
-        (2, 8, "3 Index 0 at 8;3 Body 0 at 9;3 Body 2 at 279;"),
-        (
-            3,
-            7,
-            "3 Master 0 at 7;3 Index 0 at 8;3 Body 0 at 9;3 Body 2 at 279;3 Index 2 at 10;3 Body 767 at 11;",
-        ),
-        (1, 280, "OutOfRange(2)"),
-        (4, 9, "StorageType(2)"),
-        (13, 9, "StorageType(2)"),
-    ] {
-        let text = line(rt.alloc(), tree(rt.alloc())?, storage, key)?;
-        assert_eq!(rt; text.as_str(), answer);
-    }
+fn parts_of_a_seedling(rt: HostRuntime) -> Result<(), Fail> {
+    assert!(rt; gives(rt.alloc(), 1, 9, &[part(PartKind::Body, 0, 9)])?);
+    assert!(rt; gives(rt.alloc(), 1, 0, &[])?);
     Ok(())
 }
+
+#[test]
+fn parts_of_a_sapling(rt: HostRuntime) -> Result<(), Fail> {
+    let parts = [
+        part(PartKind::Index, 0, 8),
+        part(PartKind::Body, 0, 9),
+        part(PartKind::Body, 2, 279),
+    ];
+    assert!(rt; gives(rt.alloc(), 2, 8, &parts)?);
+    Ok(())
+}
+
+#[test]
+fn parts_of_a_tree(rt: HostRuntime) -> Result<(), Fail> {
+    let parts = [
+        part(PartKind::Master, 0, 7),
+        part(PartKind::Index, 0, 8),
+        part(PartKind::Body, 0, 9),
+        part(PartKind::Body, 2, 279),
+        part(PartKind::Index, 2, 10),
+        part(PartKind::Body, 767, 11),
+    ];
+    assert!(rt; gives(rt.alloc(), 3, 7, &parts)?);
+    Ok(())
+}
+
+// The fault of a walk over that disk where a byte of a block is changed.
+fn fault_of(
+    alloc: Global,
+    (block, at, byte): (usize, usize, u8),
+    (storage, key): (u8, u32),
+) -> Result<Option<WalkError>, AllocError> {
+    let mut image = tree(alloc)?;
+    if block < 280 && at < 512 {
+        put_in_block(&mut image, block, at, &[byte]);
+    }
+    Ok(walked(alloc, image, storage, key).err())
+}
+
+/// A byte of a block that is changed, the storage type and the key of the file, and the fault.
+static FAULTS: [((usize, usize, u8), (u8, u32), Fault); 8] = [
+    ((7, 3, 8), (3, 7), Fault::Shared(8)),
+    ((7, 5, 9), (3, 7), Fault::Shared(9)),
+    ((10, 0, 7), (3, 7), Fault::Shared(7)),
+    ((10, 256, 2), (3, 7), Fault::OutOfRange(10)),
+    ((7, 257, 3), (3, 7), Fault::OutOfRange(7)),
+    ((0, 0, 0), (1, 280), Fault::OutOfRange(2)),
+    ((0, 0, 0), (4, 9), Fault::StorageType(2)),
+    ((0, 0, 0), (13, 9), Fault::StorageType(2)),
+];
 
 #[test]
 fn names_the_fault(rt: HostRuntime) -> Result<(), Fail> {
-    for (place, offset, low, answer) in [
-        (7, 3, 8, "Shared(8)"),
-        (7, 5, 9, "Shared(9)"),
-        (10, 0, 7, "Shared(7)"),
-        (10, 256, 2, "OutOfRange(10)"),
-        (7, 257, 3, "OutOfRange(7)"),
-    ] {
-        let mut image = tree(rt.alloc())?;
-        put_in_block(&mut image, place, offset, &[low]);
-        let text = line(rt.alloc(), image, 3, 7)?;
-        assert_eq!(rt; text.as_str(), answer);
+    for (change, root, fault) in &FAULTS {
+        let found = fault_of(rt.alloc(), *change, *root)?;
+        assert!(rt; found == Some(WalkError::Fault(*fault)), "{fault:?}");
     }
     Ok(())
 }
 
-#[test]
-fn each_refused_block_is_told(rt: HostRuntime) -> Result<(), Fail> {
-    let whole = Refusing::none(rt.alloc());
-    assert!(rt; walked(&whole, tree(rt.alloc())?, 3, 7).is_ok());
-    assert!(rt; whole.asked() > 0);
-    for before in 0..whole.asked() {
-        let heap = Refusing::one(rt.alloc(), before);
-        let result = walked(&heap, tree(rt.alloc())?, 3, 7);
-        assert!(rt; matches!(&result, Err(WalkError::Memory)));
-    }
-    Ok(())
-}
-
-// The index of a sapling is read, and units of the body are not.
-#[test]
-fn failed_read_is_told(rt: HostRuntime) -> Result<(), Fail> {
-    let Some(inner) = block_device(tree(rt.alloc())?) else {
-        return Err("no blocks".into());
+// Why two walks over a device whose next read fails end, and how many calls the device has refused. The first is over a seedling, of
+// which no block is read, the second over a sapling.
+fn failed(alloc: Global) -> Result<([Option<WalkError>; 2], u64), AllocError> {
+    let Some(inner) = block_device(tree(alloc)?) else {
+        return Ok(([None; 2], 0));
     };
     let mut device = FaultDevice::new(inner);
     device.fail_read();
-    assert!(rt; walk(rt.alloc(), &mut device, 3, 1, 9, 2).is_ok());
-    let result = walk(rt.alloc(), &mut device, 3, 2, 8, 2);
-    assert!(rt; matches!(&result, Err(WalkError::Device)));
-    assert_eq!(rt; device.faults(), 1);
+    let seedling = walk(alloc, &mut device, 3, 1, 9, 2).err();
+    let sapling = walk(alloc, &mut device, 3, 2, 8, 2).err();
+    Ok(([seedling, sapling], device.faults()))
+}
+
+#[test]
+fn failed_read_is_told(rt: HostRuntime) -> Result<(), Fail> {
+    let (errors, faults) = failed(rt.alloc())?;
+    assert!(rt; errors == [None, Some(WalkError::Device)] && faults == 1);
     Ok(())
 }

@@ -3,6 +3,10 @@
 #![tactic(auto)]
 
 #[cfg(test)]
+mod checks;
+#[cfg(test)]
+mod dates;
+#[cfg(test)]
 mod directories;
 #[cfg(test)]
 mod files;
@@ -10,6 +14,10 @@ mod files;
 mod formats;
 #[cfg(test)]
 mod maps;
+#[cfg(test)]
+mod memory;
+#[cfg(test)]
+mod paths;
 #[cfg(test)]
 mod pointers;
 #[cfg(test)]

@@ -1,7 +1,9 @@
+//! The maps of free blocks.
+ghost use Rattle.std.specs.Prelude.{◌≡◌, IfOk};
+
 use a2_device::{Device, FaultDevice};
 use pro_bitmap::Bitmap;
-use refusing::Refusing;
-use std::alloc::Allocator;
+use std::alloc::{AllocError, Allocator, Global};
 use std::test::Fail;
 use test_volumes::{LARGE_BYTES, block_device, put_in_block, seedlings_far_out, tree};
 use vol_parts::WalkError;
@@ -10,7 +12,7 @@ use vol_parts::WalkError;
 const FIRST: u32 = 6;
 
 // The bitmap from block 6 on of a volume as large as its image, with memory of its own.
-fn bitmap_of<A: Allocator + Copy>(alloc: A, image: Vec<u8>) -> Result<Bitmap<A>, WalkError> {
+pub fn bitmap_of<A: Allocator + Copy>(alloc: A, image: Vec<u8>) -> Result<Bitmap<A>, WalkError> {
     let Some(mut device) = block_device(image) else {
         return Err(WalkError::Device);
     };
@@ -21,14 +23,22 @@ fn bitmap_of<A: Allocator + Copy>(alloc: A, image: Vec<u8>) -> Result<Bitmap<A>,
     Bitmap::read(alloc, &mut device, FIRST, total)
 }
 
+// Whether so many blocks are free, and these are the next free ones from others on.
+fn has_free(bitmap: &Bitmap, count: u32, rows: &[(u32, Option<u32>)]) -> bool {
+    for (from, next) in rows {
+        if bitmap.next_free(*from) != *next {
+            return false;
+        }
+    }
+    bitmap.free_count() == count
+}
+
 /// Of 280 blocks the first ten are used.
 #[test]
 fn reads_one_block(rt: HostRuntime) -> Result<(), Fail> {
     let bitmap = bitmap_of(rt.alloc(), tree(rt.alloc())?)?;
-    assert_eq!(rt; bitmap.free_count(), 270);
-    for (from, next) in [(0, Some(10)), (10, Some(10)), (279, Some(279)), (280, None)] {
-        assert_eq!(rt; bitmap.next_free(from), next);
-    }
+    let rows = [(0, Some(10)), (10, Some(10)), (279, Some(279)), (280, None)];
+    assert!(rt; has_free(&bitmap, 270, &rows));
     Ok(())
 }
 
@@ -36,70 +46,73 @@ fn reads_one_block(rt: HostRuntime) -> Result<(), Fail> {
 #[test]
 fn reads_two_blocks(rt: HostRuntime) -> Result<(), Fail> {
     let bitmap = bitmap_of(rt.alloc(), seedlings_far_out(rt.alloc())?)?;
-    assert_eq!(rt; bitmap.free_count(), 8_182);
-    for (from, next) in [
+    let rows = [
         (0, Some(8)),
         (4_999, Some(4_999)),
         (5_000, Some(5_002)),
         (8_192, None),
-    ] {
-        assert_eq!(rt; bitmap.next_free(from), next);
-    }
+    ];
+    assert!(rt; has_free(&bitmap, 8_182, &rows));
     Ok(())
+}
+
+// The map of a volume of 8,192 blocks, of which those from 5,002 to 5,007 alone are free.
+fn nearly_full(alloc: Global) -> Result<Bitmap, WalkError>
+    ensures { IfOk result (λ map. (map.first ≡ 6) × (map.total ≡ 8192)) }
+{
+    let mut image = vec![in alloc; 0; LARGE_BYTES]?;
+    put_in_block(&mut image, 7, 0x71, &[0x3f]);
+    match block_device(image) {
+        Some(mut device) => Bitmap::read(alloc, &mut device, FIRST, 8_192),
+        None => Err(WalkError::Device),
+    }
 }
 
 #[test]
 fn marks_and_releases_blocks(rt: HostRuntime) -> Result<(), Fail> {
-    let mut image = vec![in rt.alloc(); 0; LARGE_BYTES]?;
-    put_in_block(&mut image, 7, 0x71, &[0x3f]);
-    let Some(mut device) = block_device(image) else {
-        return Err("no blocks".into());
-    };
-    let mut bitmap = Bitmap::read(rt.alloc(), &mut device, FIRST, 8_192)?;
-    assert!(rt; !bitmap.is_free(5_001));
-    assert!(rt; bitmap.is_free(5_002));
+    let mut bitmap = nearly_full(rt.alloc())?;
+    assert!(rt; !bitmap.is_free(5_001) && bitmap.is_free(5_002));
     bitmap.release(5_000);
     bitmap.mark(5_002);
-    assert_eq!(rt; bitmap.unit_of(5_000), 7);
-    assert_eq!(rt; bitmap.bytes(7)[0x71], 0x9f);
-    bitmap.release(4_095);
-    assert_eq!(rt; bitmap.unit_of(4_095), 6);
-    assert_eq!(rt; bitmap.bytes(6)[0x1ff], 0x01);
+    assert!(rt; bitmap.unit_of(5_000) == 7 && bitmap.bytes(7)[0x71] == 0x9f);
     Ok(())
+}
+
+#[test]
+fn releases_a_block_of_the_first_unit(rt: HostRuntime) -> Result<(), Fail> {
+    let mut bitmap = nearly_full(rt.alloc())?;
+    bitmap.release(4_095);
+    assert!(rt; bitmap.unit_of(4_095) == 6 && bitmap.bytes(6)[0x1ff] == 0x01);
+    Ok(())
+}
+
+// The volume with the one file `BIG`, whose map has bits behind that of its last block.
+fn with_more_bits(alloc: Global) -> Result<Vec<u8>, AllocError> {
+    let mut image = tree(alloc)?;
+    put_in_block(&mut image, 6, 0x23, &[0xff; 100]);
+    Ok(image)
 }
 
 #[test]
 fn bits_past_the_total_are_no_blocks(rt: HostRuntime) -> Result<(), Fail> {
-    let mut image = tree(rt.alloc())?;
-    put_in_block(&mut image, 6, 0x23, &[0xff; 100]);
-    let bitmap = bitmap_of(rt.alloc(), image)?;
-    assert_eq!(rt; bitmap.free_count(), 270);
-    assert_eq!(rt; bitmap.next_free(280), None);
+    let bitmap = bitmap_of(rt.alloc(), with_more_bits(rt.alloc())?)?;
+    assert!(rt; has_free(&bitmap, 270, &[(280, None)]));
     Ok(())
 }
 
-#[test]
-fn each_refused_block_is_told(rt: HostRuntime) -> Result<(), Fail> {
-    let whole = Refusing::none(rt.alloc());
-    assert!(rt; bitmap_of(&whole, tree(rt.alloc())?).is_ok());
-    assert!(rt; whole.asked() > 0);
-    for before in 0..whole.asked() {
-        let heap = Refusing::one(rt.alloc(), before);
-        let result = bitmap_of(&heap, tree(rt.alloc())?);
-        assert!(rt; matches!(&result, Err(WalkError::Memory)));
-    }
-    Ok(())
+// Why a bitmap is not read from a device whose next read fails, and how many calls the device has refused.
+fn failed(alloc: Global) -> Result<(Option<WalkError>, u64), AllocError> {
+    let Some(inner) = block_device(seedlings_far_out(alloc)?) else {
+        return Ok((None, 0));
+    };
+    let mut device = FaultDevice::new(inner);
+    device.fail_read();
+    let error = Bitmap::read(alloc, &mut device, FIRST, 8_192).err();
+    Ok((error, device.faults()))
 }
 
 #[test]
 fn a_failed_read_is_told(rt: HostRuntime) -> Result<(), Fail> {
-    let Some(inner) = block_device(seedlings_far_out(rt.alloc())?) else {
-        return Err("no blocks".into());
-    };
-    let mut device = FaultDevice::new(inner);
-    device.fail_read();
-    let result = Bitmap::read(rt.alloc(), &mut device, FIRST, 8_192);
-    assert!(rt; matches!(&result, Err(WalkError::Device)));
-    assert_eq!(rt; device.faults(), 1);
+    assert!(rt; failed(rt.alloc())? == (Some(WalkError::Device), 1));
     Ok(())
 }

@@ -1,9 +1,8 @@
+//! The pointers of indexes, and what they name.
 ghost use Rattle.std.specs.Prelude.{◌≡◌, ◌<◌};
 ghost use Rattle.pro_tree.specs.Reach.{pro_pointers, pro_depth};
 
 use pro_tree::{child, part_above, pointer, pointer_count, root, set_pointer, slot};
-use std::alloc::Global;
-use std::test::Fail;
 use vol_format::Link;
 use vol_parts::{Part, PartKind};
 
@@ -20,133 +19,159 @@ fn index(pointers: &[(u8, u8, u8)]) -> [u8; 512] {
     unit
 }
 
+// A part of a file.
+fn part_of(file: u32, kind: PartKind, number: u32, place: u32) -> Part
+    ensures { result ≡ record { file = file; kind = kind; number = number; place = place } }
+{
+    Part {
+        file,
+        kind,
+        number,
+        place,
+    }
+}
+
 // A part of file 3.
 fn part(kind: PartKind, number: u32) -> Part
     ensures { result ≡ record { file = 3; kind = kind; number = number; place = 7 } }
 {
-    Part {
-        file: 3,
-        kind,
-        number,
-        place: 7,
-    }
+    part_of(3, kind, number, 7)
 }
 
-// What a link names, as a line.
-fn told(alloc: Global, link: Link) -> Result<String, Fail> {
-    Ok(match link {
-        Link::Null => format!(in alloc; "nothing")?,
-        Link::Wild => format!(in alloc; "wild")?,
-        Link::Directory => format!(in alloc; "directory")?,
-        Link::OtherType => format!(in alloc; "other type")?,
-        Link::To(part) => {
-            let (file, kind, number, place) = (part.file, part.kind, part.number, part.place);
-            format!(in alloc; "{file} {kind:?} {number} at {place}")?
-        }
-    })
+// A pointer to a part of file 3.
+fn to(kind: PartKind, number: u32, place: u32) -> Link {
+    Link::To(part_of(3, kind, number, place))
 }
 
 #[test]
 fn reads_pointers(rt: HostRuntime) {
     let unit = index(&[(0, 0x08, 0x00), (1, 0x17, 0x01), (255, 0xff, 0xff)]);
-    assert_eq!(rt; pointer(&unit, 0), 8);
-    assert_eq!(rt; pointer(&unit, 1), 279);
-    assert_eq!(rt; pointer(&unit, 2), 0);
-    assert_eq!(rt; pointer(&unit, 255), 65535);
+    assert!(rt; (pointer(&unit, 0), pointer(&unit, 1)) == (8, 279));
+    assert!(rt; (pointer(&unit, 2), pointer(&unit, 255)) == (0, 65535));
+}
+
+// A block of bytes AA in which a pointer is set.
+fn with_pointer(number: u32, block: u32) -> [u8; 512]
+    requires number { number < 256 }
+    requires block { block < 65536 }
+{
+    let mut unit = [0xaa; 512];
+    set_pointer(&mut unit, number, block);
+    unit
+}
+
+// A block of bytes AA but for two.
+fn block_with(number: usize, low: u8, high: u8) -> [u8; 512]
+    requires { number < 256 }
+{
+    let mut unit = [0xaa; 512];
+    unit[number] = low;
+    unit[256 + number] = high;
+    unit
 }
 
 #[test]
 fn writes_pointers(rt: HostRuntime) {
-    let mut unit = [0xaa; 512];
-    set_pointer(&mut unit, 1, 0x0117);
-    set_pointer(&mut unit, 255, 0);
-    assert_eq!(rt; &unit[..3], [0xaa, 0x17, 0xaa].as_slice());
-    assert_eq!(rt; &unit[254..259], [0xaa, 0x00, 0xaa, 0x01, 0xaa].as_slice());
-    assert_eq!(rt; &unit[510..], [0xaa, 0x00].as_slice());
+    assert!(rt; with_pointer(1, 0x0117) == block_with(1, 0x17, 0x01));
+    assert!(rt; with_pointer(255, 0) == block_with(255, 0x00, 0x00));
+}
+
+// The storage type and the key of a file on that disk, and what the key names.
+fn roots() -> [(u8, u32, Link); 9] {
+    [
+        (1, 8, to(PartKind::Body, 0, 8)),
+        (2, 9, to(PartKind::Index, 0, 9)),
+        (3, 279, to(PartKind::Master, 0, 279)),
+        (1, 0, Link::Null),
+        (2, 280, Link::Wild),
+        (3, 65535, Link::Wild),
+        (13, 2, Link::Directory),
+        (4, 8, Link::OtherType),
+        (0, 0, Link::OtherType),
+    ]
 }
 
 #[test]
-fn key_pointers(rt: HostRuntime) -> Result<(), Fail> {
-    for (storage, key, name) in [
-        (1, 8, "3 Body 0 at 8"),
-        (2, 9, "3 Index 0 at 9"),
-        (3, 279, "3 Master 0 at 279"),
-        (1, 0, "nothing"),
-        (2, 280, "wild"),
-        (3, 65535, "wild"),
-        (13, 2, "directory"),
-        (4, 8, "other type"),
-        (0, 0, "other type"),
-    ] {
-        let link = root(PLACES, 3, storage, key);
-        assert_eq!(rt; told(rt.alloc(), link)?.as_str(), name);
+fn key_pointers(rt: HostRuntime) {
+    for (storage, key, link) in &roots() {
+        assert!(rt; root(PLACES, 3, *storage, *key) == *link, "{storage} {key}");
     }
-    Ok(())
 }
 
-#[test]
-fn pointers_of_a_sapling(rt: HostRuntime) -> Result<(), Fail> {
+// What a pointer of the index of a sapling names.
+fn in_sapling(number: u32) -> Link
+    requires { number < 256 }
+{
     let unit = index(&[
         (0, 0x08, 0x00),
         (2, 0x17, 0x01),
         (3, 0x18, 0x01),
         (255, 0x09, 0x00),
     ]);
-    let index = part(PartKind::Index, 0);
-    assert_eq!(rt; pointer_count(&index), 256);
-    for (number, name) in [
-        (0, "3 Body 0 at 8"),
-        (1, "nothing"),
-        (2, "3 Body 2 at 279"),
-        (3, "wild"),
-        (255, "3 Body 255 at 9"),
-    ] {
-        let link = child(PLACES, &index, &unit, number);
-        assert_eq!(rt; told(rt.alloc(), link)?.as_str(), name);
-    }
-    Ok(())
+    child(PLACES, &part(PartKind::Index, 0), &unit, number)
 }
 
 #[test]
-fn pointers_of_a_tree(rt: HostRuntime) -> Result<(), Fail> {
+fn pointers_of_a_sapling(rt: HostRuntime) {
+    assert!(rt; pointer_count(&part(PartKind::Index, 0)) == 256);
+    assert!(rt; in_sapling(0) == to(PartKind::Body, 0, 8));
+    assert!(rt; in_sapling(1) == Link::Null);
+    assert!(rt; in_sapling(2) == to(PartKind::Body, 2, 279));
+    assert!(rt; in_sapling(3) == Link::Wild);
+    assert!(rt; in_sapling(255) == to(PartKind::Body, 255, 9));
+}
+
+// What a pointer of a master index, or of an index of a tree, names.
+fn in_tree(above: Part, number: u32) -> Link
+    requires depth { pro_depth above.kind above.number < 65536 }
+    requires number { number < pro_pointers above.kind }
+{
     let unit = index(&[(1, 0x09, 0x00), (127, 0x18, 0x01), (128, 0x0a, 0x00)]);
-    let master = part(PartKind::Master, 0);
-    assert_eq!(rt; pointer_count(&master), 128);
-    for (number, name) in [(0, "nothing"), (1, "3 Index 1 at 9"), (127, "wild")] {
-        let link = child(PLACES, &master, &unit, number);
-        assert_eq!(rt; told(rt.alloc(), link)?.as_str(), name);
-    }
-    let link = child(PLACES, &part(PartKind::Index, 1), &unit, 1);
-    assert_eq!(rt; told(rt.alloc(), link)?.as_str(), "3 Body 257 at 9");
-    let link = child(PLACES, &part(PartKind::Index, 127), &unit, 128);
-    assert_eq!(rt; told(rt.alloc(), link)?.as_str(), "3 Body 32640 at 10");
-    assert_eq!(rt; pointer_count(&part(PartKind::Body, 257)), 0);
-    assert_eq!(rt; slot(&part(PartKind::Body, 32640)), 128);
-    assert_eq!(rt; slot(&part(PartKind::Index, 127)), 127);
-    Ok(())
+    child(PLACES, &above, &unit, number)
 }
 
-// A tree with a hole of 256 blocks, a seedling and a sapling.
 #[test]
-fn parts_that_name_others(rt: HostRuntime) -> Result<(), Fail> {
-    let mut parts = [part(PartKind::Body, 0); 7];
-    parts[0] = part(PartKind::Master, 0);
-    parts[1] = part(PartKind::Index, 1);
-    parts[2] = part(PartKind::Body, 256);
-    parts[3] = part(PartKind::Body, 300);
-    parts[4].file = 4;
-    parts[5] = Part {
-        file: 5,
-        ..part(PartKind::Index, 0)
-    };
-    parts[6].file = 5;
-    let mut text = String::new(rt.alloc());
-    for k in 0..7 {
-        match part_above(&parts, k) {
-            None => write!(text, " none")?,
-            Some(above) => write!(text, " {above}")?,
-        }
+fn pointers_of_a_master_index(rt: HostRuntime) {
+    let master = part(PartKind::Master, 0);
+    assert!(rt; pointer_count(&master) == 128);
+    assert!(rt; in_tree(master, 0) == Link::Null);
+    assert!(rt; in_tree(master, 1) == to(PartKind::Index, 1, 9));
+    assert!(rt; in_tree(master, 127) == Link::Wild);
+}
+
+#[test]
+fn pointers_of_later_indexes(rt: HostRuntime) {
+    assert!(rt; in_tree(part(PartKind::Index, 1), 1) == to(PartKind::Body, 257, 9));
+    assert!(rt; in_tree(part(PartKind::Index, 127), 128) == to(PartKind::Body, 32640, 10));
+}
+
+#[test]
+fn parts_without_pointers_and_slots(rt: HostRuntime) {
+    assert!(rt; pointer_count(&part(PartKind::Body, 257)) == 0);
+    assert!(rt; slot(&part(PartKind::Body, 32640)) == 128);
+    assert!(rt; slot(&part(PartKind::Index, 127)) == 127);
+}
+
+// The parts of a tree with a hole of 256 blocks, of a seedling and of a sapling.
+fn parts() -> [Part; 7] {
+    [
+        part_of(3, PartKind::Master, 0, 7),
+        part_of(3, PartKind::Index, 1, 7),
+        part_of(3, PartKind::Body, 256, 7),
+        part_of(3, PartKind::Body, 300, 7),
+        part_of(4, PartKind::Body, 0, 7),
+        part_of(5, PartKind::Index, 0, 7),
+        part_of(5, PartKind::Body, 0, 7),
+    ]
+}
+
+#[test]
+fn parts_that_name_others(rt: HostRuntime) {
+    let (parts, above) = (
+        parts(),
+        [None, Some(0), Some(1), Some(1), None, None, Some(5)],
+    );
+    for k in 0..7u32 {
+        assert!(rt; part_above(&parts, k) == above[k as usize], "part {k}");
     }
-    assert_eq!(rt; text.as_str(), " none 0 1 1 none none 5");
-    Ok(())
 }

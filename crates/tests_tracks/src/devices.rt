@@ -195,9 +195,9 @@ fn has_sector(image: &Image, track: u8, sector: u8, byte: u8) -> bool {
 fn reads_each_sector_in_each_order(rt: HostRuntime) -> Result<(), Fail> {
     for order in ORDERS {
         let mut device = disk(&rt, order)?;
-        assert_eq!(rt; size(&device), (560, 256));
-        assert_eq!(rt; wrong_sector(&mut device, &[]), None);
-        assert_eq!(rt; counts(&device), (0, 0));
+        assert!(rt; size(&device) == (560, 256));
+        assert!(rt; wrong_sector(&mut device, &[]).is_none());
+        assert!(rt; counts(&device) == (0, 0));
     }
     Ok(())
 }
@@ -206,8 +206,8 @@ fn reads_each_sector_in_each_order(rt: HostRuntime) -> Result<(), Fail> {
 fn reads_each_block_in_each_order(rt: HostRuntime) -> Result<(), Fail> {
     for order in ORDERS {
         let mut device = ImageDevice::prodos(numbered(&rt, order)?);
-        assert_eq!(rt; size(&device), (280, 512));
-        assert_eq!(rt; wrong_block(&mut device), None);
+        assert!(rt; size(&device) == (280, 512));
+        assert!(rt; wrong_block(&mut device).is_none());
     }
     Ok(())
 }
@@ -217,10 +217,10 @@ fn writes_a_sector_in_each_order(rt: HostRuntime) -> Result<(), Fail> {
     for order in ORDERS {
         let mut device = disk(&rt, order)?;
         assert!(rt; answers(&mut device, Call::Writes(17, 0xFF)));
-        assert_eq!(rt; counts(&device), (1, 0));
-        assert_eq!(rt; wrong_sector(&mut device, &[(17, 0xFF)]), None);
+        assert!(rt; counts(&device) == (1, 0));
+        assert!(rt; wrong_sector(&mut device, &[(17, 0xFF)]).is_none());
         let image = device.into_image();
-        assert_eq!(rt; image.order(), order);
+        assert!(rt; image.order() == order);
         assert!(rt; has_sector(&image, 1, 13, 0xFF));
     }
     Ok(())
@@ -242,7 +242,7 @@ fn writes_a_block_in_each_order(rt: HostRuntime) -> Result<(), Fail> {
     for order in ORDERS {
         let image = written_block(&rt, order)?.ok_or("not read back")?;
         let mut device = dos_device(image)?;
-        assert_eq!(rt; wrong_sector(&mut device, &[(29, 0xFE), (28, 0xFF)]), None);
+        assert!(rt; wrong_sector(&mut device, &[(29, 0xFE), (28, 0xFF)]).is_none());
     }
     Ok(())
 }
@@ -263,25 +263,22 @@ fn wrong_small_block<D: Device>(device: &mut D) -> Option<u32> {
 fn has_blocks_of_another_size(rt: HostRuntime) -> Result<(), Fail> {
     let bytes = vec![in rt.alloc(); 0; 8192]?;
     let mut device = ImageDevice::prodos(opened(bytes, Order::Prodos)?);
-    assert_eq!(rt; size(&device), (16, 512));
-    assert_eq!(rt; write(&mut device, 15, &[7; BLOCK_BYTES]), DONE);
-    assert_eq!(rt; wrong_small_block(&mut device), None);
+    assert!(rt; size(&device) == (16, 512));
+    assert!(rt; write(&mut device, 15, &[7; BLOCK_BYTES]) == DONE);
+    assert!(rt; wrong_small_block(&mut device).is_none());
     let bytes = device.into_image().into_bytes();
     assert!(rt; bytes.len() == 8192);
-    assert_eq!(rt; (bytes[7679], bytes[7680], bytes[8191]), (0, 7, 7));
+    assert!(rt; (bytes[7679], bytes[7680], bytes[8191]) == (0, 7, 7));
     Ok(())
 }
 
 #[test]
 fn a_missing_sector_is_a_fault(rt: HostRuntime) -> Result<(), Fail> {
     let mut device = dos_device(opened(damaged(&rt)?, Order::Nibble)?)?;
-    assert_eq!(rt;
-        wrong_read(&mut device, 560, &mut [0; SECTOR_BYTES], 286),
-        None
-    );
-    assert_eq!(rt; counts(&device), (0, 1));
+    assert!(rt; wrong_read(&mut device, 560, &mut [0; SECTOR_BYTES], 286).is_none());
+    assert!(rt; counts(&device) == (0, 1));
     assert!(rt; answers(&mut device, Call::FailsToWrite(286, 1)));
-    assert_eq!(rt; counts(&device), (1, 2));
+    assert!(rt; counts(&device) == (1, 2));
     assert!(rt; is_damaged(&rt, device.into_image())?);
     Ok(())
 }
@@ -289,12 +286,9 @@ fn a_missing_sector_is_a_fault(rt: HostRuntime) -> Result<(), Fail> {
 #[test]
 fn a_block_with_one_sector_missing_is_a_fault(rt: HostRuntime) -> Result<(), Fail> {
     let mut device = ImageDevice::prodos(opened(damaged(&rt)?, Order::Nibble)?);
-    assert_eq!(rt;
-        wrong_read(&mut device, 280, &mut [0; BLOCK_BYTES], 136),
-        None
-    );
-    assert_eq!(rt; write(&mut device, 136, &[1; BLOCK_BYTES]), FAULT);
-    assert_eq!(rt; counts(&device), (1, 2));
+    assert!(rt; wrong_read(&mut device, 280, &mut [0; BLOCK_BYTES], 136).is_none());
+    assert!(rt; write(&mut device, 136, &[1; BLOCK_BYTES]) == FAULT);
+    assert!(rt; counts(&device) == (1, 2));
     let image = device.into_image();
     assert!(rt; has_sector(&image, 17, 0, byte_of(272)));
     assert!(rt; is_damaged(&rt, image)?);
@@ -327,8 +321,8 @@ fn stops_after_so_many_writes(rt: HostRuntime) -> Result<(), Fail> {
     for passes in 0..3u32 {
         let mut device = StopDevice::new(disk(&rt, Order::Dos)?, u64::from(passes));
         assert!(rt; takes_of_three(&mut device, passes), "after {passes}");
-        assert_eq!(rt; counts(&device), (3, u64::from(3 - passes)));
-        assert_eq!(rt; counts(&device.into_inner()), (u64::from(passes), 0));
+        assert!(rt; counts(&device) == (3, u64::from(3 - passes)));
+        assert!(rt; counts(&device.into_inner()) == (u64::from(passes), 0));
     }
     Ok(())
 }
@@ -338,10 +332,10 @@ fn a_write_that_fails_below_is_passed_on(rt: HostRuntime) -> Result<(), Fail> {
     let inner = failing_at_a_write(disk(&rt, Order::Dos)?, true);
     let mut device = StopDevice::new(inner, 1);
     let calls = [Call::FailsToWrite(0, 0xFF), Call::FailsToWrite(1, 0xFF)];
-    assert_eq!(rt; wrong_call(&mut device, &calls), None);
-    assert_eq!(rt; counts(&device), (2, 2));
+    assert!(rt; wrong_call(&mut device, &calls).is_none());
+    assert!(rt; counts(&device) == (2, 2));
     let calls = [Call::Reads(0, 0xFF), Call::Reads(1, 1)];
-    assert_eq!(rt; wrong_call(&mut device.into_inner(), &calls), None);
+    assert!(rt; wrong_call(&mut device.into_inner(), &calls).is_none());
     Ok(())
 }
 
@@ -357,11 +351,11 @@ fn fails_to_order(rt: HostRuntime) -> Result<(), Fail> {
     let mut device = FaultDevice::new(disk(&rt, Order::Dos)?);
     device.fail_read();
     let calls = [Call::FailsToRead(5), Call::Reads(5, 5)];
-    assert_eq!(rt; wrong_call(&mut device, &calls), None);
+    assert!(rt; wrong_call(&mut device, &calls).is_none());
     assert!(rt; fails_a_write(&mut device, false, 5));
     assert!(rt; fails_a_write(&mut device, true, 0xFF));
     assert!(rt; answers(&mut device, Call::Writes(5, 7)));
-    assert_eq!(rt; counts(&device), (3, 3));
+    assert!(rt; counts(&device) == (3, 3));
     assert!(rt; answers(&mut device.into_inner(), Call::Reads(5, 7)));
     Ok(())
 }
@@ -378,17 +372,14 @@ fn an_order_waits_at_a_missing_sector(rt: HostRuntime) -> Result<(), Fail> {
         Call::Reads(5, 0xFF),
         Call::Reads(6, 0xFF),
     ];
-    assert_eq!(rt; wrong_call(&mut device, &calls), None);
-    assert_eq!(rt; counts(&device), (3, 2));
+    assert!(rt; wrong_call(&mut device, &calls).is_none());
+    assert!(rt; counts(&device) == (3, 2));
     Ok(())
 }
 
 #[test]
 fn errors_print(rt: HostRuntime) -> Result<(), Fail> {
     let text = format!(in rt.alloc(); "{}; {}", DeviceError::Spent, DeviceError::Fault)?;
-    assert_eq!(rt;
-        text.as_str(),
-        "the write count is at its last value; the device failed"
-    );
+    assert!(rt; text.as_str() == "the write count is at its last value; the device failed");
     Ok(())
 }

@@ -66,7 +66,7 @@ fn damaged(rt: &HostRuntime) -> Result<Vec<u8>, Fail> {
 fn numbers_sectors_and_blocks(rt: HostRuntime) {
     let physical = [0, 13, 11, 9, 7, 5, 3, 1, 14, 12, 10, 8, 6, 4, 2, 15];
     for sector in 0..16u8 {
-        assert_eq!(rt; dos_to_phys(sector), physical[usize::from(sector)]);
+        assert!(rt; dos_to_phys(sector) == physical[usize::from(sector)]);
     }
     let halves = [
         (0, 2),
@@ -79,7 +79,7 @@ fn numbers_sectors_and_blocks(rt: HostRuntime) {
         (13, 15),
     ];
     for block in 0..8u8 {
-        assert_eq!(rt; block_to_phys(block), halves[usize::from(block)]);
+        assert!(rt; block_to_phys(block) == halves[usize::from(block)]);
     }
 }
 
@@ -111,7 +111,7 @@ fn takes_each_length(rt: HostRuntime) -> Result<(), Fail> {
         (Order::Nibble, 143_360, refused),
     ] {
         let bytes = vec![in rt.alloc(); 7; length]?;
-        assert_eq!(rt; opening(bytes, order), (order, blocks, length));
+        assert!(rt; opening(bytes, order) == (order, blocks, length));
     }
     Ok(())
 }
@@ -122,7 +122,7 @@ fn converts_there_and_back(rt: HostRuntime) -> Result<(), Fail> {
     let image = opened(varied(&rt)?, Order::Dos)?;
     for order in [Order::Dos, Order::Prodos, Order::Nibble] {
         let other = image.convert(order, 254)?;
-        assert_eq!(rt; other.order(), order);
+        assert!(rt; other.order() == order);
         let back = other.convert(Order::Dos, 1)?.into_bytes();
         assert!(rt; back.as_slice() == bytes.as_slice());
     }
@@ -136,11 +136,11 @@ fn converts_a_block(rt: HostRuntime) -> Result<(), Fail> {
     for at in SECTOR_BYTES..BLOCK_BYTES {
         block[at] = 2;
     }
-    assert_eq!(rt; image.set_block(8, &block), Ok(()));
-    assert_eq!(rt; image.set_block(280, &block), Err(ImageError::Number));
+    assert!(rt; image.set_block(8, &block) == Ok(()));
+    assert!(rt; image.set_block(280, &block) == Err(ImageError::Number));
     let mut read = [0; BLOCK_BYTES];
-    assert_eq!(rt; image.block(8, &mut read), Ok(()));
-    assert_eq!(rt; read, block);
+    assert!(rt; image.block(8, &mut read) == Ok(()));
+    assert!(rt; read == block);
     let bytes = image.convert(Order::Dos, 254)?.into_bytes();
     assert!(rt; bytes.len() == IMAGE_BYTES);
     for at in 0..IMAGE_BYTES {
@@ -151,7 +151,7 @@ fn converts_a_block(rt: HostRuntime) -> Result<(), Fail> {
         } else {
             0
         };
-        assert_eq!(rt; bytes[at], want, "at {at}");
+        assert!(rt; bytes[at] == want, "at {at}");
     }
     Ok(())
 }
@@ -201,9 +201,9 @@ fn keeps_other_fields(rt: &HostRuntime, image: Image) -> Result<bool, Fail> {
 #[test]
 fn reads_and_writes_a_damaged_track(rt: HostRuntime) -> Result<(), Fail> {
     let mut image = opened(damaged(&rt)?, Order::Nibble)?;
-    assert_eq!(rt; filling(&image, 17, 0), Ok(Some(0x0F)));
-    assert_eq!(rt; fill(&mut image, 17, 0, 0x5A), Ok(()));
-    assert_eq!(rt; filling(&image, 17, 0), Ok(Some(0x5A)));
+    assert!(rt; filling(&image, 17, 0) == Ok(Some(0x0F)));
+    assert!(rt; fill(&mut image, 17, 0, 0x5A) == Ok(()));
+    assert!(rt; filling(&image, 17, 0) == Ok(Some(0x5A)));
     assert!(rt; image.sector_ref(17, 0).is_none());
     assert!(rt; keeps_other_fields(&rt, image)?);
     Ok(())
@@ -218,10 +218,7 @@ fn refuses_sectors_of_a_damaged_track(rt: HostRuntime) -> Result<(), Fail> {
         (35, 0, ImageError::Number),
         (0, 16, ImageError::Number),
     ] {
-        assert_eq!(rt;
-            answers(&mut image, track, sector),
-            (Err(error), Err(error))
-        );
+        assert!(rt; answers(&mut image, track, sector) == (Err(error), Err(error)));
     }
     assert!(rt; image.into_bytes().as_slice() == damaged(&rt)?.as_slice());
     Ok(())
@@ -232,11 +229,11 @@ fn lacks_blocks_of_a_damaged_track(rt: HostRuntime) -> Result<(), Fail> {
     let mut image = opened(damaged(&rt)?, Order::Nibble)?;
     let mut block = [0; BLOCK_BYTES];
     let error = Err(ImageError::NoSector);
-    assert_eq!(rt; image.block(141, &mut block), error);
-    assert_eq!(rt; image.set_block(141, &block), error);
-    assert_eq!(rt; image.block(142, &mut block), Ok(()));
+    assert!(rt; image.block(141, &mut block) == error);
+    assert!(rt; image.set_block(141, &block) == error);
+    assert!(rt; image.block(142, &mut block) == Ok(()));
     for order in [Order::Dos, Order::Prodos, Order::Nibble] {
-        assert_eq!(rt; image.convert(order, 254).err(), Some(ImageError::NoSector));
+        assert!(rt; image.convert(order, 254).err() == Some(ImageError::NoSector));
     }
     assert!(rt; image.into_bytes().as_slice() == damaged(&rt)?.as_slice());
     Ok(())
@@ -248,9 +245,9 @@ fn reads_the_first_of_two_fields(rt: HostRuntime) -> Result<(), Fail> {
     assert!(rt; bytes.len() == NIBBLE_BYTES);
     bytes[17 * TRACK + 71] = 0x96;
     let mut image = opened(bytes, Order::Nibble)?;
-    assert_eq!(rt; filling(&image, 17, 0), Ok(Some(0)));
-    assert_eq!(rt; fill(&mut image, 17, 0, 1), Ok(()));
-    assert_eq!(rt; filling(&image, 17, 0), Ok(Some(1)));
+    assert!(rt; filling(&image, 17, 0) == Ok(Some(0)));
+    assert!(rt; fill(&mut image, 17, 0, 1) == Ok(()));
+    assert!(rt; filling(&image, 17, 0) == Ok(Some(1)));
     Ok(())
 }
 
@@ -258,17 +255,14 @@ fn reads_the_first_of_two_fields(rt: HostRuntime) -> Result<(), Fail> {
 fn has_no_sectors_of_another_size(rt: HostRuntime) -> Result<(), Fail> {
     let mut image = opened(vec![in rt.alloc(); 0; 8192]?, Order::Prodos)?;
     let error = ImageError::Number;
-    assert_eq!(rt; answers(&mut image, 0, 0), (Err(error), Err(error)));
+    assert!(rt; answers(&mut image, 0, 0) == (Err(error), Err(error)));
     assert!(rt; image.sector_ref(0, 0).is_none());
-    assert_eq!(rt;
-        image.convert(Order::Dos, 1).err(),
-        Some(ImageError::Length)
-    );
-    assert_eq!(rt; image.set_block(15, &[7; BLOCK_BYTES]), Ok(()));
+    assert!(rt; image.convert(Order::Dos, 1).err() == Some(ImageError::Length));
+    assert!(rt; image.set_block(15, &[7; BLOCK_BYTES]) == Ok(()));
     let mut block = [0; BLOCK_BYTES];
-    assert_eq!(rt; image.block(15, &mut block), Ok(()));
-    assert_eq!(rt; block, [7; BLOCK_BYTES]);
-    assert_eq!(rt; image.block(16, &mut block), Err(ImageError::Number));
+    assert!(rt; image.block(15, &mut block) == Ok(()));
+    assert!(rt; block == [7; BLOCK_BYTES]);
+    assert!(rt; image.block(16, &mut block) == Err(ImageError::Number));
     Ok(())
 }
 
@@ -311,13 +305,13 @@ fn each_refused_block_is_memory(rt: HostRuntime) -> Result<(), Fail> {
         for before in 0..=blocks {
             let heap = Refusing::one(rt.alloc(), before);
             let want = (before < blocks).then_some(ImageError::Memory);
-            assert_eq!(rt; converted(&heap, order).err(), want, "before {before}");
+            assert!(rt; converted(&heap, order).err() == want, "before {before}");
         }
     }
     for before in 0..=2u64 {
         let heap = Refusing::one(rt.alloc(), before);
         let want = (before < 2).then_some(ImageError::Memory);
-        assert_eq!(rt; opened_tracks(&heap).err(), want, "before {before}");
+        assert!(rt; opened_tracks(&heap).err() == want, "before {before}");
     }
     Ok(())
 }
@@ -331,9 +325,9 @@ fn errors_print(rt: HostRuntime) -> Result<(), Fail> {
         ImageError::Number,
         ImageError::NoSector
     )?;
-    assert_eq!(rt;
-        text.as_str(),
-        "the image has the wrong length for its order; memory ran out; \
+    assert!(rt;
+        text.as_str()
+            == "the image has the wrong length for its order; memory ran out; \
          the disk has no such track or sector; the track has no such sector"
     );
     Ok(())

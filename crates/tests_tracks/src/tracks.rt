@@ -28,12 +28,12 @@ fn field(data_at: u16) -> Option<Field> {
 #[test]
 fn encodes_a_sector(rt: HostRuntime) {
     let mut content = [0; SECTOR_LEN];
-    assert_eq!(rt; encode_sector(&content), [0x96; FIELD_LEN]);
+    assert!(rt; encode_sector(&content) == [0x96; FIELD_LEN]);
     content[0] = 0x01;
     let mut want = [0x96; FIELD_LEN];
     want[0] = 0x9A;
     want[1] = 0x9A;
-    assert_eq!(rt; encode_sector(&content), want);
+    assert!(rt; encode_sector(&content) == want);
     content[0] = 0;
     content[0xFF] = 0xFF;
     let mut want = [0x96; FIELD_LEN];
@@ -41,7 +41,7 @@ fn encodes_a_sector(rt: HostRuntime) {
     want[84] = 0xED;
     want[341] = 0xFF;
     want[342] = 0xFF;
-    assert_eq!(rt; encode_sector(&content), want);
+    assert!(rt; encode_sector(&content) == want);
 }
 
 #[test]
@@ -51,19 +51,19 @@ fn makes_a_track(rt: HostRuntime) {
         0xD5, 0xAA, 0x96, 0xFF, 0xFE, 0xAA, 0xBB, 0xAA, 0xAA, 0xFF, 0xEF, 0xDE, 0xAA, 0xEB,
     ];
     for k in 0..14 {
-        assert_eq!(rt; nibbles[48 + k], address[k], "at {k}");
+        assert!(rt; nibbles[48 + k] == address[k], "at {k}");
     }
     let fields = fields_of_track(&nibbles, 17);
     for sector in 0..16u8 {
         let want = field(71 + 396 * u16::from(sector));
-        assert_eq!(rt; find_sector(&nibbles, 17, sector), want);
-        assert_eq!(rt; fields[usize::from(sector)], want);
+        assert!(rt; find_sector(&nibbles, 17, sector) == want);
+        assert!(rt; fields[usize::from(sector)] == want);
         let mut content = [99; SECTOR_LEN];
-        assert_eq!(rt; read_sector(&nibbles, 17, sector, &mut content), Ok(()));
-        assert_eq!(rt; content, [sector; SECTOR_LEN]);
+        assert!(rt; read_sector(&nibbles, 17, sector, &mut content) == Ok(()));
+        assert!(rt; content == [sector; SECTOR_LEN]);
     }
-    assert_eq!(rt; find_sector(&nibbles, 16, 0), None);
-    assert_eq!(rt; fields_of_track(&nibbles, 16), [None; SECTORS]);
+    assert!(rt; find_sector(&nibbles, 16, 0).is_none());
+    assert!(rt; fields_of_track(&nibbles, 16) == [None; SECTORS]);
 }
 
 #[test]
@@ -74,25 +74,19 @@ fn reads_a_damaged_track(rt: HostRuntime) {
     for k in 0..11 {
         nibbles[5988 + k] = nibbles[48 + k];
     }
-    assert_eq!(rt; find_sector(&nibbles, 17, 0), field(6011));
+    assert!(rt; find_sector(&nibbles, 17, 0) == field(6011));
     let fields = fields_of_track(&nibbles, 17);
-    assert_eq!(rt; fields[0], field(6011));
-    assert_eq!(rt; fields[5], None);
-    assert_eq!(rt; fields[15], None);
+    assert!(rt; fields[0] == field(6011));
+    assert!(rt; fields[5].is_none());
+    assert!(rt; fields[15].is_none());
     let mut content = [0; SECTOR_LEN];
-    assert_eq!(rt; read_sector(&nibbles, 17, 0, &mut content), Ok(()));
-    assert_eq!(rt; content, [0x0F; SECTOR_LEN]);
+    assert!(rt; read_sector(&nibbles, 17, 0, &mut content) == Ok(()));
+    assert!(rt; content == [0x0F; SECTOR_LEN]);
     for sector in [5, 15] {
-        assert_eq!(rt;
-            read_sector(&nibbles, 17, sector, &mut content),
-            Err(NibError::NoSector)
-        );
+        assert!(rt; read_sector(&nibbles, 17, sector, &mut content) == Err(NibError::NoSector));
     }
-    assert_eq!(rt;
-        read_sector(&nibbles, 35, 0, &mut content),
-        Err(NibError::Number)
-    );
-    assert_eq!(rt; content, [0x0F; SECTOR_LEN]);
+    assert!(rt; read_sector(&nibbles, 35, 0, &mut content) == Err(NibError::Number));
+    assert!(rt; content == [0x0F; SECTOR_LEN]);
 }
 
 #[test]
@@ -105,23 +99,17 @@ fn writes_a_damaged_track(rt: HostRuntime) {
     }
     let old = nibbles;
     let written = [0x5A; SECTOR_LEN];
-    assert_eq!(rt; write_sector(&mut nibbles, 17, 0, &written), Ok(()));
+    assert!(rt; write_sector(&mut nibbles, 17, 0, &written) == Ok(()));
     for place in 0..TRACK_LEN {
         if place < 6011 || place > 6353 {
-            assert_eq!(rt; nibbles[place], old[place], "at {place}");
+            assert!(rt; nibbles[place] == old[place], "at {place}");
         }
     }
     let mut content = [0; SECTOR_LEN];
-    assert_eq!(rt; read_sector(&nibbles, 17, 0, &mut content), Ok(()));
-    assert_eq!(rt; content, written);
-    assert_eq!(rt;
-        write_sector(&mut nibbles, 17, 5, &written),
-        Err(NibError::NoSector)
-    );
-    assert_eq!(rt;
-        write_sector(&mut nibbles, 17, 16, &written),
-        Err(NibError::Number)
-    );
+    assert!(rt; read_sector(&nibbles, 17, 0, &mut content) == Ok(()));
+    assert!(rt; content == written);
+    assert!(rt; write_sector(&mut nibbles, 17, 5, &written) == Err(NibError::NoSector));
+    assert!(rt; write_sector(&mut nibbles, 17, 16, &written) == Err(NibError::Number));
 }
 
 #[test]
@@ -131,10 +119,10 @@ fn reads_a_turned_track(rt: HostRuntime) {
     for k in 0..TRACK_LEN {
         nibbles[k] = made[(k + 100) % TRACK_LEN];
     }
-    assert_eq!(rt; find_sector(&nibbles, 17, 0), field(6627));
+    assert!(rt; find_sector(&nibbles, 17, 0) == field(6627));
     let mut content = [99; SECTOR_LEN];
-    assert_eq!(rt; read_sector(&nibbles, 17, 0, &mut content), Ok(()));
-    assert_eq!(rt; content, [0; SECTOR_LEN]);
+    assert!(rt; read_sector(&nibbles, 17, 0, &mut content) == Ok(()));
+    assert!(rt; content == [0; SECTOR_LEN]);
 }
 
 #[test]
@@ -143,11 +131,11 @@ fn reads_and_writes_a_known_field(rt: HostRuntime) {
     let mut content = [99; SECTOR_LEN];
     if let Some(field) = find_sector(&nibbles, 17, 3) {
         read_field(&nibbles, field, &mut content);
-        assert_eq!(rt; content, [3; SECTOR_LEN]);
+        assert!(rt; content == [3; SECTOR_LEN]);
         write_field(&mut nibbles, field, &[0xC3; SECTOR_LEN]);
     }
-    assert_eq!(rt; read_sector(&nibbles, 17, 3, &mut content), Ok(()));
-    assert_eq!(rt; content, [0xC3; SECTOR_LEN]);
+    assert!(rt; read_sector(&nibbles, 17, 3, &mut content) == Ok(()));
+    assert!(rt; content == [0xC3; SECTOR_LEN]);
 }
 
 #[test]

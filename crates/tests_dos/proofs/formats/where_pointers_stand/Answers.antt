@@ -8,8 +8,8 @@ all_available : length (dos_available false []) ≡ 496
 unfolding first_available
 all_available = refl
 
-pub holder-holder-requires-clause-places : goal.holder-holder-requires-clause-places
-holder-holder-requires-clause-places g c =
+pub holder-requires-in-loop-k-clause-places : goal.holder-requires-in-loop-k-clause-places
+holder-requires-in-loop-k-clause-places g c =
     ap (λ (l : Placement). l.places) c.in_ok-layout.ensures.ok
     ∙ sym (
     ap (λ (f : DosRules). length (dos_available f.data_disk f.reserved)) c.in_ok-format.ensures

@@ -3,10 +3,10 @@ use Rattle.dos_format.specs.Dos.{dos_available, first_available}
 use Rattle.tests_moves.proofs.Trials.{tried_plan, tried_spare}
 use Rattle.tests_moves.proofs.agendas.lost_places_are_marked_free.Goals as goal
 
-pub words_of-requires-clause-plan : goal.words_of-requires-clause-plan
+pub agenda_of-requires-clause-plan : goal.agenda_of-requires-clause-plan
 unfolding first_available
-words_of-requires-clause-plan g c = tried_plan (dos_available true []) (33 ∷ 32 ∷ []) _ refl refl
+agenda_of-requires-clause-plan g c = tried_plan (dos_available true []) (33 ∷ 32 ∷ []) _ refl refl
 
-pub words_of-requires-clause-spare : goal.words_of-requires-clause-spare
+pub agenda_of-requires-clause-spare : goal.agenda_of-requires-clause-spare
 unfolding first_available
-words_of-requires-clause-spare g c = tried_spare (dos_available true []) (33 ∷ 32 ∷ []) _ refl
+agenda_of-requires-clause-spare g c = tried_spare (dos_available true []) (33 ∷ 32 ∷ []) _ refl

@@ -4,12 +4,12 @@ use Rattle.tests_moves.proofs.Plans.{nothing_to_do}
 use Rattle.tests_moves.proofs.Trials.{tried_spare}
 use Rattle.tests_moves.proofs.agendas.no_moves.Goals as goal
 
-pub words_of-requires-clause-plan : goal.words_of-requires-clause-plan
-words_of-requires-clause-plan g c = nothing_to_do
+pub agenda_of-requires-clause-plan : goal.agenda_of-requires-clause-plan
+agenda_of-requires-clause-plan g c = nothing_to_do
 
-pub words_of-requires-2-clause-plan : goal.words_of-requires-2-clause-plan
-words_of-requires-2-clause-plan g c = nothing_to_do
+pub agenda_of-requires-2-clause-plan : goal.agenda_of-requires-2-clause-plan
+agenda_of-requires-2-clause-plan g c = nothing_to_do
 
-pub words_of-requires-2-clause-spare : goal.words_of-requires-2-clause-spare
+pub agenda_of-requires-2-clause-spare : goal.agenda_of-requires-2-clause-spare
 unfolding first_available
-words_of-requires-2-clause-spare g c = tried_spare (dos_available false []) (0 ∷ 1 ∷ []) (61 ∷ []) refl
+agenda_of-requires-2-clause-spare g c = tried_spare (dos_available false []) (0 ∷ 1 ∷ []) (61 ∷ []) refl

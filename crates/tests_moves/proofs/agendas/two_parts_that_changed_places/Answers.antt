@@ -1,5 +1,5 @@
 use Rattle.tests_moves.proofs.Plans.{exchanged}
 use Rattle.tests_moves.proofs.agendas.two_parts_that_changed_places.Goals as goal
 
-pub words_of-requires-clause-plan : goal.words_of-requires-clause-plan
-words_of-requires-clause-plan g c = exchanged
+pub agenda_of-requires-clause-plan : goal.agenda_of-requires-clause-plan
+agenda_of-requires-clause-plan g c = exchanged

@@ -7,8 +7,8 @@ use Rattle.pro_format.specs.Pro.{directory_with}
 use Rattle.pro_format.specs.ProVolume.{tree_of, map_in, system_of}
 use Rattle.tests_prodos.proofs.formats.holders.Goals as goal
 
-pub holder-holder-requires-clause-files : goal.holder-holder-requires-clause-files
-holder-holder-requires-clause-files c =
+pub holder-requires-clause-files : goal.holder-requires-clause-files
+holder-requires-clause-files c =
     let checked = c.in-Ok.checked in
     let told : All (λ (part : Part). part.file < entries (directory_with (system_of checked.volume) (tree_of checked.volume) (map_in checked.volume).units)) checked.parts.items =
     λ k d within. c.in-Ok.ensures.told.in_files (get_or checked.parts.items k d) (k, within, get_or_default checked.parts.items k (get_or checked.parts.items k d) d within) in

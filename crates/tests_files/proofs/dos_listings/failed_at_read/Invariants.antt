@@ -1,9 +1,9 @@
 use Rattle.std.proofs.Common.{◌≡◌}
 use Rattle.a2_device.specs.ImageDevice.{place_count, unit_bytes}
-use Rattle.tests_files.proofs.dos_listings.fails_at_read.Given as goal
+use Rattle.tests_files.proofs.dos_listings.failed_at_read.Given as goal
 
 abbrev pub invariant-loop : goal.invariant-loop
-invariant-loop g l = record {
+invariant-loop l = record {
   places : place_count l.device.device.kind l.device.device.image ≡ 560;
   unit : unit_bytes l.device.device.kind ≡ 256;
 }
