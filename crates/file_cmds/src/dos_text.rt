@@ -23,8 +23,8 @@ fn kind_letter(kind: u8) -> char
     }
 }
 
-// A byte of a name as it is shown.
-pub(crate) fn shown_byte(byte: u8) -> u8
+/// A byte of a name as a listing shows it: without its highest bit, and `?` for a control character.
+pub fn shown_byte(byte: u8) -> u8
     ensures value { result ≡ shown byte }
     ensures ascii { result ≤ 126 }
 {
@@ -46,8 +46,8 @@ fn shown_len(name: &[u8]) -> usize
     len
 }
 
-// A name without the spaces at its end.
-fn shown_part(name: &[u8]) -> &[u8]
+/// The bytes of a DOS 3.3 name that a listing shows: those before the spaces at its end.
+pub fn shown_part(name: &[u8]) -> &[u8]
     ensures { map shown result.now ≡ name_text name.now }
 {
     &name[..shown_len(name)]

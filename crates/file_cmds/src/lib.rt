@@ -24,7 +24,7 @@ mod reading;
 mod text;
 
 pub use command::catalog;
-pub use dos_text::dos_listing_text;
+pub use dos_text::{dos_listing_text, shown_byte, shown_part};
 pub use error::CmdError;
 pub use format::FileFormat;
 pub use law::{a_read_answers_by_the_list_of_files, answers_exclude_one_another};

@@ -4,6 +4,7 @@ use Rattle.std.specs.Io.KnownBytes.{Keeps}
 use Rattle.std.specs.Prelude.{◌⊎◌, Option, Some, None, IfSome}
 use Rattle.a2_image.specs.declared.order.Order.{Order}
 use Rattle.shop_words.specs.Job.{JobView, catalog, check, read, convert, plan, optimize, verify, identify, asked_job, IsTaken}
+use Rattle.shop_words.specs.Fault.{IsFaultOf}
 use Rattle.shop_words.specs.declared.fault.WordsFault.{WordsFault}
 use Rattle.shop_words.specs.declared.fault.WordsFault.TheVariants as words
 use Rattle.shop_words.specs.declared.job.VolumeOptions.{VolumeOptions}
@@ -53,8 +54,8 @@ reply-whole : (job : JobView) (image more : List ℕ) (extra : Option (List ℕ)
 reply-whole (catalog path volume) image more extra reply taken is = told-whole volume None image Catalog reply is
 reply-whole (check path volume reserve) image more extra reply taken is = told-whole volume reserve image Check reply is
 reply-whole (read path name volume whole) image more extra reply taken is = told-whole volume None image (Read name whole) reply is
-reply-whole (plan path volume reserve reclaim) image more extra reply taken is = told-whole volume reserve image (Plan reclaim) reply is
-reply-whole (optimize words reserve reclaim) image more extra reply taken is =
+reply-whole (plan path volume reserve reclaim in_words) image more extra reply taken is = told-whole volume reserve image (Plan reclaim in_words) reply is
+reply-whole (optimize words reserve reclaim cert) image more extra reply taken is =
     told-whole words.volume reserve image (Optimize reclaim (limit_of words.stop_after)) reply is
 reply-whole (verify path volume from reserve reclaim) image more None reply taken is = tt
 reply-whole (verify path volume from reserve reclaim) image more (Some bytes) reply taken is =
@@ -87,8 +88,8 @@ makes_image : (job : JobView) (image more : List ℕ) (reply : Reply) → IsRepl
 makes_image (catalog path volume) image more reply is made = absurd (told_not_made volume None image Catalog tt reply is made)
 makes_image (check path volume reserve) image more reply is made = absurd (told_not_made volume reserve image Check tt reply is made)
 makes_image (read path name volume whole) image more reply is made = absurd (told_not_made volume None image (Read name whole) tt reply is made)
-makes_image (plan path volume reserve reclaim) image more reply is made = absurd (told_not_made volume reserve image (Plan reclaim) tt reply is made)
-makes_image (optimize words reserve reclaim) image more reply is made = tt
+makes_image (plan path volume reserve reclaim in_words) image more reply is made = absurd (told_not_made volume reserve image (Plan reclaim in_words) tt reply is made)
+makes_image (optimize words reserve reclaim cert) image more reply is made = tt
 makes_image (verify path volume from reserve reclaim) image more reply is made = absurd (told_not_made volume reserve image (Verify reclaim more) tt reply is made)
 makes_image (convert words) image more reply is made = tt
 makes_image (identify path) image more reply is made = absurd (identify_not_made image reply is made)
@@ -108,8 +109,8 @@ hands_for (convert words) image more (Failed failure) status old new is made out
 hands_for (catalog path volume) image more reply status old new is made out = (reply, made, out)
 hands_for (check path volume reserve) image more reply status old new is made out = (reply, made, out)
 hands_for (read path name volume whole) image more reply status old new is made out = (reply, made, out)
-hands_for (plan path volume reserve reclaim) image more reply status old new is made out = (reply, made, out)
-hands_for (optimize words reserve reclaim) image more reply status old new is made out = (reply, made, out)
+hands_for (plan path volume reserve reclaim in_words) image more reply status old new is made out = (reply, made, out)
+hands_for (optimize words reserve reclaim cert) image more reply status old new is made out = (reply, made, out)
 hands_for (verify path volume from reserve reclaim) image more reply status old new is made out = (reply, made, out)
 hands_for (identify path) image more reply status old new is made out = (reply, made, out)
 
@@ -135,7 +136,7 @@ keeps_same None = tt
 keeps_same (Some bytes) = refl
 
 pub command_refused : (list : List (List ℕ)) (fault : WordsFault) (known extra out : Option (List ℕ)) (status : ℕ) (old new : Option (List ℕ))
-    → (IsTaken list → fault ≡ words.Memory) → IsWordsAnswer fault status old new
+    → (IsTaken list → fault ≡ words.Memory) → IsFaultOf list fault → IsWordsAnswer fault status old new
     → IfSome known (λ image. IsCommandAnswer list image extra status (held old out) (held new out))
-command_refused list fault None extra out status old new taken told = tt
-command_refused list fault (Some image) extra out status old new taken told = inl (fault, taken, told, keeps_same out)
+command_refused list fault None extra out status old new taken at_fault told = tt
+command_refused list fault (Some image) extra out status old new taken at_fault told = inl (fault, taken, at_fault, told, keeps_same out)

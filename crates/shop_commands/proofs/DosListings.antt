@@ -13,8 +13,8 @@ answer-dos (catalog path volume) image extra status old new answer = λ dos.
     (reply, ⊎_elim (λ told. inl (dos_catalog_listed (order_of volume.order) volume.data_disk volume.file_system image reply dos told)) (λ failed. inr failed) answer.1, answer.2)
 answer-dos (check path volume reserve) image extra status old new answer = tt
 answer-dos (read path name volume whole) image extra status old new answer = tt
-answer-dos (plan path volume reserve reclaim) image extra status old new answer = tt
-answer-dos (optimize words reserve reclaim) image extra status old new answer = tt
+answer-dos (plan path volume reserve reclaim in_words) image extra status old new answer = tt
+answer-dos (optimize words reserve reclaim cert) image extra status old new answer = tt
 answer-dos (verify path volume from reserve reclaim) image extra status old new answer = tt
 answer-dos (convert words) image extra status old new answer = tt
 answer-dos (identify path) image extra status old new answer = tt

@@ -9,6 +9,7 @@ use Rattle.shop_words.specs.declared.job.FileSystem.TheVariants as systems
 use Rattle.shop_words.specs.declared.job.ImageOrder.{ImageOrder}
 use Rattle.shop_words.specs.declared.job.ImageOrder.TheVariants as wanted
 use Rattle.shop_words.specs.declared.job.VolumeOptions.{VolumeOptions}
+use Rattle.shop_words.specs.Fault.{IsFaultOf}
 use Rattle.shop_words.specs.declared.fault.WordsFault.{WordsFault}
 use Rattle.shop_words.specs.declared.fault.WordsFault.TheVariants as words
 use Rattle.job_reply.specs.declared.reply.Failure.{Failure}
@@ -28,8 +29,8 @@ abbrev pub image_of : JobView → Text
 image_of (catalog path volume) = path
 image_of (check path volume reserve) = path
 image_of (read path name volume whole) = path
-image_of (plan path volume reserve reclaim) = path
-image_of (optimize words reserve reclaim) = words.image
+image_of (plan path volume reserve reclaim in_words) = path
+image_of (optimize words reserve reclaim cert) = words.image
 image_of (verify path volume from reserve reclaim) = path
 image_of (convert words) = words.image
 image_of (identify path) = path
@@ -44,11 +45,16 @@ abbrev pub out_of : JobView → Option Text
 out_of (catalog path volume) = None
 out_of (check path volume reserve) = None
 out_of (read path name volume whole) = None
-out_of (plan path volume reserve reclaim) = None
-out_of (optimize words reserve reclaim) = Some words.out
+out_of (plan path volume reserve reclaim in_words) = None
+out_of (optimize words reserve reclaim cert) = Some words.out
 out_of (verify path volume from reserve reclaim) = None
 out_of (convert words) = Some words.out
 out_of (identify path) = None
+
+-- the path of the file that a job writes its certificate to
+abbrev pub certificate_of : JobView → Option Text
+certificate_of (optimize words reserve reclaim cert) = cert
+certificate_of job = None
 
 -- the order that the words name
 abbrev pub order_of : ImageOrder → Order
@@ -61,8 +67,8 @@ abbrev pub image_order_of : JobView → Order
 image_order_of (catalog path volume) = order_of volume.order
 image_order_of (check path volume reserve) = order_of volume.order
 image_order_of (read path name volume whole) = order_of volume.order
-image_order_of (plan path volume reserve reclaim) = order_of volume.order
-image_order_of (optimize words reserve reclaim) = order_of words.volume.order
+image_order_of (plan path volume reserve reclaim in_words) = order_of volume.order
+image_order_of (optimize words reserve reclaim cert) = order_of words.volume.order
 image_order_of (verify path volume from reserve reclaim) = order_of volume.order
 image_order_of (convert words) = order_of words.order
 image_order_of (identify path) = orders.Prodos
@@ -85,8 +91,8 @@ abbrev pub IsReplyTo : JobView → List ℕ → Option (List ℕ) → Reply → 
 IsReplyTo (catalog path volume) image extra reply = IsToldOf volume None image Catalog reply
 IsReplyTo (check path volume reserve) image extra reply = IsToldOf volume reserve image Check reply
 IsReplyTo (read path name volume whole) image extra reply = IsToldOf volume None image (Read name whole) reply
-IsReplyTo (plan path volume reserve reclaim) image extra reply = IsToldOf volume reserve image (Plan reclaim) reply
-IsReplyTo (optimize words reserve reclaim) image extra reply = IsToldOf words.volume reserve image (Optimize reclaim (limit_of words.stop_after)) reply
+IsReplyTo (plan path volume reserve reclaim in_words) image extra reply = IsToldOf volume reserve image (Plan reclaim in_words) reply
+IsReplyTo (optimize words reserve reclaim cert) image extra reply = IsToldOf words.volume reserve image (Optimize reclaim (limit_of words.stop_after)) reply
 IsReplyTo (verify path volume from reserve reclaim) image extra reply = IfSome extra (λ bytes. IsToldOf volume reserve image (Verify reclaim bytes) reply)
 IsReplyTo (convert words) image extra reply = IsConvertReply (order_of words.order) (order_of words.to) words.volume image reply
 IsReplyTo (identify path) image extra reply = IsIdentifyReply image reply
@@ -98,8 +104,8 @@ ReadsExtra job = ⊥
 
 -- the job asks where the parts of files belong
 abbrev pub AsksForMoves : JobView → Type 0
-AsksForMoves (plan path volume reserve reclaim) = Unit {0}
-AsksForMoves (optimize words reserve reclaim) = Unit {0}
+AsksForMoves (plan path volume reserve reclaim in_words) = Unit {0}
+AsksForMoves (optimize words reserve reclaim cert) = Unit {0}
 AsksForMoves (verify path volume from reserve reclaim) = Unit {0}
 AsksForMoves job = ⊥
 
@@ -108,8 +114,8 @@ abbrev pub MakesImage : JobView → Type 0
 MakesImage (catalog path volume) = ⊥
 MakesImage (check path volume reserve) = ⊥
 MakesImage (read path name volume whole) = ⊥
-MakesImage (plan path volume reserve reclaim) = ⊥
-MakesImage (optimize words reserve reclaim) = Unit {0}
+MakesImage (plan path volume reserve reclaim in_words) = ⊥
+MakesImage (optimize words reserve reclaim cert) = Unit {0}
 MakesImage (verify path volume from reserve reclaim) = ⊥
 MakesImage (convert words) = Unit {0}
 MakesImage (identify path) = ⊥
@@ -136,16 +142,17 @@ IsDosCatalogAnswer (catalog path volume) image status old new =
     × IsDelivered reply status old new
 IsDosCatalogAnswer job image status old new = Unit {0}
 
--- words that are no job were told: refused with the text for the user, or for want of memory
+-- words that are no job were told: the help that they ask for, a refusal with the text for the user, or want of memory
 abbrev pub IsWordsAnswer : WordsFault → ℕ → Option (List ℕ) → Option (List ℕ) → Type 0
+IsWordsAnswer (words.Help text) status old new = IsWritten 0 (string_bytes text) status old new
 IsWordsAnswer (words.Refused text) status old new = IsWritten 2 (string_bytes text) status old new
 IsWordsAnswer words.Memory status old new = IsWritten 4 (failure_line failures.Memory) status old new
 
--- Words were answered: refused, and only words that the workshop does not take; for want of memory; or as the job that they ask for. What is told is one text, and words
--- that are no job hand nothing out.
+-- Words were answered: with help, and only words that may ask for it; refused, and only mistaken words, which the workshop does not take; for want of memory; or as the
+-- job that they ask for. What is told is one text, and words that are no job hand nothing out.
 abbrev pub IsCommandAnswer : List Text → List ℕ → Option (List ℕ) → ℕ → Held → Held → Type 0
 IsCommandAnswer list image extra status old new =
-    ((fault : WordsFault) × (IsTaken list → fault ≡ words.Memory) × IsWordsAnswer fault status old.text new.text × Keeps old.out new.out)
+    ((fault : WordsFault) × (IsTaken list → fault ≡ words.Memory) × IsFaultOf list fault × IsWordsAnswer fault status old.text new.text × Keeps old.out new.out)
     ⊎ ((job : JobView) × (asked_job list ≡ Some job) × IsAnswer job image extra status old new)
 
 -- a file beside the image is read for the job that the words ask for

@@ -10,14 +10,18 @@ use shop_words::{WordsFault, parse_words};
 use std::alloc::Global;
 use std::io::{Read, Write};
 
+/// The status of help that was asked for.
+const HELP_TOLD: u8 = 0;
+
 /// The status of refused words.
 const WORDS_REFUSED: u8 = 2;
 
-/// Tells why words are no job: 2 and the text for the user, or 4 for want of memory.
+/// Tells why words are no job: 0 and the help that they ask for, 2 and the text for the user, or 4 for want of memory.
 pub fn tell_words_fault<T: Write>(fault: &WordsFault, text: &mut T) -> u8
     ensures { IsWordsAnswer fault.now result (T.contents text.old) (T.contents text.new) }
 {
     match fault {
+        WordsFault::Help(help) => written(help.as_bytes(), HELP_TOLD, text),
         WordsFault::Refused(refusal) => written(refusal.as_bytes(), WORDS_REFUSED, text),
         WordsFault::Memory => Reply::Failed(Failure::Memory).tell(text),
     }

@@ -75,9 +75,13 @@ fn moves_reply(alloc: Global, job: &Job, image: Vec<u8>, extra: &[u8]) -> Reply
             volume,
             reserve,
             reclaim,
+            words,
             ..
         } => {
-            let work = Work::Plan { reclaim: *reclaim };
+            let work = Work::Plan {
+                reclaim: *reclaim,
+                words: *words,
+            };
             volume_reply(alloc, work, image, order, *volume, reserve.as_deref())
         }
         Job::Optimize {

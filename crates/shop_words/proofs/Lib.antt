@@ -16,6 +16,7 @@ pub mod ReadLine
 pub mod ConvertLine
 pub mod PlainTable
 pub mod AskedLemmas
+pub mod FaultLemmas
 pub mod PlanLine
 pub mod OptimizeLine
 pub mod VerifyLine

@@ -1,7 +1,7 @@
 -- The plain lists of `optimize`.
 use Rattle.std.proofs.Common.{◌≡◌, ℕ, refl, true, List, [], ◌∷◌, Option, Some, None, codes, is_some, option_map, arith}
 use Rattle.clap.proofs.OnLiterals.{clap_on_literals}
-use Rattle.shop_words.specs.Table.{Text, optimize_form, file_system, order, out, data_disk, reserve, reclaim, stop_after, most_writes}
+use Rattle.shop_words.specs.Table.{Text, optimize_form, file_system, order, out, data_disk, reserve, reclaim, stop_after, cert, most_writes}
 use Rattle.shop_words.specs.Plain.{Use, IsPlainLine, is_number}
 use Rattle.shop_words.specs.Job.{OptimizationView, JobView, optimize, optimization_of, is_on, limit_named, line_job, line_said, value_of, volume_by}
 use Rattle.shop_words.specs.declared.job.VolumeOptions.{VolumeOptions}
@@ -20,11 +20,12 @@ optimize_known =
     let knows_reserve : Knows s reserve = record { by_long = refl; by_id = refl; same = refl; long = refl; dashes = refl } in
     let knows_reclaim : Knows s reclaim = record { by_long = refl; long = refl; dashes = refl } in
     let knows_stop_after : Knows s stop_after = record { by_long = refl; by_id = refl; same = refl; long = refl; dashes = refl } in
+    let knows_cert : Knows s cert = record { by_long = refl; by_id = refl; same = refl; long = refl; dashes = refl } in
     record {
       named = refl;
       met = refl;
       first = refl;
-      parameters = (tt, (knows_file_system, (knows_order, (knows_out, (knows_data_disk, (knows_reserve, (knows_reclaim, (knows_stop_after, tt))))))));
+      parameters = (tt, (knows_file_system, (knows_order, (knows_out, (knows_data_disk, (knows_reserve, (knows_reclaim, (knows_stop_after, (knows_cert, tt)))))))));
       positionals = (refl, refl, refl, tt);
       positional_parameters = refl;
       apart = refl;
@@ -61,6 +62,6 @@ is_some-line_job-optimize (image ∷ []) uses plain =
     let limit : (v : Text) → value_of (codes "stop-after") uses ≡ Some v → is_number most_writes v ≡ true =
     value_passes optimize_form.parameters (codes "stop-after") (takes_number most_writes) (is_number most_writes) uses refl (number_ensures most_writes) refl plain.known in
     rw file.1 (optimization_there image file.0 (volume_by said) (limit_named (value_of (codes "stop-after") uses))
-    (λ o. optimize o (said (codes "reserve")) (is_on (said (codes "reclaim"))))
+    (λ o. optimize o (said (codes "reserve")) (is_on (said (codes "reclaim"))) (said (codes "cert")))
     (volume_by-line optimize_form (image ∷ []) uses said optimize_volume plain refl refl) (limit_there (value_of (codes "stop-after") uses) limit))
 is_some-line_job-optimize (a ∷ b ∷ rest) uses plain = let same = plain.as_many in absurd (omega (arith, same))

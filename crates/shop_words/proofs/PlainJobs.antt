@@ -20,10 +20,10 @@ use Rattle.shop_words.proofs.PlainValues.{Test, flag_same, leaves_off, option_sa
 
 -- the names by which a job is said, and those of its flags
 abbrev pub option_names : List Text
-option_names = codes "image" ∷ codes "fs" ∷ codes "order" ∷ codes "to" ∷ codes "out" ∷ codes "volume" ∷ codes "reserve" ∷ codes "name" ∷ codes "stop-after" ∷ codes "from" ∷ []
+option_names = codes "image" ∷ codes "fs" ∷ codes "order" ∷ codes "to" ∷ codes "out" ∷ codes "volume" ∷ codes "reserve" ∷ codes "name" ∷ codes "stop-after" ∷ codes "cert" ∷ codes "from" ∷ []
 
 abbrev pub flag_names : List Text
-flag_names = codes "data-disk" ∷ codes "whole" ∷ codes "reclaim" ∷ []
+flag_names = codes "data-disk" ∷ codes "whole" ∷ codes "reclaim" ∷ codes "words" ∷ []
 
 abbrev pub leaves_all_off : FormView → Test → List Text → Bool
 leaves_all_off f q names = list_all (λ id. list_all (leaves_off q id) (shape_named f.name).rules) names
@@ -50,10 +50,12 @@ job_by-same command s t options flags =
       options (codes "reserve") refl,
       options (codes "name") refl,
       options (codes "stop-after") refl,
+      options (codes "cert") refl,
       options (codes "from") refl,
       flags (codes "data-disk") refl,
       flags (codes "whole") refl,
       flags (codes "reclaim") refl,
+      flags (codes "words") refl,
     ) refl
 
 -- what clap finds under a name

@@ -1,6 +1,7 @@
 -- Each plain list of each form of the table is taken, and has the job that its form says.
 use Rattle.std.proofs.Common.{◌≡◌, ◌∙◌, ap, true, List, [], ◌∷◌, is_some, All, Contains, arith}
 use Rattle.std.proofs.lemmas.List.Elements.{All-contains, All-cons}
+use Rattle.clap.specs.Faults.{is_simple_and_free}
 use Rattle.clap.specs.Simple.{is_simple, subcommand_of}
 use Rattle.clap.specs.Takes.{takes}
 use Rattle.shop_words.specs.Table.{Text, FormView, catalog_form, check_form, read_form, convert_form, plan_form, optimize_form, verify_form, identify_form, forms}
@@ -8,7 +9,7 @@ use Rattle.shop_words.specs.Grammar.{shop}
 use Rattle.shop_words.specs.Plain.{Use, IsPlainLine, line_words}
 use Rattle.shop_words.specs.Job.{found_job, line_job}
 use Rattle.shop_words.proofs.PlainForms.{IsKnown, shape_named}
-use Rattle.shop_words.proofs.PlainTaken.{is_simple-whole, subcommand_of-line, takes-line}
+use Rattle.shop_words.proofs.PlainTaken.{is_simple-whole, is_simple_and_free-whole, subcommand_of-line, takes-line}
 use Rattle.shop_words.proofs.PlainJobs.{HasPlainDefaults, job_by-rows}
 use Rattle.shop_words.proofs.CatalogLine.{catalog_defaults, catalog_known, is_some-line_job-catalog}
 use Rattle.shop_words.proofs.CheckLine.{check_defaults, check_known, is_some-line_job-check}
@@ -80,3 +81,7 @@ is_some-line_job f positionals uses at plain = (served f at).job positionals use
 pub is_simple-shop : is_simple shop ≡ true
 unfolding shop
 is_simple-shop = is_simple-whole
+
+pub is_simple_and_free-shop : is_simple_and_free shop ≡ true
+unfolding shop
+is_simple_and_free-shop = is_simple_and_free-whole

@@ -4,6 +4,7 @@ use Rattle.std.proofs.lemmas.Bool.{and_from}
 use Rattle.std.proofs.lemmas.List.{append-nil}
 use Rattle.clap.specs.Walk.{Names, Row, Rule, Text, Walk, nothing_held, stop_after, walk_from, walked, with_default}
 use Rattle.clap.specs.Simple.{Shape, built, entered, is_simple, rows_at, subcommand_of}
+use Rattle.clap.specs.Faults.{is_simple_and_free}
 use Rattle.clap.specs.Takes.{takes, walk_passes}
 use Rattle.clap.proofs.OnLiterals.{clap_on_literals}
 use Rattle.shop_words.specs.Table.{FormView}
@@ -15,6 +16,10 @@ use Rattle.shop_words.proofs.PlainForms.{IsKnown, line_passes, line_walks, shape
 pub is_simple-whole : is_simple whole ≡ true
 unfolding clap_on_literals
 is_simple-whole = refl
+
+pub is_simple_and_free-whole : is_simple_and_free whole ≡ true
+unfolding clap_on_literals
+is_simple_and_free-whole = refl
 
 -- the words after the command's name wait for the command
 walked-stopped : (c : List Rule) (names : Names) (name : Text) (so_far words : List Text)

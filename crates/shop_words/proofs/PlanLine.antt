@@ -1,7 +1,7 @@
 -- The plain lists of `plan`.
 use Rattle.std.proofs.Common.{◌≡◌, refl, true, Bool, List, [], ◌∷◌, Option, Some, None, codes, is_some, option_map, arith}
 use Rattle.clap.proofs.OnLiterals.{clap_on_literals}
-use Rattle.shop_words.specs.Table.{Text, plan_form, file_system, order, data_disk, reserve, reclaim}
+use Rattle.shop_words.specs.Table.{Text, plan_form, file_system, order, data_disk, reserve, reclaim, in_words}
 use Rattle.shop_words.specs.Plain.{Use, IsPlainLine}
 use Rattle.shop_words.specs.Job.{plan, is_on, line_job, line_said, volume_by}
 use Rattle.shop_words.specs.declared.job.VolumeOptions.{VolumeOptions}
@@ -17,11 +17,12 @@ plan_known =
     let knows_data_disk : Knows s data_disk = record { by_long = refl; long = refl; dashes = refl } in
     let knows_reserve : Knows s reserve = record { by_long = refl; by_id = refl; same = refl; long = refl; dashes = refl } in
     let knows_reclaim : Knows s reclaim = record { by_long = refl; long = refl; dashes = refl } in
+    let knows_words : Knows s in_words = record { by_long = refl; long = refl; dashes = refl } in
     record {
       named = refl;
       met = refl;
       first = refl;
-      parameters = (tt, (knows_file_system, (knows_order, (knows_data_disk, (knows_reserve, (knows_reclaim, tt))))));
+      parameters = (tt, (knows_file_system, (knows_order, (knows_data_disk, (knows_reserve, (knows_reclaim, (knows_words, tt)))))));
       positionals = (refl, refl, refl, tt);
       positional_parameters = refl;
       apart = refl;
@@ -40,14 +41,15 @@ plan_volume = record {
   order_values = refl;
 }
 
-with_image : (image : Text) (volume : Option VolumeOptions) (places : Option Text) (all : Bool) → is_some volume ≡ true
-    → is_some (option_map (λ v. plan image v places all) volume) ≡ true
-with_image image None places all has = cc
-with_image image (Some v) places all has = refl
+with_image : (image : Text) (volume : Option VolumeOptions) (places : Option Text) (all told : Bool) → is_some volume ≡ true
+    → is_some (option_map (λ v. plan image v places all told) volume) ≡ true
+with_image image None places all told has = cc
+with_image image (Some v) places all told has = refl
 
 pub is_some-line_job-plan : (positionals : List Text) (uses : List Use) → IsPlainLine plan_form positionals uses → is_some (line_job plan_form positionals uses) ≡ true
 is_some-line_job-plan [] uses plain = let same = plain.as_many in absurd (omega (arith, same))
 is_some-line_job-plan (image ∷ []) uses plain =
     let said = line_said plan_form (image ∷ []) uses in
-    with_image image (volume_by said) (said (codes "reserve")) (is_on (said (codes "reclaim"))) (volume_by-line plan_form (image ∷ []) uses said plan_volume plain refl refl)
+    with_image image (volume_by said) (said (codes "reserve")) (is_on (said (codes "reclaim"))) (is_on (said (codes "words")))
+    (volume_by-line plan_form (image ∷ []) uses said plan_volume plain refl refl)
 is_some-line_job-plan (a ∷ b ∷ rest) uses plain = let same = plain.as_many in absurd (omega (arith, same))

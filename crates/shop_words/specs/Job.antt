@@ -29,7 +29,7 @@ pub record ConversionView : Type 0 where
 abbrev pub conversion_view : Conversion → ConversionView
 conversion_view c = record { image = c.image.now; order = c.order; to = c.to; out = c.out.now; volume = c.volume }
 
--- an optimization as contracts see it, but for its reserved places and whether it reclaims
+-- an optimization as contracts see it, but for its reserved places, whether it reclaims, and the file of its certificate
 pub record OptimizationView : Type 0 where
   pub image : Text
   pub volume : VolumeOptions
@@ -45,8 +45,8 @@ pub data JobView : Type 0 where
   check : Text → VolumeOptions → Option Text → JobView
   read : Text → Text → VolumeOptions → Bool → JobView
   convert : ConversionView → JobView
-  plan : Text → VolumeOptions → Option Text → Bool → JobView
-  optimize : OptimizationView → Option Text → Bool → JobView
+  plan : Text → VolumeOptions → Option Text → Bool → Bool → JobView
+  optimize : OptimizationView → Option Text → Bool → Option Text → JobView
   verify : Text → VolumeOptions → Text → Option Text → Bool → JobView
   identify : Text → JobView
 
@@ -61,9 +61,10 @@ job_view (jobs.Convert image order to out volume) = convert (record {
   out = string_bytes out;
   volume = volume;
 })
-job_view (jobs.Plan image volume reserve reclaim) = plan (string_bytes image) volume (option_map string_bytes reserve) reclaim
-job_view (jobs.Optimize image volume out reserve reclaim stop_after) =
-    optimize (record { image = string_bytes image; volume = volume; out = string_bytes out; stop_after = stop_after }) (option_map string_bytes reserve) reclaim
+job_view (jobs.Plan image volume reserve reclaim in_words) = plan (string_bytes image) volume (option_map string_bytes reserve) reclaim in_words
+job_view (jobs.Optimize image volume out reserve reclaim stop_after cert) =
+    optimize (record { image = string_bytes image; volume = volume; out = string_bytes out; stop_after = stop_after })
+    (option_map string_bytes reserve) reclaim (option_map string_bytes cert)
 job_view (jobs.Verify image volume from reserve reclaim) = verify (string_bytes image) volume (string_bytes from) (option_map string_bytes reserve) reclaim
 job_view (jobs.Identify image) = identify (string_bytes image)
 
@@ -126,9 +127,10 @@ abbrev pub conversion_by : Said → Option ConversionView
 conversion_by said = conversion_of (said (codes "image")) (option_and_then order_named (said (codes "order")))
     (option_and_then order_named (said (codes "to"))) (said (codes "out")) (volume_number (said (codes "volume")))
 
--- the certificate of a volume's plan
+-- the plan of a volume, as a certificate, or in words where a flag says so
 abbrev pub plan_by : Said → Option JobView
-plan_by said = option_and_then (λ image. option_map (λ volume. plan image volume (said (codes "reserve")) (is_on (said (codes "reclaim")))) (volume_by said)) (said (codes "image"))
+plan_by said = option_and_then (λ image. option_map (λ volume. plan image volume (said (codes "reserve")) (is_on (said (codes "reclaim"))) (is_on (said (codes "words")))) (volume_by said))
+    (said (codes "image"))
 
 -- the limit of writes that is said, or that none is
 abbrev pub limit_named : Option Text → Option (Option ℕ)
@@ -144,7 +146,7 @@ abbrev pub optimization_by : Said → Option OptimizationView
 optimization_by said = optimization_of (said (codes "image")) (volume_by said) (said (codes "out")) (limit_named (said (codes "stop-after")))
 
 abbrev pub optimize_by : Said → Option JobView
-optimize_by said = option_map (λ optimization. optimize optimization (said (codes "reserve")) (is_on (said (codes "reclaim")))) (optimization_by said)
+optimize_by said = option_map (λ optimization. optimize optimization (said (codes "reserve")) (is_on (said (codes "reclaim"))) (said (codes "cert"))) (optimization_by said)
 
 abbrev pub verify_by : Said → Option JobView
 verify_by said = option_and_then (λ image. option_and_then (λ from. option_map (λ volume.

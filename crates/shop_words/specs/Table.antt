@@ -116,12 +116,18 @@ convert_form = record {
   parameters = image ∷ order ∷ to ∷ out ∷ volume ∷ data_disk ∷ [];
 }
 
--- `--reclaim`, `--stop-after K` and `--from FILE`
+-- `--reclaim`, `--stop-after K`, `--cert FILE`, `--words` and `--from FILE`
 abbrev pub reclaim : ParameterView
 reclaim = parameter (codes "reclaim") flag
 
 abbrev pub stop_after : ParameterView
 stop_after = parameter (codes "stop-after") (optional (number most_writes))
+
+abbrev pub cert : ParameterView
+cert = parameter (codes "cert") (optional any)
+
+abbrev pub in_words : ParameterView
+in_words = parameter (codes "words") flag
 
 abbrev pub from : ParameterView
 from = parameter (codes "from") (needed any)
@@ -129,13 +135,13 @@ from = parameter (codes "from") (needed any)
 abbrev pub plan_form : FormView
 plan_form = record {
   name = codes "plan";
-  parameters = image ∷ file_system ∷ order ∷ data_disk ∷ reserve ∷ reclaim ∷ [];
+  parameters = image ∷ file_system ∷ order ∷ data_disk ∷ reserve ∷ reclaim ∷ in_words ∷ [];
 }
 
 abbrev pub optimize_form : FormView
 optimize_form = record {
   name = codes "optimize";
-  parameters = image ∷ file_system ∷ order ∷ out ∷ data_disk ∷ reserve ∷ reclaim ∷ stop_after ∷ [];
+  parameters = image ∷ file_system ∷ order ∷ out ∷ data_disk ∷ reserve ∷ reclaim ∷ stop_after ∷ cert ∷ [];
 }
 
 abbrev pub verify_form : FormView

@@ -8,7 +8,10 @@ use thiserror::Error;
 /// Why the words are no job.
 #[derive(Debug, Drop, Error)]
 pub enum WordsFault {
-    /// The words are those of no command, or ask for help: the text for the user, of whole lines.
+    /// The words ask for help: its text, of whole lines.
+    #[error("{0}")]
+    Help(String),
+    /// The words are those of no command: what is wrong with them and the usage, of whole lines.
     #[error("{0}")]
     Refused(String),
     /// Memory ran out.

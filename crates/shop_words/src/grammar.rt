@@ -6,6 +6,7 @@ ghost use Rattle.clap.specs.Simple.{app_of};
 ghost use Rattle.shop_words.specs.Grammar.{rule_of_parameter, leaf_app, shop};
 ghost use Rattle.shop_words.specs.Table.{parameter_view, form_view, forms};
 
+use crate::notes;
 use crate::table::{Form, Kind, Parameter, table};
 use clap::{Arg, ArgAction, Command};
 use std::alloc::{AllocError, Global};
@@ -32,7 +33,9 @@ fn command_of<'a>(alloc: Global, form: &Form) -> Result<Command<'a>, AllocError>
     ensures app { IfOk result (λ c. app_of c ≡ leaf_app (form_view form.now)) }
     ensures local { IfOk result (λ c. (out-Command c).has_globals ≡ false) }
 {
-    let mut command = Command::new(alloc, form.name).about(form.help);
+    let mut command = Command::new(alloc, form.name)
+        .about(form.help)
+        .after_help(form.notes);
     for parameter in form.parameters {
         command = command.arg(argument(alloc, parameter))?;
     }
@@ -55,6 +58,7 @@ pub fn program<'a>(alloc: Global) -> Result<Command<'a>, AllocError>
 {
     let mut program = Command::new(alloc, PROGRAM)
         .about(HELP)
+        .after_help(notes::PROGRAM)
         .bin_name(PROGRAM)?
         .no_binary_name(true)
         .subcommand_required(true);

@@ -77,6 +77,8 @@ pub enum Job {
         reserve: Option<String>,
         /// Whether lost places are marked free.
         reclaim: bool,
+        /// Whether the moves are told in words, and not as a certificate.
+        words: bool,
     },
     /// Brings the files of a volume into order.
     Optimize {
@@ -91,6 +93,8 @@ pub enum Job {
         reclaim: bool,
         /// After how many writes to stop; `None` is when all is done.
         stop_after: Option<u64>,
+        /// The path of the file that the certificate is written to.
+        cert: Option<String>,
     },
     /// Tells whether a certificate shows that no plan is shorter.
     Verify {

@@ -8,13 +8,19 @@
 //! option as `--name` and its value apart. With no word the job is that of
 //! `catalog --fs dos --order dos -`.
 //!
+//! The words are read as they are. Only where they are refused, the text is made from the escaped
+//! words (`specs/Escaping.antt`).
+//!
 //! What always holds: a job that is answered is the function `asked_job` of the words, whatever
-//! they are, and a plain list is never refused.
+//! they are; a plain list is never refused; help is answered only to words that may ask for it, and
+//! a refusal only to words in which something else is wrong (`specs/Fault.antt`).
 #![tactic(auto)]
 
+mod escaping;
 mod fault;
 mod grammar;
 mod job;
+mod notes;
 mod optimizing;
 mod reading;
 mod refusal;

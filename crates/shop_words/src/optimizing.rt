@@ -53,5 +53,6 @@ pub fn optimize_in(alloc: Global, matches: &ArgMatches<'_>) -> Result<Option<Job
         reserve: text_said(alloc, matches, "reserve")?,
         reclaim: has_flag(matches, "reclaim"),
         stop_after: words.stop_after,
+        cert: text_said(alloc, matches, "cert")?,
     }))
 }

@@ -216,6 +216,7 @@ fn plan_in(alloc: Global, matches: &ArgMatches<'_>) -> Result<Option<Job>, Alloc
         volume,
         reserve: text_said(alloc, matches, "reserve")?,
         reclaim: has_flag(matches, "reclaim"),
+        words: has_flag(matches, "words"),
     }))
 }
 

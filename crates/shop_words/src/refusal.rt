@@ -1,7 +1,9 @@
-//! The texts of refused words.
-ghost use Rattle.std.specs.Prelude.{◌≡◌};
+//! The texts of refused words, and of help.
+ghost use Rattle.std.specs.Prelude.{◌≡◌, ◌≢◌, IfOk};
 ghost use Rattle.clap.specs.Values.{kind_of};
+ghost use Rattle.shop_words.specs.Fault.{IsFaultBy};
 
+use crate::escaping::{all_escaped, escaped};
 use crate::fault::WordsFault;
 use crate::grammar::{full_command, program};
 use crate::reading::{number_named, said};
@@ -33,15 +35,42 @@ fn clap_text(alloc: Global, words: &[String], error: &Error) -> Result<String, A
     format!(in alloc; "{text}\n{usage}\n")
 }
 
-/// The refusal of words that clap refuses.
+/// What is told where the words are those of no command, and nothing more is known.
+const NO_COMMAND: &str = "error: the words are those of no command\n";
+
+/// What clap says of refused words. It repeats some of them, so it is asked of the escaped ones.
+fn refused_text(alloc: Global, words: &[String]) -> Result<String, AllocError> {
+    let shown = all_escaped(alloc, words)?;
+    match program(alloc)?.try_get_matches_from(shown.as_slice()) {
+        Ok(_) => NO_COMMAND.to_string(alloc),
+        Err(error) => match error.kind() {
+            ErrorKind::OutOfMemory => Err(AllocError),
+            _ => clap_text(alloc, shown.as_slice(), &error),
+        },
+    }
+}
+
+/// The help that the words ask for, or their refusal.
+fn told(alloc: Global, words: &[String], error: &Error) -> Result<WordsFault, AllocError>
+    requires { kind_of error.now ≢ ErrorKind.OutOfMemory }
+    ensures { IfOk result (IsFaultBy (kind_of error.now)) }
+{
+    if error.kind() == ErrorKind::DisplayHelp {
+        return Ok(WordsFault::Help(error.to_string(alloc)?));
+    }
+    Ok(WordsFault::Refused(refused_text(alloc, words)?))
+}
+
+/// What is told of words that clap refuses, or that ask it for help.
 pub fn refusal(alloc: Global, words: &[String], error: &Error) -> WordsFault
-    ensures { kind_of error.now ≡ ErrorKind.OutOfMemory → result ≡ WordsFault.Memory }
+    ensures memory { kind_of error.now ≡ ErrorKind.OutOfMemory → result ≡ WordsFault.Memory }
+    ensures kind { IsFaultBy (kind_of error.now) result }
 {
     if error.kind() == ErrorKind::OutOfMemory {
         return WordsFault::Memory;
     }
-    match clap_text(alloc, words, error) {
-        Ok(text) => WordsFault::Refused(text),
+    match told(alloc, words, error) {
+        Ok(fault) => fault,
         Err(AllocError) => WordsFault::Memory,
     }
 }
@@ -110,7 +139,7 @@ impl Misfit<'_> {
     /// What clap says of such a value, with the command's usage.
     fn text(&self, alloc: Global) -> Result<String, AllocError> {
         let name = self.name;
-        let value = self.value;
+        let value = escaped(alloc, self.value)?;
         let wanted = wanted(alloc, self.values)?;
         let message = format!(in alloc;
             "invalid value '{value}' for '--{name} <{name}>'\n  {wanted}"
@@ -125,6 +154,6 @@ impl Misfit<'_> {
 pub fn misfit_text(alloc: Global, matches: &ArgMatches<'_>) -> Result<String, AllocError> {
     match misfit_in(matches) {
         Some(misfit) => misfit.text(alloc),
-        None => "error: the words are those of no command\n".to_string(alloc),
+        None => NO_COMMAND.to_string(alloc),
     }
 }

@@ -2,6 +2,8 @@
 ghost use Rattle.std.specs.Prelude.{◌≡◌, map};
 ghost use Rattle.shop_words.specs.Table.{form_view, forms};
 
+use crate::notes;
+
 /// What words an option takes.
 #[derive(Clone, Copy)]
 pub enum Values {
@@ -34,12 +36,15 @@ pub struct Parameter {
     pub help: &'static str,
 }
 
-/// A command's name and its parameters; the positional ones are in the order of their words.
+/// A command's name and its parameters; the positional ones are in the order of their words. The
+/// texts of its help say nothing that is read.
 #[derive(Clone, Copy)]
 pub struct Form {
     pub name: &'static str,
     pub parameters: &'static [Parameter],
     pub help: &'static str,
+    /// What stands below the help: an example, the statuses and what is refused.
+    pub notes: &'static str,
 }
 
 const IMAGE: Parameter = Parameter {
@@ -57,7 +62,7 @@ const NAME: Parameter = Parameter {
 const FILE_SYSTEM: Parameter = Parameter {
     name: "fs",
     kind: Kind::Needed(Values::OneOf(&["dos", "prodos"])),
-    help: "File system of the volume: dos or prodos",
+    help: "File system of the volume, or auto for the one that identify names: dos, prodos or auto",
 };
 
 const ORDERS: Values = Values::OneOf(&["dos", "prodos", "nibble"]);
@@ -65,7 +70,7 @@ const ORDERS: Values = Values::OneOf(&["dos", "prodos", "nibble"]);
 const ORDER: Parameter = Parameter {
     name: "order",
     kind: Kind::Needed(ORDERS),
-    help: "Order of the sectors in the image: dos, prodos or nibble",
+    help: "Order of the sectors in the image, or auto for the one that identify names: dos, prodos, nibble or auto",
 };
 
 const TO: Parameter = Parameter {
@@ -110,10 +115,22 @@ const STOP_AFTER: Parameter = Parameter {
     help: "Stop after so many writes; without it, when all is done",
 };
 
+const CERT: Parameter = Parameter {
+    name: "cert",
+    kind: Kind::Optional(Values::Any),
+    help: "File that the certificate is written to, for verify --from",
+};
+
+const WORDS: Parameter = Parameter {
+    name: "words",
+    kind: Kind::Flag,
+    help: "Tell the moves in words, and not as a certificate",
+};
+
 const FROM: Parameter = Parameter {
     name: "from",
     kind: Kind::Needed(Values::Any),
-    help: "File that is read beside the image",
+    help: "File of the certificate, as optimize --cert and plan write it",
 };
 
 const WHOLE: Parameter = Parameter {
@@ -127,26 +144,39 @@ const FORMS: &[Form] = &[
         name: "catalog",
         parameters: &[IMAGE, FILE_SYSTEM, ORDER, DATA_DISK],
         help: "List the files of a volume",
+        notes: notes::CATALOG,
     },
     Form {
         name: "check",
         parameters: &[IMAGE, FILE_SYSTEM, ORDER, DATA_DISK, RESERVE],
         help: "Tell whether a volume is sound, or what is wrong with it",
+        notes: notes::CHECK,
     },
     Form {
         name: "read",
         parameters: &[IMAGE, NAME, FILE_SYSTEM, ORDER, WHOLE, DATA_DISK],
         help: "Write the bytes of a file of a volume to standard output",
+        notes: notes::READ,
     },
     Form {
         name: "convert",
         parameters: &[IMAGE, ORDER, TO, OUT, VOLUME, DATA_DISK],
-        help: "Write the sectors of an image in another order",
+        help: "Write the sectors of an image in another order; tracks that it makes are of volume 254 without --volume",
+        notes: notes::CONVERT,
     },
     Form {
         name: "plan",
-        parameters: &[IMAGE, FILE_SYSTEM, ORDER, DATA_DISK, RESERVE, RECLAIM],
-        help: "Tell the fewest moves that bring the files of a volume into order, as a certificate",
+        parameters: &[
+            IMAGE,
+            FILE_SYSTEM,
+            ORDER,
+            DATA_DISK,
+            RESERVE,
+            RECLAIM,
+            WORDS,
+        ],
+        help: "Tell the fewest moves that bring the files of a volume into order, as a certificate or in words",
+        notes: notes::PLAN,
     },
     Form {
         name: "optimize",
@@ -159,18 +189,22 @@ const FORMS: &[Form] = &[
             RESERVE,
             RECLAIM,
             STOP_AFTER,
+            CERT,
         ],
         help: "Bring the files of a volume into order, by the fewest moves",
+        notes: notes::OPTIMIZE,
     },
     Form {
         name: "verify",
         parameters: &[IMAGE, FILE_SYSTEM, ORDER, FROM, DATA_DISK, RESERVE, RECLAIM],
         help: "Tell whether a certificate shows that no shorter plan brings a volume into order",
+        notes: notes::VERIFY,
     },
     Form {
         name: "identify",
         parameters: &[IMAGE],
         help: "Tell in which file systems and orders an image can be read, and which is best",
+        notes: notes::IDENTIFY,
     },
 ];
 

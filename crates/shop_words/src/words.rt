@@ -4,6 +4,7 @@ ghost use Rattle.std.specs.Prelude.{string_bytes, true};
 ghost use Rattle.clap.specs.Simple.{subcommand_of};
 ghost use Rattle.clap.specs.Takes.{takes};
 ghost use Rattle.shop_words.specs.Table.{FormView, Text};
+ghost use Rattle.shop_words.specs.Fault.{IsFaultIn, IsFaultOf};
 ghost use Rattle.shop_words.specs.Grammar.{shop};
 ghost use Rattle.shop_words.specs.Job.{asked_job, found_job, IsTaken, job_view, line_job};
 ghost use Rattle.shop_words.specs.Plain.{IsLine, IsPlain, Use};
@@ -36,6 +37,7 @@ fn job_of(alloc: Global, words: &[String]) -> Result<Job, WordsFault>
     ensures taken { takes shop (map string_bytes words.now) ≡ true
         → IsSome (found_job (subcommand_of shop (map string_bytes words.now)))
         → IfErr result (λ e. e ≡ WordsFault.Memory) }
+    ensures fault { IfErr result (IsFaultIn (map string_bytes words.now)) }
 {
     let matches = match program(alloc)?.try_get_matches_from(words) {
         Ok(matches) => matches,
@@ -50,9 +52,10 @@ fn job_of(alloc: Global, words: &[String]) -> Result<Job, WordsFault>
 /// The job that the words after the program's name ask for; with no word it is that of
 /// `catalog --fs dos --order dos -`.
 ///
-/// `Refused` has the text for the user: what is wrong and the usage, or the help that was asked
-/// for. A plain list is never refused. Beyond the plain lists, words are taken as `clap` takes
-/// them: `--name=value`, and options before positional words.
+/// `Help` has the help that was asked for, `Refused` the text for the user: what is wrong, and the
+/// usage; words of the user that stand in it have their control characters escaped. A plain list
+/// is never refused. Beyond the plain lists, words are taken as `clap` takes them: `--name=value`,
+/// and options before positional words.
 pub fn parse_words(alloc: Global, words: &[String]) -> Result<Job, WordsFault>
     ensures job { IfOk result (λ job.
         asked_job (map string_bytes words.now) ≡ Some (job_view job)) }
@@ -61,7 +64,10 @@ pub fn parse_words(alloc: Global, words: &[String]) -> Result<Job, WordsFault>
     ensures taken { IsTaken (map string_bytes words.now)
         → IfErr result (λ e. e ≡ WordsFault.Memory) }
 
-    // so is a plain list
+    // help is told of words that may ask for it, and a refusal of words that are mistaken
+    ensures fault { IfErr result (IsFaultOf (map string_bytes words.now)) }
+
+    // a plain list is refused for want of memory alone
     ensures plain { IsPlain (map string_bytes words.now)
         → IfErr result (λ e. e ≡ WordsFault.Memory) }
 

@@ -18,6 +18,30 @@ fn a_listing_by_words_and_by_none(rt: HostRuntime) -> Result<(), Fail> {
     Ok(())
 }
 
+/// A plan of HELLO in words: its list stands at 3/14 and its body at 3/15, each where the other belongs.
+const MOVES: &str = "HELLO list 0 from 3/14 to 3/13\n\
+    HELLO body 0 from 3/15 to 3/14\n\
+    HELLO list 0 from 3/13 to 3/15\n\
+    3 moves\n";
+
+#[test]
+fn a_plan_in_words(rt: HostRuntime) -> Result<(), Fail> {
+    let image = hello(rt.alloc())?;
+    let line = "plan - --fs dos --order dos --words";
+    tells(&rt, rt.alloc(), line, &mut image.as_slice(), 0, MOVES)?;
+    Ok(())
+}
+
+#[test]
+fn help_has_status_0(rt: HostRuntime) -> Result<(), Fail> {
+    for line in ["--help", "help", "plan --help", "plan -h"] {
+        let answer = Answer::to(rt.alloc(), line, &mut b"".as_slice(), &[])?;
+        let helped = answer.status == 0 && !answer.text.is_empty() && answer.out.is_empty();
+        assert!(rt; helped, "for {line}");
+    }
+    Ok(())
+}
+
 /// The words of a line are refused, with some text and no image.
 fn refuses(rt: &impl Abort, alloc: Global, line: &str) -> Result<(), AllocError> {
     let image = hello(alloc)?;

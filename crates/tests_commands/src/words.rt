@@ -6,6 +6,7 @@ use std::process::Abort;
 use std::test::Fail;
 
 mod conversions;
+mod escapes;
 mod moves;
 mod reads;
 mod refusals;
@@ -27,7 +28,22 @@ fn refuses(rt: &impl Abort, alloc: Global, line: &str, wrong: &str, usage: &str)
             assert!(rt; text.as_str().contains(wrong), "{text}");
             assert!(rt; text.as_str().contains(usage), "{text}");
         }
-        Ok(_) | Err(WordsFault::Memory) => assert!(rt; false, "for {line}"),
+        Ok(_) | Err(WordsFault::Help(_) | WordsFault::Memory) => {
+            assert!(rt; false, "for {line}")
+        }
+    }
+}
+
+/// The words of a line are answered with help that contains both.
+fn helps(rt: &impl Abort, alloc: Global, line: &str, wanted: &str, usage: &str) {
+    match parse(alloc, line) {
+        Err(WordsFault::Help(text)) => {
+            assert!(rt; text.as_str().contains(wanted), "{text}");
+            assert!(rt; text.as_str().contains(usage), "{text}");
+        }
+        Ok(_) | Err(WordsFault::Refused(_) | WordsFault::Memory) => {
+            assert!(rt; false, "for {line}")
+        }
     }
 }
 
@@ -120,8 +136,10 @@ fn a_check_may_reserve_places(rt: HostRuntime) -> Result<(), Fail> {
 }
 
 #[test]
-fn a_refusal_prints_its_text(rt: HostRuntime) -> Result<(), Fail> {
+fn a_fault_prints_its_text(rt: HostRuntime) -> Result<(), Fail> {
     let alloc = rt.alloc();
+    let help = WordsFault::Help("Usage: a2shop\n".to_string(alloc)?);
+    assert_eq!(rt; help.to_string(alloc)?.as_str(), "Usage: a2shop\n");
     let refused = WordsFault::Refused("error: no\n".to_string(alloc)?);
     assert_eq!(rt; refused.to_string(alloc)?.as_str(), "error: no\n");
     assert_eq!(rt;

@@ -1,6 +1,7 @@
 pub mod Fronts
 pub mod Taken
 pub mod Replies
+pub mod StepLemmas
 pub mod Checks
 pub mod Readings
 pub mod Unopened

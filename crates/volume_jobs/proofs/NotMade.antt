@@ -1,5 +1,5 @@
 -- The replies of jobs that make no image.
-use Rattle.std.proofs.Common.{ℕ, Bool, List, inl, inr}
+use Rattle.std.proofs.Common.{ℕ, Bool, true, false, List, inl, inr}
 use Rattle.std.specs.Prelude.{Option}
 use Rattle.a2_image.specs.declared.order.Order.{Order}
 use Rattle.a2_device.specs.Device.{DeviceState}
@@ -17,6 +17,7 @@ use Rattle.volume_jobs.specs.ReadReply.{IsRead}
 use Rattle.volume_jobs.specs.Work.{IsWorkReply, WorkView, Catalog, Read, Check, Plan, Optimize, Verify}
 use Rattle.volume_jobs.specs.CheckReply.{IsChecked}
 use Rattle.volume_jobs.specs.PlanReply.{IsPlanned, TellsOpening}
+use Rattle.volume_jobs.specs.PlanWords.{IsPlannedInWords}
 use Rattle.volume_jobs.specs.VerifyReply.{IsVerdict, IsVerified}
 use Rattle.vol_layout.specs.Layouts.{Placement}
 use Rattle.job_reply.specs.Reply.{IsMade}
@@ -45,6 +46,16 @@ pub planned_not_made : (reclaim : Bool) (format : Meaning) (device : DeviceState
 planned_not_made reclaim format device reply is made = elim is [
   | inl planned ↦ elim planned.told [
     | inl told ↦ content_not_made reply told.0 made
+    | inr failed ↦ failed_not_made failures.Memory reply failed made
+  ]
+  | inr unopened ↦ unopened_told_not_made unopened.error reply unopened.told made
+]
+
+planned_in_words_not_made : (form : PlaceForm) (files : FileMeaning) (reclaim : Bool) (format : Meaning) (device : DeviceState) (reply : Reply)
+    → IsPlannedInWords form files reclaim format device reply → ¬ IsMade reply
+planned_in_words_not_made form files reclaim format device reply is made = elim is [
+  | inl planned ↦ elim planned.told [
+    | inl told ↦ done_not_made reply told.0 made
     | inr failed ↦ failed_not_made failures.Memory reply failed made
   ]
   | inr unopened ↦ unopened_told_not_made unopened.error reply unopened.told made
@@ -110,6 +121,7 @@ pub work_not_made : (work : WorkView) → MakesNone work → (form : PlaceForm) 
 work_not_made Catalog none form files format device reply is made = listed_not_made form files format device reply is made
 work_not_made (Read name whole) none form files format device reply is made = read_not_made name whole files format device reply is made
 work_not_made Check none form files format device reply is made = checked_not_made form format device reply is made
-work_not_made (Plan reclaim) none form files format device reply is made = planned_not_made reclaim format device reply is made
+work_not_made (Plan reclaim false) none form files format device reply is made = planned_not_made reclaim format device reply is made
+work_not_made (Plan reclaim true) none form files format device reply is made = planned_in_words_not_made form files reclaim format device reply is made
 work_not_made (Optimize reclaim limit) none form files format device reply is made = absurd none
 work_not_made (Verify reclaim bytes) none form files format device reply is made = verified_not_made reclaim bytes format device reply is made

@@ -6,6 +6,8 @@ pub mod DosCatalogReply
 pub mod CheckText
 pub mod CheckReply
 pub mod PlanReply
+pub mod Steps
+pub mod PlanWords
 pub mod OptimizeReply
 pub mod VerifyReply
 pub mod ReadReply

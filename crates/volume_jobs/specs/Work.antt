@@ -1,5 +1,5 @@
 -- What is told of a volume on which some work was asked.
-use Rattle.std.specs.Prelude.{ℕ, Bool, List}
+use Rattle.std.specs.Prelude.{ℕ, Bool, true, false, List}
 use Rattle.a2_device.specs.Device.{DeviceState}
 use Rattle.reserved_places.specs.declared.form.PlaceForm.{PlaceForm}
 use Rattle.vol_format.specs.Meaning.{Meaning}
@@ -12,6 +12,7 @@ use Rattle.volume_jobs.specs.ReadReply.{IsRead}
 use Rattle.volume_jobs.specs.CheckReply.{IsChecked}
 use Rattle.volume_jobs.specs.OptimizeReply.{IsOptimized}
 use Rattle.volume_jobs.specs.PlanReply.{IsPlanned}
+use Rattle.volume_jobs.specs.PlanWords.{IsPlannedInWords}
 use Rattle.volume_jobs.specs.VerifyReply.{IsVerified}
 
 -- some work as contracts see it
@@ -19,7 +20,7 @@ pub data WorkView : Type 0 where
   Catalog : WorkView
   Read : List ℕ → Bool → WorkView
   Check : WorkView
-  Plan : Bool → WorkView
+  Plan : Bool → Bool → WorkView
   Optimize : Bool → ℕ → WorkView
   Verify : Bool → List ℕ → WorkView
 
@@ -27,7 +28,7 @@ abbrev pub work_view : Work → WorkView
 work_view works.Catalog = Catalog
 work_view (works.Read name whole) = Read name.now whole
 work_view works.Check = Check
-work_view (works.Plan reclaim) = Plan reclaim
+work_view (works.Plan reclaim in_words) = Plan reclaim in_words
 work_view (works.Optimize reclaim limit) = Optimize reclaim limit
 work_view (works.Verify reclaim certificate) = Verify reclaim certificate.now
 
@@ -35,6 +36,7 @@ abbrev pub IsWorkReply : WorkView → PlaceForm → FileMeaning → Meaning → 
 IsWorkReply Catalog form files format device reply = IsListed form files format device reply
 IsWorkReply (Read name whole) form files format device reply = IsRead name whole files format device reply
 IsWorkReply Check form files format device reply = IsChecked form format device reply
-IsWorkReply (Plan reclaim) form files format device reply = IsPlanned reclaim format device reply
+IsWorkReply (Plan reclaim false) form files format device reply = IsPlanned reclaim format device reply
+IsWorkReply (Plan reclaim true) form files format device reply = IsPlannedInWords form files reclaim format device reply
 IsWorkReply (Optimize reclaim limit) form files format device reply = IsOptimized reclaim limit format device reply
 IsWorkReply (Verify reclaim bytes) form files format device reply = IsVerified reclaim bytes format device reply

@@ -41,11 +41,11 @@ fn fault_place(fault: Fault) -> u32
     }
 }
 
-// A place, by its track and its sector or by its block.
+/// A place, by its track and its sector or by its block.
 #[derive(Clone, Copy)]
-struct PlaceWord {
-    form: PlaceForm,
-    place: u32,
+pub struct PlaceWord {
+    pub form: PlaceForm,
+    pub place: u32,
 }
 
 impl fmt::Display for PlaceWord {

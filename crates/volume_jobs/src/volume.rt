@@ -14,6 +14,7 @@ use crate::check::check_reply;
 use crate::listing::catalog_reply;
 use crate::optimize::optimize_reply;
 use crate::plan::plan_reply;
+use crate::plan_words::plan_words_reply;
 use crate::reading::read_reply;
 use crate::verify::verify_reply;
 use a2_device::{Device, ImageDevice};
@@ -49,9 +50,10 @@ pub enum Work<'a> {
     },
     /// Whether it is accepted.
     Check,
-    /// The fewest moves that bring its files into order.
+    /// The fewest moves that bring its files into order, in words or as a certificate.
     Plan {
         reclaim: bool,
+        words: bool,
     },
     /// Its files in order, by at most so many writes.
     Optimize {
@@ -124,7 +126,14 @@ fn work_reply<F: FileFormat + WritableFormat>(
         Work::Catalog => catalog_reply(alloc, &mut device, format, form),
         Work::Read { name, whole } => read_reply(alloc, &mut device, format, name, whole),
         Work::Check => check_reply(alloc, &mut device, format, form),
-        Work::Plan { reclaim } => plan_reply(alloc, &mut device, format, reclaim),
+        Work::Plan {
+            reclaim,
+            words: false,
+        } => plan_reply(alloc, &mut device, format, reclaim),
+        Work::Plan {
+            reclaim,
+            words: true,
+        } => plan_words_reply(alloc, &mut device, format, form, reclaim),
         Work::Optimize { reclaim, limit } => optimize_reply(alloc, device, format, reclaim, limit),
         Work::Verify {
             reclaim,

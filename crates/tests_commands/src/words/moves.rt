@@ -19,8 +19,24 @@ fn a_plan_may_reclaim_and_reserve(rt: HostRuntime) -> Result<(), Fail> {
         volume: PRODOS,
         reserve: Some("7,280".to_string(alloc)?),
         reclaim: true,
+        words: false,
     };
     let line = "plan a.po --fs prodos --order prodos --reclaim --reserve 7,280";
+    asks(&rt, alloc, line, job)?;
+    Ok(())
+}
+
+#[test]
+fn a_plan_may_be_told_in_words(rt: HostRuntime) -> Result<(), Fail> {
+    let alloc = rt.alloc();
+    let job = Job::Plan {
+        image: "a.po".to_string(alloc)?,
+        volume: PRODOS,
+        reserve: None,
+        reclaim: false,
+        words: true,
+    };
+    let line = "plan a.po --words --fs prodos --order prodos";
     asks(&rt, alloc, line, job)?;
     Ok(())
 }
@@ -39,6 +55,7 @@ fn optimizes(
         reserve: None,
         reclaim: true,
         stop_after,
+        cert: None,
     };
     let line = format!(in alloc; "optimize a.po --fs prodos --order prodos --reclaim {more}")?;
     asks(rt, alloc, line.as_str(), job)
@@ -56,6 +73,23 @@ fn an_optimization_may_have_a_limit_of_writes(rt: HostRuntime) -> Result<(), Fai
     ] {
         optimizes(&rt, rt.alloc(), more, stop_after)?;
     }
+    Ok(())
+}
+
+#[test]
+fn an_optimization_may_write_its_certificate(rt: HostRuntime) -> Result<(), Fail> {
+    let alloc = rt.alloc();
+    let job = Job::Optimize {
+        image: "a.po".to_string(alloc)?,
+        volume: PRODOS,
+        out: "b.po".to_string(alloc)?,
+        reserve: None,
+        reclaim: false,
+        stop_after: None,
+        cert: Some("a.cert".to_string(alloc)?),
+    };
+    let line = "optimize a.po --fs prodos --order prodos --cert a.cert --out b.po";
+    asks(&rt, alloc, line, job)?;
     Ok(())
 }
 

@@ -1,5 +1,5 @@
 // Words that are refused, and the text that tells why.
-use super::refuses;
+use super::{helps, refuses};
 
 const PROGRAM_USAGE: &str = "Usage: a2shop <COMMAND>";
 
@@ -91,21 +91,39 @@ fn words_out_of_their_set_are_refused(rt: HostRuntime) {
 }
 
 #[test]
-fn help_is_a_refusal_with_the_help(rt: HostRuntime) {
+fn help_is_told_where_it_is_asked_for(rt: HostRuntime) {
     for (line, wanted, usage) in [
         ("--help", "List the files of a volume", PROGRAM_USAGE),
+        ("-h", "List the files of a volume", PROGRAM_USAGE),
         ("help", "List the files of a volume", PROGRAM_USAGE),
         (
             "catalog --help",
-            "File system of the volume: dos",
+            "a2shop catalog disk.dsk --fs dos --order dos",
             CATALOG_USAGE,
         ),
         (
-            "help catalog",
-            "File system of the volume: dos",
+            "catalog a.dsk --fs dos --order dos -h",
+            "REFUSED Length",
             CATALOG_USAGE,
         ),
+        ("help catalog", "REFUSED Length", CATALOG_USAGE),
+        (
+            "convert --help",
+            "of volume 254 where --volume is not given",
+            CONVERT_USAGE,
+        ),
     ] {
-        refuses(&rt, rt.alloc(), line, wanted, usage);
+        helps(&rt, rt.alloc(), line, wanted, usage);
+    }
+}
+
+#[test]
+fn help_of_what_is_none_is_refused(rt: HostRuntime) {
+    for (line, wrong, usage) in [
+        ("help catolog", "'catolog'", PROGRAM_USAGE),
+        ("catalog --colour --help", "'--colour'", CATALOG_USAGE),
+        ("--version", "'--version'", PROGRAM_USAGE),
+    ] {
+        refuses(&rt, rt.alloc(), line, wrong, usage);
     }
 }

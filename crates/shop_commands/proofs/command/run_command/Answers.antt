@@ -12,7 +12,7 @@ pub returns-in-Err-clause-answer : goal.returns-in-Err-clause-answer
 returns-in-Err-clause-answer g c =
     command_refused (map string_bytes c.args.words.now) c.in-Err.fault (g.I.Read.remaining c.args.image.now) (g.E.Read.remaining c.args.extra.now)
     (g.O.Write.contents c.args.out.now) c.tell_words_fault.result (g.T.Write.contents c.args.text.now) (g.T.Write.contents c.tell_words_fault.new.text)
-    c.in-Err.ensures.taken c.tell_words_fault.ensures
+    c.in-Err.ensures.taken c.in-Err.ensures.fault c.tell_words_fault.ensures
 
 pub returns-in-Ok-clause-answer : goal.returns-in-Ok-clause-answer
 returns-in-Ok-clause-answer g c =

@@ -8,7 +8,7 @@ loop-form-init c =
     let named = ap app_of_fields c.no_binary_name.ensures in
     let renamed = ap app_of_fields c.in_ok-bin_name.ensures.0 in
     let wanted = ap app_of_fields c.subcommand_required-program.ensures in
-    record { app = wanted ∙ ap (on_top (λ s. record s { subcommand_required = true })) (named ∙ ap (on_top (λ s. record s { no_binary_name = true })) (renamed ∙ ap app_of_fields c.about.ensures ∙ c.new.ensures.app)); items = c.table-form-items.ensures }
+    record { app = wanted ∙ ap (on_top (λ s. record s { subcommand_required = true })) (named ∙ ap (on_top (λ s. record s { no_binary_name = true })) (renamed ∙ ap app_of_fields c.after_help.ensures ∙ ap app_of_fields c.about.ensures ∙ c.new.ensures.app)); items = c.table-form-items.ensures }
 
 pub loop-form-preserved : goal.loop-form-preserved
 loop-form-preserved c =

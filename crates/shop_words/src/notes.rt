@@ -1,0 +1,112 @@
+//! What stands below the help of each command: an example, the statuses, and what is refused.
+
+pub const PROGRAM: &str = "\
+Without words it lists the DOS 3.3 volume of an image in DOS order on standard input.
+--explain may stand with any command: a refusal or a failure then tells what to do about it.
+--fs auto and --order auto take what identify names: REFUSED Ambiguous or Unknown where it names none.
+--version tells the version. What a command takes, and what it may refuse: a2shop COMMAND --help
+
+Status:
+  0  it is done, or help was asked for
+  1  something is wrong with the volume or the certificate, and the text says what
+  2  the words make no sense, and the text says why
+  3  the job is refused; one line says why
+  4  a file, the image or memory failed";
+
+pub const CATALOG: &str = "\
+Example:
+  a2shop catalog disk.dsk --fs dos --order dos
+
+Status:
+  0  the files are listed
+  3  REFUSED Length  the image has another length than one in its order
+     REFUSED Check   the header, the directory or the map's pointer has a fault
+  4  FAILED Input, Device or Memory: the file, a sector of the image or memory failed";
+
+pub const CHECK: &str = "\
+Example:
+  a2shop check disk.dsk --fs dos --order dos
+
+Status:
+  0  the volume is accepted
+  1  it has faults, and a line for each tells its name and its place
+  3  REFUSED Reserve  the word of --reserve is no list of places
+     REFUSED Length   the image has another length than one in its order
+  4  FAILED Input, Device or Memory: the file, a sector of the image or memory failed";
+
+pub const READ: &str = "\
+Example:
+  a2shop read disk.dsk HELLO --fs dos --order dos
+
+Status:
+  0  the bytes of the file are written
+  3  REFUSED Length    the image has another length than one in its order
+     REFUSED Check     the header, the directory, the map's pointer or the file has a fault
+     REFUSED NotFound  no file has the name
+  4  FAILED Input, Device or Memory: the file, a sector of the image or memory failed";
+
+pub const CONVERT: &str = "\
+Example:
+  a2shop convert disk.dsk --order dos --to nibble --out disk.nib
+
+Tracks are made for nibble order alone, of volume 254 where --volume is not given.
+
+Status:
+  0  the image is written
+  3  REFUSED Length    the image has another length than that of a disk in its order
+     REFUSED NoSector  a track of the image lacks a sector
+  4  FAILED Input or Memory: a file or memory failed";
+
+pub const PLAN: &str = "\
+Examples:
+  a2shop plan disk.dsk --fs dos --order dos
+  a2shop plan disk.dsk --fs dos --order dos --words
+
+In words each move has a line: the file, its part, and the places from and to which it moves.
+
+Status:
+  0  the plan is told
+  3  REFUSED Reserve      the word of --reserve is no list of places
+     REFUSED Length       the image has another length than one in its order
+     REFUSED Check        the volume has a fault; check tells which
+     REFUSED Lost N       N places are marked used and belong to no file; see --reclaim
+     REFUSED NoFreePlace  some part is misplaced, and each place has a part
+  4  FAILED Input, Device or Memory: the file, a sector of the image or memory failed";
+
+pub const OPTIMIZE: &str = "\
+Example:
+  a2shop optimize disk.dsk --fs dos --order dos --out ordered.dsk
+
+Status:
+  0  the image is written, with the moves made up to --stop-after
+  3  REFUSED Reserve      the word of --reserve is no list of places
+     REFUSED Length       the image has another length than one in its order
+     REFUSED Check        the volume has a fault; check tells which
+     REFUSED Lost N       N places are marked used and belong to no file; see --reclaim
+     REFUSED NoFreePlace  some part is misplaced, and each place has a part
+  4  FAILED Input, Device or Memory: a file, a sector of the image or memory failed";
+
+pub const VERIFY: &str = "\
+Example:
+  a2shop verify disk.dsk --fs dos --order dos --from disk.cert
+
+Status:
+  0  OPTIMAL N: no plan has fewer than N moves
+  1  REFUSED and what is wrong with the certificate
+  3  REFUSED Reserve       the word of --reserve is no list of places
+     REFUSED Length        the image has another length than one in its order
+     REFUSED InputTooLong  the certificate has more than 16,777,216 bytes
+     REFUSED Check         the volume has a fault; check tells which
+     REFUSED Lost N        N places are marked used and belong to no file; see --reclaim
+     REFUSED NoFreePlace   some part is misplaced, and each place has a part
+  4  FAILED Input, Device or Memory: a file, a sector of the image or memory failed";
+
+pub const IDENTIFY: &str = "\
+Example:
+  a2shop identify disk.dsk
+
+Status:
+  0  the last line names the best file system and order
+  1  no way to read the image is best
+  3  REFUSED Length  the length of the image allows no way to read it
+  4  FAILED Input or Memory: the file or memory failed";
