@@ -7,27 +7,28 @@ _a2shop() {
     return
   fi
   case "${COMP_WORDS[1]} $before" in
-    'catalog --fs') mapfile -t COMPREPLY < <(compgen -W "dos prodos" -- "$word"); return ;;
-    'catalog --order') mapfile -t COMPREPLY < <(compgen -W "dos prodos nibble" -- "$word"); return ;;
-    'check --fs') mapfile -t COMPREPLY < <(compgen -W "dos prodos" -- "$word"); return ;;
-    'check --order') mapfile -t COMPREPLY < <(compgen -W "dos prodos nibble" -- "$word"); return ;;
+    'catalog --fs') mapfile -t COMPREPLY < <(compgen -W "dos prodos auto" -- "$word"); return ;;
+    'catalog --order') mapfile -t COMPREPLY < <(compgen -W "dos prodos nibble auto" -- "$word"); return ;;
+    'check --fs') mapfile -t COMPREPLY < <(compgen -W "dos prodos auto" -- "$word"); return ;;
+    'check --order') mapfile -t COMPREPLY < <(compgen -W "dos prodos nibble auto" -- "$word"); return ;;
     'check --reserve') return ;;
-    'read --fs') mapfile -t COMPREPLY < <(compgen -W "dos prodos" -- "$word"); return ;;
-    'read --order') mapfile -t COMPREPLY < <(compgen -W "dos prodos nibble" -- "$word"); return ;;
-    'convert --order') mapfile -t COMPREPLY < <(compgen -W "dos prodos nibble" -- "$word"); return ;;
+    'read --fs') mapfile -t COMPREPLY < <(compgen -W "dos prodos auto" -- "$word"); return ;;
+    'read --order') mapfile -t COMPREPLY < <(compgen -W "dos prodos nibble auto" -- "$word"); return ;;
+    'convert --order') mapfile -t COMPREPLY < <(compgen -W "dos prodos nibble auto" -- "$word"); return ;;
     'convert --to') mapfile -t COMPREPLY < <(compgen -W "dos prodos nibble" -- "$word"); return ;;
     'convert --out') mapfile -t COMPREPLY < <(compgen -f -- "$word"); return ;;
     'convert --volume') return ;;
-    'plan --fs') mapfile -t COMPREPLY < <(compgen -W "dos prodos" -- "$word"); return ;;
-    'plan --order') mapfile -t COMPREPLY < <(compgen -W "dos prodos nibble" -- "$word"); return ;;
+    'plan --fs') mapfile -t COMPREPLY < <(compgen -W "dos prodos auto" -- "$word"); return ;;
+    'plan --order') mapfile -t COMPREPLY < <(compgen -W "dos prodos nibble auto" -- "$word"); return ;;
     'plan --reserve') return ;;
-    'optimize --fs') mapfile -t COMPREPLY < <(compgen -W "dos prodos" -- "$word"); return ;;
-    'optimize --order') mapfile -t COMPREPLY < <(compgen -W "dos prodos nibble" -- "$word"); return ;;
+    'optimize --fs') mapfile -t COMPREPLY < <(compgen -W "dos prodos auto" -- "$word"); return ;;
+    'optimize --order') mapfile -t COMPREPLY < <(compgen -W "dos prodos nibble auto" -- "$word"); return ;;
     'optimize --out') mapfile -t COMPREPLY < <(compgen -f -- "$word"); return ;;
     'optimize --reserve') return ;;
     'optimize --stop-after') return ;;
-    'verify --fs') mapfile -t COMPREPLY < <(compgen -W "dos prodos" -- "$word"); return ;;
-    'verify --order') mapfile -t COMPREPLY < <(compgen -W "dos prodos nibble" -- "$word"); return ;;
+    'optimize --cert') mapfile -t COMPREPLY < <(compgen -f -- "$word"); return ;;
+    'verify --fs') mapfile -t COMPREPLY < <(compgen -W "dos prodos auto" -- "$word"); return ;;
+    'verify --order') mapfile -t COMPREPLY < <(compgen -W "dos prodos nibble auto" -- "$word"); return ;;
     'verify --from') mapfile -t COMPREPLY < <(compgen -f -- "$word"); return ;;
     'verify --reserve') return ;;
   esac
@@ -40,8 +41,8 @@ _a2shop() {
     check) mapfile -t COMPREPLY < <(compgen -W "--fs --order --data-disk --reserve --help" -- "$word") ;;
     read) mapfile -t COMPREPLY < <(compgen -W "--fs --order --whole --data-disk --help" -- "$word") ;;
     convert) mapfile -t COMPREPLY < <(compgen -W "--order --to --out --volume --data-disk --help" -- "$word") ;;
-    plan) mapfile -t COMPREPLY < <(compgen -W "--fs --order --data-disk --reserve --reclaim --help" -- "$word") ;;
-    optimize) mapfile -t COMPREPLY < <(compgen -W "--fs --order --out --data-disk --reserve --reclaim --stop-after --help" -- "$word") ;;
+    plan) mapfile -t COMPREPLY < <(compgen -W "--fs --order --data-disk --reserve --reclaim --words --help" -- "$word") ;;
+    optimize) mapfile -t COMPREPLY < <(compgen -W "--fs --order --out --data-disk --reserve --reclaim --stop-after --cert --help" -- "$word") ;;
     verify) mapfile -t COMPREPLY < <(compgen -W "--fs --order --from --data-disk --reserve --reclaim --help" -- "$word") ;;
     identify) mapfile -t COMPREPLY < <(compgen -W " --help" -- "$word") ;;
   esac

@@ -15,16 +15,29 @@ TOP = pathlib.Path(__file__).resolve().parent.parent
 DESCRIPTION = """\
 .B a2shop
 lists, checks, reads, converts and optimizes volumes of 5.25-inch Apple II disks, DOS 3.3 and ProDOS, in images of DOS order, of
-ProDOS order and of disk bytes. It writes to standard output and to the file of
-.BR \\-\\-out ,
+ProDOS order and of disk bytes. It writes to standard output and to the files of
+.B \\-\\-out
+and
+.BR \\-\\-cert ,
 and to no other file.
 .PP
-Without words it lists the DOS 3.3 volume of the image in DOS order on standard input."""
+Without words it lists the DOS 3.3 volume of the image in DOS order on standard input.
+.PP
+.B \\-\\-fs auto
+and
+.B \\-\\-order auto
+take the file system and the order that
+.B identify
+names; where it names none, the job is refused.
+.B \\-\\-explain
+may stand with any command: standard error then says in whole sentences what was told, and what to do next.
+.B \\-\\-version
+tells the version."""
 
 STATUSES = [
-    ("0", "It is done."),
+    ("0", "It is done, or help was asked for."),
     ("1", "Something is wrong with the volume or the certificate, and the text says what."),
-    ("2", "The words make no sense, and the text says which; or help was asked for."),
+    ("2", "The words make no sense, and the text says which."),
     ("3", "The job is refused; one line says why."),
     ("4", "A file, the image or memory failed."),
 ]
@@ -42,9 +55,10 @@ NOTES = [
 ]
 
 EXAMPLES = [
-    ("List a disk", "a2shop catalog disk.dsk --fs dos --order dos"),
-    ("Check it", "a2shop check disk.dsk --fs dos --order dos"),
-    ("Put its files in order, in a file of its own", "a2shop optimize disk.dsk --fs dos --order dos --out ordered.dsk"),
+    ("Look how an image is to be read", "a2shop identify disk.dsk"),
+    ("List a disk", "a2shop catalog disk.dsk --fs auto --order auto"),
+    ("Check it, and say what the faults mean", "a2shop check disk.dsk --fs auto --order auto --explain"),
+    ("Put its files in order, in a file of its own", "a2shop optimize disk.dsk --fs auto --order auto --out ordered.dsk"),
     ("Make disk bytes of it", "a2shop convert disk.dsk --order dos --to nibble --out disk.nib"),
 ]
 

@@ -1,9 +1,17 @@
 //! `a2shop`, the Apple II disk workshop: opens the files that its words name and hands them to the commands of `shop_commands`.
+//!
+//! `start.rt` takes the words, `auto.rt` settles `--fs auto` and `--order auto` by the image, `running.rt` does a job, `settling.rt`
+//! ends one with output files, and `explaining.rt` tells people what was meant.
 #![tactic(auto)]
 
-mod out_file;
+mod auto;
+mod explaining;
+mod job_paths;
+mod output;
+mod running;
 mod settling;
 mod start;
+mod stop;
 
 use std::process::ExitCode;
 

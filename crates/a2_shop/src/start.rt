@@ -1,119 +1,103 @@
-// The program's files and streams.
-ghost use Rattle.std.specs.Prelude.{◌≡◌, option_map};
-ghost use Rattle.shop_words.specs.Job.{job_view};
-ghost use Rattle.shop_commands.specs.Answer.{from_of, image_of, out_of};
-
-use crate::out_file::OutFile;
-use crate::settling::settle;
+// What the program's words ask for.
+use crate::auto::{is_asked, settled_job, standing_job};
+use crate::explaining::{Found, explain};
+use crate::job_paths::{image_order, image_path};
+use crate::running::{image_bytes, run_opened, run_with};
+use crate::stop::Stop;
+use explanations::Overheard;
+use front_words::{asks_explain, asks_version, without_explain};
 use job_reply::{Failure, Reply, written};
-use shop_commands::{run_job, tell_words_fault};
+use shop_commands::tell_words_fault;
 use shop_words::{Job, parse_words};
 use std::alloc::Global;
-use std::fs::File;
-use std::io::{self, ErrorKind, Read};
-use whole_file::{AsideFile, Target, target_of};
+use std::io::{self, ErrorKind, IsTerminal, Write};
 
-/// The word that stands for standard input.
-const STANDARD_INPUT: &str = "-";
+/// What `--version` tells.
+const VERSION: &[u8] = b"a2shop 1.0.0\n";
 
 // The words after the program's name.
 fn words_of(rt: &HostRuntime, alloc: Global) -> io::Result<Vec<String>> {
     Ok(std::env::args(rt)?.skip(1).collect(alloc)?)
 }
 
-// The path of the image that a job names.
-fn image_path(job: &Job) -> &str
-    ensures { result.now ≡ image_of (job_view job.now) }
-{
-    match job {
-        Job::Catalog { image, .. }
-        | Job::Check { image, .. }
-        | Job::Read { image, .. }
-        | Job::Plan { image, .. }
-        | Job::Optimize { image, .. }
-        | Job::Verify { image, .. }
-        | Job::Convert { image, .. }
-        | Job::Identify { image } => image.as_str(),
-    }
-}
-
-// The path of the file that a job reads beside its image.
-fn from_path(job: &Job) -> Option<&str>
-    ensures { option_map (λ s. s.now) result ≡ from_of (job_view job.now) }
-{
-    match job {
-        Job::Verify { from, .. } => Some(from.as_str()),
-        _ => None,
-    }
-}
-
-// The path of the file that a job writes.
-fn out_path(job: &Job) -> Option<&str>
-    ensures { option_map (λ s. s.now) result ≡ out_of (job_view job.now) }
-{
-    match job {
-        Job::Catalog { .. }
-        | Job::Check { .. }
-        | Job::Read { .. }
-        | Job::Plan { .. }
-        | Job::Verify { .. }
-        | Job::Identify { .. } => None,
-        Job::Convert { out, .. } | Job::Optimize { out, .. } => Some(out.as_str()),
-    }
-}
-
-// Does a job on the image of a reader, tells it on standard output and writes the output file, if it has one.
-fn run_on<I: Read, E: Read>(rt: &HostRuntime, job: &Job, image: &mut I, extra: &mut E) -> u8 {
-    let text = &mut rt.stdout();
-    let Some(path) = out_path(job) else {
-        return run_job(rt.alloc(), job, image, extra, text, &mut io::sink());
+// Does what words ask for on the image in memory, so that `auto` can be settled by it, and notes what becomes known of it.
+fn run_in_memory<T: Write>(
+    rt: &HostRuntime,
+    words: &[String],
+    found: &mut Found,
+    text: &mut T,
+) -> Result<u8, Stop> {
+    let standing = standing_job(rt.alloc(), words)?;
+    found.path = image_path(&standing).to_string(rt.alloc()).ok();
+    let image = image_bytes(rt, &standing)?;
+    found.bytes = Some(image.len());
+    let job = if is_asked(words) {
+        settled_job(rt.alloc(), words, &standing, image.as_slice())?
+    } else {
+        standing
     };
-    match target_of(rt, rt.alloc(), path) {
-        Ok(Target::Straight) => {
-            let out = &mut OutFile::new(rt, path);
-            run_job(rt.alloc(), job, image, extra, text, out)
-        }
-        Ok(target) => {
-            let mut out = AsideFile::new(rt, rt.alloc(), &target);
-            let mut told = Vec::new(rt.alloc());
-            let status = run_job(rt.alloc(), job, image, extra, &mut told, &mut out);
-            settle(out, status, told.as_slice(), text)
-        }
-        Err(_) => Reply::Failed(Failure::Memory).tell(text),
+    found.order = image_order(&job);
+    let status = run_with(rt, &job, &mut image.as_slice(), text);
+    found.is_content = status == 0 && matches!(&job, Job::Read { .. });
+    Ok(status)
+}
+
+// Does what words ask for that have an `auto`, or whose answer is to be explained.
+fn run_noting<T: Write>(rt: &HostRuntime, words: &[String], found: &mut Found, text: &mut T) -> u8 {
+    match run_in_memory(rt, words, found, text) {
+        Ok(status) => status,
+        Err(stop) => stop.tell(text),
     }
 }
 
-// Opens the file that a job reads beside its image, and does the job.
-fn run_with<I: Read>(rt: &HostRuntime, job: &Job, image: &mut I) -> u8 {
-    let Some(path) = from_path(job) else {
-        return run_on(rt, job, image, &mut io::empty());
+// Does what words ask for that name their file system and order.
+fn run_plain(rt: &HostRuntime, words: &[String]) -> u8 {
+    match parse_words(rt.alloc(), words) {
+        Ok(job) => run_opened(rt, &job, &mut rt.stdout()),
+        Err(fault) => tell_words_fault(&fault, &mut rt.stdout()),
+    }
+}
+
+// Does what words ask for, and explains on standard error what was told.
+fn run_explained(rt: &HostRuntime, words: &[String]) -> u8 {
+    let mut found = Found::new();
+    let mut text = Overheard::new(rt.alloc(), rt.stdout());
+    let status = run_noting(rt, words, &mut found, &mut text);
+    let told = match &text.told {
+        Some(told) if !found.is_content => told.as_slice(),
+        _ => b"",
     };
-    match File::open(rt, path) {
-        Ok(mut extra) => run_on(rt, job, image, &mut extra),
-        Err(_) => Reply::Failed(Failure::Input).tell(&mut rt.stdout()),
+    explain(rt, &found, told);
+    status
+}
+
+// Says on a terminal that the program waits for an image there.
+fn greet(rt: &HostRuntime, words: &[String]) {
+    if words.is_empty() && rt.stdin().is_terminal() {
+        let _ = eprintln!(rt;
+            "a2shop waits for the image of a DOS 3.3 disk on standard input; `a2shop --help` tells the commands."
+        );
     }
 }
 
 /// Does what the program's words ask for, and answers its status.
 pub fn run(rt: &HostRuntime) -> u8 {
-    let alloc = rt.alloc();
-    let mut text = rt.stdout();
-    let words = match words_of(rt, alloc) {
+    let words = match words_of(rt, rt.alloc()) {
         Ok(words) => words,
         Err(error) if error.kind() == ErrorKind::OutOfMemory => {
-            return Reply::Failed(Failure::Memory).tell(&mut text);
+            return Reply::Failed(Failure::Memory).tell(&mut rt.stdout());
         }
-        Err(_) => return written(b"error: a word is no UTF-8\n", 2, &mut text),
+        Err(_) => return written(b"error: a word is no UTF-8\n", 2, &mut rt.stdout()),
     };
-    let job = match parse_words(alloc, words.as_slice()) {
-        Ok(job) => job,
-        Err(fault) => return tell_words_fault(&fault, &mut text),
-    };
-    if image_path(&job) == STANDARD_INPUT {
-        return run_with(rt, &job, &mut rt.stdin());
+    if asks_version(words.as_slice()) {
+        return written(VERSION, 0, &mut rt.stdout());
     }
-    match File::open(rt, image_path(&job)) {
-        Ok(mut image) => run_with(rt, &job, &mut image),
-        Err(_) => Reply::Failed(Failure::Input).tell(&mut text),
+    greet(rt, words.as_slice());
+    if asks_explain(words.as_slice()) {
+        return run_explained(rt, without_explain(words).as_slice());
     }
+    if is_asked(words.as_slice()) {
+        return run_noting(rt, words.as_slice(), &mut Found::new(), &mut rt.stdout());
+    }
+    run_plain(rt, words.as_slice())
 }

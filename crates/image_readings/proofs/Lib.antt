@@ -3,3 +3,4 @@ pub mod Taken
 pub mod Ways
 pub mod Fronts
 pub mod NotMade
+pub mod Told

@@ -7,37 +7,35 @@ use Rattle.a2_image.specs.declared.order.Order.{Order}
 use Rattle.shop_words.specs.declared.job.FileSystem.{FileSystem}
 use Rattle.image_readings.specs.declared.reading.Reading.{Reading}
 use Rattle.image_readings.specs.Adding.{Adds}
-use Rattle.image_readings.specs.IdentifyReply.{AreReadings, allows, way_of, ways}
+use Rattle.image_readings.specs.IdentifyReply.{AreReadingsIn, allows, way_of}
 use Rattle.image_readings.specs.Readings.{IsReadingOf}
 
--- the readings in the first so many ways
-abbrev pub AreFirst : List ℕ → List Reading → ℕ → Type 0
-AreFirst image readings n = record {
-  items : ways ≡ ways;
+-- the readings in the first so many of these ways
+abbrev pub AreFirst : List (FileSystem × Order) → List ℕ → List Reading → ℕ → Type 0
+AreFirst ways image readings n = record {
   in_order : map way_of readings ≡ filter (allows (length image)) (take n ways);
   each : All (IsReadingOf image) readings;
 }
 
-pub none_yet : (image : List ℕ) (readings : List Reading) → readings ≡ [] → AreFirst image readings 0
-none_yet image readings is = record {
-  items = refl;
+pub none_yet : (ways : List (FileSystem × Order)) (image : List ℕ) (readings : List Reading) → readings ≡ [] → AreFirst ways image readings 0
+none_yet ways image readings is = record {
   in_order = ap (map way_of) is;
   each = subst (All (IsReadingOf image)) (sym is) (All-nil (IsReadingOf image));
 }
 
-pub one_more : (image : List ℕ) (old new : List Reading) (n : ℕ) (d : FileSystem × Order) → n < length ways
+pub one_more : (ways : List (FileSystem × Order)) (image : List ℕ) (old new : List Reading) (n : ℕ) (d : FileSystem × Order) → n < length ways
     → map way_of old ≡ filter (allows (length image)) (take n ways) → All (IsReadingOf image) old
-    → Adds image (get_or ways n d).0 (get_or ways n d).1 old new → AreFirst image new (n + 1)
-one_more image old new n d within in_order each adds = record {
-  items = refl;
+    → Adds image (get_or ways n d).0 (get_or ways n d).1 old new → AreFirst ways image new (n + 1)
+one_more ways image old new n d within in_order each adds = record {
   in_order = adds.in_order ∙ ap (λ front. front ++ filter (allows (length image)) (get_or ways n d ∷ [])) in_order
       ∙ sym (filter-append (allows (length image)) (take n ways) (get_or ways n d ∷ [])) ∙ ap (filter (allows (length image))) (sym (take_more ways n d within));
   each = adds.each each;
 }
 
-pub all_ways : (image : List ℕ) (readings : List Reading) (n : ℕ) → length ways ≤ n → map way_of readings ≡ filter (allows (length image)) (take n ways)
-    → All (IsReadingOf image) readings → AreReadings image readings
-all_ways image readings n past in_order each = record { in_order = in_order ∙ ap (filter (allows (length image))) (take_all n ways past); each = each }
+pub all_ways : (ways : List (FileSystem × Order)) (image : List ℕ) (readings : List Reading) (n : ℕ) → length ways ≤ n
+    → map way_of readings ≡ filter (allows (length image)) (take n ways) → All (IsReadingOf image) readings → AreReadingsIn ways image readings
+all_ways ways image readings n past in_order each =
+    record { in_order = in_order ∙ ap (filter (allows (length image))) (take_all n ways past); each = each }
 
 alone : {X : Type 0} (p : X → Bool) (x : X) → p x ≡ true → filter p (x ∷ []) ≡ x ∷ []
 alone p x passes = rw passes refl

@@ -30,10 +30,13 @@ allows bytes (file_system, order) = bytes == disk_bytes order
 abbrev pub way_of : Reading → FileSystem × Order
 way_of reading = (reading.file_system, reading.order)
 
--- the readings of an image, one in each way that its length allows
-pub record AreReadings (image : List ℕ) (readings : List Reading) : Type 0 where
-  pub in_order : map way_of readings ≡ filter (allows (length image)) ways
+-- the readings of an image, one in each of these ways that its length allows
+pub record AreReadingsIn (asked : List (FileSystem × Order)) (image : List ℕ) (readings : List Reading) : Type 0 where
+  pub in_order : map way_of readings ≡ filter (allows (length image)) asked
   pub each : All (IsReadingOf image) readings
+
+abbrev pub AreReadings : List ℕ → List Reading → Type 0
+AreReadings image readings = AreReadingsIn ways image readings
 
 -- a best reading is told as a job that is done, else as what is wrong
 abbrev pub Reports : Verdict → Reply → Type 0

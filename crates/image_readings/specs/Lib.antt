@@ -4,3 +4,4 @@ pub mod Found
 pub mod IdentifyText
 pub mod IdentifyReply
 pub mod Adding
+pub mod BestReading

@@ -1,7 +1,7 @@
 // The job that tells how an image can be read.
 ghost use Rattle.std.specs.Prelude.{◌≡◌, OnOk, IfOk};
 ghost use Rattle.image_readings.specs.Adding.{Adds};
-ghost use Rattle.image_readings.specs.IdentifyReply.{AreReadings, IsIdentifyReply, TellsRanked, allows};
+ghost use Rattle.image_readings.specs.IdentifyReply.{AreReadingsIn, IsIdentifyReply, TellsRanked, allows};
 
 use crate::identify_text::identify_text;
 use crate::ranking::{Verdict, rank};
@@ -18,7 +18,7 @@ const FEWEST_BLOCKS: usize = 16;
 const MOST_BLOCKS: usize = 65_535;
 
 /// The ways to read an image, in the order in which they are told.
-const WAYS: [(FileSystem, Order); 6] = [
+pub const WAYS: [(FileSystem, Order); 6] = [
     (FileSystem::Dos, Order::Dos),
     (FileSystem::Dos, Order::Prodos),
     (FileSystem::Dos, Order::Nibble),
@@ -60,12 +60,19 @@ fn add_reading(
     Ok(())
 }
 
-// The readings of an image, one in each way that its length allows.
-fn readings_of(alloc: Global, image: &[u8]) -> Result<Vec<Reading>, AllocError>
-    ensures { IfOk result (λ readings. AreReadings image.now readings.items) }
+/// The readings of an image, one in each of these ways that its length allows.
+///
+/// # Errors
+/// Want of memory.
+pub fn readings_of(
+    alloc: Global,
+    image: &[u8],
+    ways: &[(FileSystem, Order)],
+) -> Result<Vec<Reading>, AllocError>
+    ensures { IfOk result (λ readings. AreReadingsIn ways.now image.now readings.items) }
 {
     let mut readings = Vec::new(alloc);
-    for (file_system, order) in WAYS {
+    for &(file_system, order) in ways {
         add_reading(alloc, image, file_system, order, &mut readings)?;
     }
     Ok(readings)
@@ -89,7 +96,7 @@ fn ranked_reply(alloc: Global, readings: &[Reading]) -> Reply
 pub fn identify_reply(alloc: Global, image: &[u8]) -> Reply
     ensures { IsIdentifyReply image.now result }
 {
-    match readings_of(alloc, image) {
+    match readings_of(alloc, image, &WAYS) {
         Ok(readings) if readings.is_empty() => Reply::Refused(Refusal::Length),
         Ok(readings) => ranked_reply(alloc, readings.as_slice()),
         Err(_) => Reply::Failed(Failure::Memory),

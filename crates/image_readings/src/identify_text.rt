@@ -10,7 +10,8 @@ use shop_words::FileSystem;
 use std::alloc::{AllocError, Global};
 use std::fmt;
 
-fn file_system_word(file_system: FileSystem) -> &'static str
+/// The word of `--fs` that names a file system.
+pub fn file_system_word(file_system: FileSystem) -> &'static str
     ensures { result.now ≡ word_of_file_system file_system }
 {
     match file_system {
@@ -19,7 +20,8 @@ fn file_system_word(file_system: FileSystem) -> &'static str
     }
 }
 
-fn order_word(order: Order) -> &'static str
+/// The word of `--order` that names an order.
+pub fn order_word(order: Order) -> &'static str
     ensures { result.now ≡ word_of_order order }
 {
     match order {

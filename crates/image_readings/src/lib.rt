@@ -4,9 +4,11 @@
 //! an image's bytes do not tell its order. A *reading* is a file system and an order with what is found so: whether the
 //! directory can be read, how long it is, how many entries it has, and whether the volume is accepted (`specs/Readings.antt`).
 //! `rank` names the one reading that beats every other, if there is one (`specs/Ranking.antt`); `identify_reply` tells all
-//! readings that the image's length allows, and the verdict (`specs/IdentifyText.antt`, `specs/IdentifyReply.antt`).
+//! readings that the image's length allows, and the verdict (`specs/IdentifyText.antt`, `specs/IdentifyReply.antt`);
+//! `best_reading` chooses among the readings in a file system, an order or both that are given (`specs/BestReading.antt`).
 #![tactic(auto)]
 
+mod best;
 mod identify;
 mod identify_text;
 mod ranking;
@@ -14,7 +16,9 @@ mod reading;
 mod stop;
 mod volume;
 
+pub use best::{Choice, best_reading};
 pub use identify::identify_reply;
+pub use identify_text::{file_system_word, order_word};
 pub use ranking::{Verdict, rank};
 pub use reading::{Finding, Found, Reading, Standing};
 pub use volume::reading_of;

@@ -138,7 +138,10 @@ fn error_with(alloc: Global, number: usize, line: &str) -> Result<Option<CertErr
 fn lines_that_cannot_stand(rt: HostRuntime) -> Result<(), Fail> {
     for (number, line, fault) in &CHANGED {
         let error = error_with(rt.alloc(), *number, line)?;
-        assert!(rt; error == Some(CertError::Syntax(*fault)), "{line:?} as line {number}");
+        assert!(rt;
+            error == Some(CertError::Syntax(*fault)),
+            "{line:?} as line {number}"
+        );
     }
     Ok(())
 }

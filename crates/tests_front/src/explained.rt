@@ -1,0 +1,79 @@
+// Texts and what is explained of them.
+use explanations::{Overheard, TABLE, explained};
+use std::alloc::{AllocError, Global};
+use std::io::Write;
+use std::test::Fail;
+
+/// The front of the row that a text asks for, where it asks for one alone.
+fn only_front(alloc: Global, text: &str) -> Result<Option<&'static str>, AllocError> {
+    let rows = explained(alloc, &TABLE, text.as_bytes())?;
+    if rows.len() != 1 {
+        return Ok(None);
+    }
+    Ok(rows.first().map(|row| row.front))
+}
+
+/// Whether a text asks for the row of the words, and for no other.
+fn asks_for(alloc: Global, text: &str, front: &str) -> Result<bool, AllocError> {
+    Ok(only_front(alloc, text)? == Some(front))
+}
+
+/// Whether a text asks for no row.
+fn asks_for_none(alloc: Global, text: &str) -> Result<bool, AllocError> {
+    Ok(explained(alloc, &TABLE, text.as_bytes())?.is_empty())
+}
+
+#[test]
+fn each_row_is_told_once(rt: HostRuntime) -> Result<(), Fail> {
+    let text = "FAULT Shared 3/14\nFAULT Shared 3/15\n";
+    assert!(rt; asks_for(rt.alloc(), text, "FAULT Shared")?);
+    Ok(())
+}
+
+#[test]
+fn words_count_at_the_front_of_a_line(rt: HostRuntime) -> Result<(), Fail> {
+    for text in [
+        "",
+        "A FAULT Shared 3/14\n",
+        "FAULT SharedX\n",
+        "FAULT",
+        "\n\n",
+    ] {
+        assert!(rt; asks_for_none(rt.alloc(), text)?);
+    }
+    for text in [
+        "REFUSED Lost 7\n",
+        "\nREFUSED Lost",
+        "OK\nREFUSED Lost 1\nBESTE\n",
+    ] {
+        assert!(rt; asks_for(rt.alloc(), text, "REFUSED Lost")?);
+    }
+    Ok(())
+}
+
+#[test]
+fn each_front_has_one_row(rt: HostRuntime) -> Result<(), Fail> {
+    for row in &TABLE {
+        assert!(rt; asks_for(rt.alloc(), row.front, row.front)?);
+        assert!(rt; row.meaning.ends_with('.') && row.advice.ends_with('.'));
+    }
+    Ok(())
+}
+
+/// What the inner writer has, and what was heard, after two writes.
+fn heard(alloc: Global, first: &[u8], second: &[u8]) -> Option<(Vec<u8>, Vec<u8>)> {
+    let mut text = Overheard::new(alloc, Vec::new(alloc));
+    text.write_all(first).ok()?;
+    text.write_all(second).ok()?;
+    Some((text.inner, text.told?))
+}
+
+#[test]
+fn a_writer_is_overheard(rt: HostRuntime) -> Result<(), Fail> {
+    let Some((inner, told)) = heard(rt.alloc(), b"REFUSED ", b"Check\n") else {
+        return Err("a writer failed".into());
+    };
+    assert!(rt; inner.as_slice() == b"REFUSED Check\n".as_slice());
+    assert!(rt; told.as_slice() == b"REFUSED Check\n".as_slice());
+    Ok(())
+}
