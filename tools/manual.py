@@ -1,5 +1,6 @@
 #!/usr/bin/env python3
-"""Makes the manual page and the completions of the shells from what the program itself tells of its commands.
+"""Makes the manual page and the completions of the shells from what the program itself tells of its commands; what its answers mean is
+taken from the table of its explanations.
 
 tools/manual.py PROGRAM          writes man/a2shop.1 and completions/ anew
 tools/manual.py PROGRAM --check  writes nothing, and fails where one of them is not what the program tells
@@ -11,6 +12,7 @@ import subprocess
 import sys
 
 TOP = pathlib.Path(__file__).resolve().parent.parent
+TABLE = TOP / "crates/explanations/src/table.rt"
 
 DESCRIPTION = """\
 .B a2shop
@@ -99,7 +101,15 @@ def takes_file(text):
 
 
 def troff(text):
-    return text.replace("\\", "\\e").replace("-", "\\-")
+    """A text as troff takes it, with the words between backquotes in bold letters."""
+    return re.sub("`([^`]*)`", r"\\fB\1\\fR", text.replace("\\", "\\e").replace("-", "\\-"))
+
+
+def explanations():
+    """The rows of the table: what is told, what it means, and what to do next."""
+    texts = re.findall(r'(?:front|meaning|advice): "((?:[^"\\]|\\.|\\\n)*)"', TABLE.read_text(encoding="utf-8"))
+    texts = [re.sub(r"\\\n\s*", "", text) for text in texts]
+    return list(zip(texts[::3], texts[1::3], texts[2::3]))
 
 
 def manual(commands):
@@ -114,6 +124,9 @@ def manual(commands):
     lines += [".SH EXIT STATUS"]
     for status, text in STATUSES:
         lines += [".TP", f".B {status}", troff(text)]
+    lines += [".SH DIAGNOSTICS", "How a line begins, and what that means.  \\fB\\-\\-explain\\fR tells the same of an answer on standard error."]
+    for front, meaning, advice in explanations():
+        lines += [".TP", f".B {troff(front)}", troff(meaning), troff(advice)]
     lines += [".SH NOTES"]
     for text in NOTES:
         lines += [".PP", text]
