@@ -3,7 +3,7 @@ _a2shop() {
   local word=${COMP_WORDS[COMP_CWORD]} before=${COMP_WORDS[COMP_CWORD-1]}
   COMPREPLY=()
   if [ "$COMP_CWORD" -eq 1 ]; then
-    mapfile -t COMPREPLY < <(compgen -W "catalog check read convert plan optimize verify identify help" -- "$word")
+    mapfile -t COMPREPLY < <(compgen -W "catalog check read convert plan optimize lock unlock verify identify help" -- "$word")
     return
   fi
   case "${COMP_WORDS[1]} $before" in
@@ -27,6 +27,14 @@ _a2shop() {
     'optimize --reserve') return ;;
     'optimize --stop-after') return ;;
     'optimize --cert') mapfile -t COMPREPLY < <(compgen -f -- "$word"); return ;;
+    'lock --fs') mapfile -t COMPREPLY < <(compgen -W "dos prodos auto" -- "$word"); return ;;
+    'lock --order') mapfile -t COMPREPLY < <(compgen -W "dos prodos nibble auto" -- "$word"); return ;;
+    'lock --out') mapfile -t COMPREPLY < <(compgen -f -- "$word"); return ;;
+    'lock --reserve') return ;;
+    'unlock --fs') mapfile -t COMPREPLY < <(compgen -W "dos prodos auto" -- "$word"); return ;;
+    'unlock --order') mapfile -t COMPREPLY < <(compgen -W "dos prodos nibble auto" -- "$word"); return ;;
+    'unlock --out') mapfile -t COMPREPLY < <(compgen -f -- "$word"); return ;;
+    'unlock --reserve') return ;;
     'verify --fs') mapfile -t COMPREPLY < <(compgen -W "dos prodos auto" -- "$word"); return ;;
     'verify --order') mapfile -t COMPREPLY < <(compgen -W "dos prodos nibble auto" -- "$word"); return ;;
     'verify --from') mapfile -t COMPREPLY < <(compgen -f -- "$word"); return ;;
@@ -43,6 +51,8 @@ _a2shop() {
     convert) mapfile -t COMPREPLY < <(compgen -W "--order --to --out --volume --data-disk --help" -- "$word") ;;
     plan) mapfile -t COMPREPLY < <(compgen -W "--fs --order --data-disk --reserve --reclaim --words --help" -- "$word") ;;
     optimize) mapfile -t COMPREPLY < <(compgen -W "--fs --order --out --data-disk --reserve --reclaim --stop-after --cert --help" -- "$word") ;;
+    lock) mapfile -t COMPREPLY < <(compgen -W "--fs --order --out --data-disk --reserve --help" -- "$word") ;;
+    unlock) mapfile -t COMPREPLY < <(compgen -W "--fs --order --out --data-disk --reserve --help" -- "$word") ;;
     verify) mapfile -t COMPREPLY < <(compgen -W "--fs --order --from --data-disk --reserve --reclaim --help" -- "$word") ;;
     identify) mapfile -t COMPREPLY < <(compgen -W " --help" -- "$word") ;;
   esac

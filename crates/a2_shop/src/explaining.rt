@@ -2,7 +2,7 @@
 use a2_image::Order;
 use explanations::{TABLE, explained};
 use job_reply::most_bytes;
-use shop_words::ImageOrder;
+use shop_words::{ImageOrder, escaped};
 use std::{fmt, io};
 
 /// What became known of the image of a job.
@@ -73,9 +73,9 @@ fn tell_image(rt: &HostRuntime, found: &Found) -> io::Result<()> {
         return Ok(());
     };
     let name = if path.as_str() == "-" {
-        "standard input"
+        "standard input".to_string(rt.alloc())?
     } else {
-        path.as_str()
+        escaped(rt.alloc(), path.as_str())?
     };
     match found.bytes {
         Some(bytes) if bytes > most_bytes(Order::Prodos) => {

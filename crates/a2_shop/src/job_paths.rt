@@ -15,6 +15,7 @@ pub fn image_path(job: &Job) -> &str
         | Job::Read { image, .. }
         | Job::Plan { image, .. }
         | Job::Optimize { image, .. }
+        | Job::Edit { image, .. }
         | Job::Verify { image, .. }
         | Job::Convert { image, .. }
         | Job::Identify { image } => image.as_str(),
@@ -42,7 +43,9 @@ pub fn out_path(job: &Job) -> Option<&str>
         | Job::Plan { .. }
         | Job::Verify { .. }
         | Job::Identify { .. } => None,
-        Job::Convert { out, .. } | Job::Optimize { out, .. } => Some(out.as_str()),
+        Job::Convert { out, .. } | Job::Optimize { out, .. } | Job::Edit { out, .. } => {
+            Some(out.as_str())
+        }
     }
 }
 
@@ -64,6 +67,7 @@ pub fn volume_of(job: &Job) -> Option<VolumeOptions> {
         | Job::Read { volume, .. }
         | Job::Plan { volume, .. }
         | Job::Optimize { volume, .. }
+        | Job::Edit { volume, .. }
         | Job::Verify { volume, .. } => Some(*volume),
         Job::Convert { .. } | Job::Identify { .. } => None,
     }

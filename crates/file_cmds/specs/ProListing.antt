@@ -51,7 +51,7 @@ rest_behind (suc n) (suc m) (suc i) (suc j) (byte ∷ bytes) behind later same =
     rest_behind n m i j bytes (omega (arith, behind)) (omega (arith, later)) (omega (arith, same))
 
 -- what stands behind the key pointer stands two lower
-behind_key : (i j : ℕ) (bytes : List ℕ) → 0x11 ≤ i → i + 2 ≡ j → slice_index (without_key bytes) i ≡ slice_index bytes j
+pub behind_key : (i j : ℕ) (bytes : List ℕ) → 0x11 ≤ i → i + 2 ≡ j → slice_index (without_key bytes) i ≡ slice_index bytes j
 behind_key i j bytes behind same = byte_behind 0x11 0x13 i j bytes behind (omega arith) (omega (arith, same))
 
 pub long_behind : (bytes : List ℕ) → long (without_key bytes) 0x13 ≡ long bytes 0x15

@@ -6,7 +6,7 @@ ghost use Rattle.file_cmds.specs.Refusal.{told_device};
 ghost use Rattle.file_cmds.specs.Text.{OwnFault, IsWholeTextOf};
 ghost use Rattle.file_cmds.specs.Read.{IsTextAt, IsUnreadable, HasNoFile};
 
-use crate::find::find;
+use crate::finding::find;
 use crate::one_file::OneFile;
 use crate::text::text_of;
 use crate::{CmdError, FileFormat};

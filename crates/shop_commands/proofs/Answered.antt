@@ -1,13 +1,14 @@
 -- What was read of an image answers for the whole image, and words for their job.
 use Rattle.std.proofs.Common.{◌≡◌, ◌≢◌, ℕ, ◌+◌, Bool, List, take, refl, subst, arith, inl, inr, ⊎_elim}
-use Rattle.std.specs.Io.KnownBytes.{Keeps}
-use Rattle.std.specs.Prelude.{◌⊎◌, Option, Some, None, IfSome}
+use Rattle.std.specs.Io.KnownBytes.{Appends, Keeps}
+use Rattle.std.specs.Prelude.{◌⊎◌, Option, Some, None, IfSome, codes}
 use Rattle.a2_image.specs.declared.order.Order.{Order}
-use Rattle.shop_words.specs.Job.{JobView, catalog, check, read, convert, plan, optimize, verify, identify, asked_job, IsTaken}
+use Rattle.shop_words.specs.Job.{JobView, catalog, check, read, convert, plan, optimize, edit, verify, identify, asked_job, IsTaken}
 use Rattle.shop_words.specs.Fault.{IsFaultOf}
 use Rattle.shop_words.specs.declared.fault.WordsFault.{WordsFault}
 use Rattle.shop_words.specs.declared.fault.WordsFault.TheVariants as words
 use Rattle.shop_words.specs.declared.job.VolumeOptions.{VolumeOptions}
+use Rattle.shop_words.specs.declared.job.Edit.{Edit}
 use Rattle.job_reply.specs.declared.reply.Failure.{Failure}
 use Rattle.job_reply.specs.declared.reply.Reply.{Reply}
 use Rattle.job_reply.specs.declared.reply.Reply.TheVariants.{Done, Faulty, Bytes, Made, Optimized, Interrupted, Refused, Unopened, Failed}
@@ -15,8 +16,10 @@ use Rattle.job_reply.specs.Disk.{most_bytes}
 use Rattle.job_reply.specs.Reply.{HandsOut, Held, IsDelivered, IsMade, held}
 use Rattle.job_reply.proofs.Fronts.{convert-whole}
 use Rattle.volume_jobs.specs.VerifyReply.{most_certificate}
-use Rattle.volume_jobs.specs.Volume.{device_of, files_of, form_of, meaning_of}
-use Rattle.volume_jobs.specs.Work.{IsWorkReply, WorkView, Catalog, Read, Check, Plan, Optimize, Verify}
+use Rattle.volume_jobs.specs.Volume.{device_of, edits_of, files_of, form_of, meaning_of}
+use Rattle.volume_jobs.specs.Work.{IsWorkReply, WorkView, Catalog, Read, Check, Plan, Optimize, Change, Verify}
+use Rattle.volume_jobs.specs.EditReply.{IsImageReply}
+use Rattle.volume_jobs.proofs.NotMade.{edited_image, volume_made}
 use Rattle.volume_jobs.proofs.Fronts.{verified-take, volume-whole}
 use Rattle.shop_commands.specs.Answer.{HandsOutFor, IsReadFailure, limit_of, IsToldOf, IsReplyTo, IsAnswer, IsCommandAnswer, IsWordsAnswer, MakesImage, ReadsExtra, image_order_of, order_of}
 use Rattle.image_readings.proofs.Fronts.{identify-whole}
@@ -41,7 +44,7 @@ told-whole : (volume : VolumeOptions) (reserve : Option (List ℕ)) (image : Lis
     → IsToldOf volume reserve (take (most_bytes (order_of volume.order) + 1) image) work reply → IsToldOf volume reserve image work reply
 told-whole volume reserve image work reply is =
     volume-whole volume.file_system (order_of volume.order) volume.data_disk reserve image
-    (IsWorkReply work (form_of volume.file_system) (files_of volume.file_system)) reply is
+    (IsWorkReply work (form_of volume.file_system) (files_of volume.file_system) (edits_of volume.file_system)) reply is
 
 -- the bytes that are read of an image
 abbrev pub front_for : JobView → List ℕ → List ℕ
@@ -57,6 +60,7 @@ reply-whole (read path name volume whole) image more extra reply taken is = told
 reply-whole (plan path volume reserve reclaim in_words) image more extra reply taken is = told-whole volume reserve image (Plan reclaim in_words) reply is
 reply-whole (optimize words reserve reclaim cert) image more extra reply taken is =
     told-whole words.volume reserve image (Optimize reclaim (limit_of words.stop_after)) reply is
+reply-whole (edit path name volume change out reserve) image more extra reply taken is = told-whole volume reserve image (Change change name) reply is
 reply-whole (verify path volume from reserve reclaim) image more None reply taken is = tt
 reply-whole (verify path volume from reserve reclaim) image more (Some bytes) reply taken is =
     verified_whole volume reserve image reclaim more bytes reply (taken tt) (told-whole volume reserve image (Verify reclaim more) reply is)
@@ -90,11 +94,32 @@ makes_image (check path volume reserve) image more reply is made = absurd (told_
 makes_image (read path name volume whole) image more reply is made = absurd (told_not_made volume None image (Read name whole) tt reply is made)
 makes_image (plan path volume reserve reclaim in_words) image more reply is made = absurd (told_not_made volume reserve image (Plan reclaim in_words) tt reply is made)
 makes_image (optimize words reserve reclaim cert) image more reply is made = tt
+makes_image (edit path name volume change out reserve) image more reply is made = tt
 makes_image (verify path volume from reserve reclaim) image more reply is made = absurd (told_not_made volume reserve image (Verify reclaim more) tt reply is made)
 makes_image (convert words) image more reply is made = tt
 makes_image (identify path) image more reply is made = absurd (identify_not_made image reply is made)
 
--- the image of a conversion is handed out with `OK`
+-- an edit that makes an image answers with it, and hands it out with `OK`
+edit_makes_image : (volume : VolumeOptions) (reserve : Option (List ℕ)) (image : List ℕ) (change : Edit) (name : List ℕ) (reply : Reply)
+    → IsToldOf volume reserve image (Change change name) reply → IsMade reply → IsImageReply reply
+edit_makes_image volume reserve image change name reply is made =
+    volume_made volume.file_system (order_of volume.order) volume.data_disk reserve image
+    (IsWorkReply (Change change name) (form_of volume.file_system) (files_of volume.file_system) (edits_of volume.file_system)) reply (IsImageReply reply)
+    (λ format device told. edited_image change name (files_of volume.file_system) (edits_of volume.file_system) format device reply told made) is made
+
+ok_handed : (reply : Reply) (status : ℕ) (old new : Option (List ℕ)) → IsImageReply reply → HandsOut reply status old new
+    → Appends old new (codes "OK\n") × ((status ≡ 0) ⊎ (status ≡ 4))
+ok_handed (Made content) status old new is out = out
+ok_handed (Optimized text content) status old new is out = absurd is
+ok_handed (Interrupted content) status old new is out = absurd is
+ok_handed (Done text) status old new is out = absurd is
+ok_handed (Faulty text) status old new is out = absurd is
+ok_handed (Bytes content) status old new is out = absurd is
+ok_handed (Refused refusal) status old new is out = absurd is
+ok_handed (Unopened text) status old new is out = absurd is
+ok_handed (Failed failure) status old new is out = absurd is
+
+-- the image of a conversion, or of an edit, is handed out with `OK`
 hands_for : (job : JobView) (image more : List ℕ) (reply : Reply) (status : ℕ) (old new : Option (List ℕ)) → IsReplyTo job image (Some more) reply → IsMade reply
     → HandsOut reply status old new → HandsOutFor job status old new
 hands_for (convert words) image more (Made content) status old new is made out = out
@@ -106,6 +131,7 @@ hands_for (convert words) image more (Bytes content) status old new is made out 
 hands_for (convert words) image more (Refused refusal) status old new is made out = absurd made
 hands_for (convert words) image more (Unopened text) status old new is made out = absurd made
 hands_for (convert words) image more (Failed failure) status old new is made out = absurd made
+hands_for (edit path name volume change file reserve) image more reply status old new is made out = ok_handed reply status old new (edit_makes_image volume reserve image change name reply is made) out
 hands_for (catalog path volume) image more reply status old new is made out = (reply, made, out)
 hands_for (check path volume reserve) image more reply status old new is made out = (reply, made, out)
 hands_for (read path name volume whole) image more reply status old new is made out = (reply, made, out)

@@ -1,4 +1,5 @@
 pub mod Fronts
 pub mod NotMade
+pub mod Edits
 pub mod Answered
 pub mod DosListings

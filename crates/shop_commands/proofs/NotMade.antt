@@ -4,7 +4,7 @@ use Rattle.std.specs.Prelude.{Option}
 use Rattle.shop_words.specs.declared.job.VolumeOptions.{VolumeOptions}
 use Rattle.job_reply.specs.declared.reply.Reply.{Reply}
 use Rattle.job_reply.specs.Reply.{IsMade}
-use Rattle.volume_jobs.specs.Volume.{files_of, form_of}
+use Rattle.volume_jobs.specs.Volume.{edits_of, files_of, form_of}
 use Rattle.volume_jobs.specs.Work.{IsWorkReply, WorkView}
 use Rattle.volume_jobs.proofs.NotMade.{MakesNone, volume_not_made, work_not_made}
 use Rattle.shop_commands.specs.Answer.{IsToldOf, order_of}
@@ -12,5 +12,5 @@ use Rattle.shop_commands.specs.Answer.{IsToldOf, order_of}
 pub told_not_made : (volume : VolumeOptions) (reserve : Option (List ℕ)) (image : List ℕ) (work : WorkView) → MakesNone work → (reply : Reply)
     → IsToldOf volume reserve image work reply → ¬ IsMade reply
 told_not_made volume reserve image work none reply is made =
-    volume_not_made volume.file_system (order_of volume.order) volume.data_disk reserve image (IsWorkReply work (form_of volume.file_system) (files_of volume.file_system)) reply
-    (λ format device. work_not_made work none (form_of volume.file_system) (files_of volume.file_system) format device reply) is made
+    volume_not_made volume.file_system (order_of volume.order) volume.data_disk reserve image (IsWorkReply work (form_of volume.file_system) (files_of volume.file_system) (edits_of volume.file_system)) reply
+    (λ format device. work_not_made work none (form_of volume.file_system) (files_of volume.file_system) (edits_of volume.file_system) format device reply) is made

@@ -4,7 +4,7 @@ use Rattle.std.specs.Io.KnownBytes.{Appends, Keeps}
 use Rattle.a2_image.specs.declared.order.Order.{Order}
 use Rattle.a2_image.specs.declared.order.Order.TheVariants as orders
 use Rattle.file_cmds.specs.DosText.{Text}
-use Rattle.shop_words.specs.Job.{JobView, catalog, check, read, convert, plan, optimize, verify, identify, asked_job, IsTaken}
+use Rattle.shop_words.specs.Job.{JobView, catalog, check, read, convert, plan, optimize, edit, verify, identify, asked_job, IsTaken}
 use Rattle.shop_words.specs.declared.job.FileSystem.TheVariants as systems
 use Rattle.shop_words.specs.declared.job.ImageOrder.{ImageOrder}
 use Rattle.shop_words.specs.declared.job.ImageOrder.TheVariants as wanted
@@ -18,9 +18,9 @@ use Rattle.job_reply.specs.declared.reply.Reply.{Reply}
 use Rattle.job_reply.specs.declared.reply.Reply.TheVariants.{Failed}
 use Rattle.job_reply.specs.Reply.{HandsImage, Held, IsDelivered, IsWritten, failure_line}
 use Rattle.volume_jobs.specs.DosCatalogReply.{IsDosCatalogReply}
-use Rattle.volume_jobs.specs.Volume.{files_of, form_of}
+use Rattle.volume_jobs.specs.Volume.{edits_of, files_of, form_of}
 use Rattle.volume_jobs.specs.VolumeReply.{IsVolumeReply}
-use Rattle.volume_jobs.specs.Work.{IsWorkReply, WorkView, Catalog, Read, Check, Plan, Optimize, Verify}
+use Rattle.volume_jobs.specs.Work.{IsWorkReply, WorkView, Catalog, Read, Check, Plan, Optimize, Change, Verify}
 use Rattle.job_reply.specs.ConvertReply.{IsConvertReply}
 use Rattle.image_readings.specs.IdentifyReply.{IsIdentifyReply}
 
@@ -31,6 +31,7 @@ image_of (check path volume reserve) = path
 image_of (read path name volume whole) = path
 image_of (plan path volume reserve reclaim in_words) = path
 image_of (optimize words reserve reclaim cert) = words.image
+image_of (edit path name volume change out reserve) = path
 image_of (verify path volume from reserve reclaim) = path
 image_of (convert words) = words.image
 image_of (identify path) = path
@@ -47,6 +48,7 @@ out_of (check path volume reserve) = None
 out_of (read path name volume whole) = None
 out_of (plan path volume reserve reclaim in_words) = None
 out_of (optimize words reserve reclaim cert) = Some words.out
+out_of (edit path name volume change out reserve) = Some out
 out_of (verify path volume from reserve reclaim) = None
 out_of (convert words) = Some words.out
 out_of (identify path) = None
@@ -69,6 +71,7 @@ image_order_of (check path volume reserve) = order_of volume.order
 image_order_of (read path name volume whole) = order_of volume.order
 image_order_of (plan path volume reserve reclaim in_words) = order_of volume.order
 image_order_of (optimize words reserve reclaim cert) = order_of words.volume.order
+image_order_of (edit path name volume change out reserve) = order_of volume.order
 image_order_of (verify path volume from reserve reclaim) = order_of volume.order
 image_order_of (convert words) = order_of words.order
 image_order_of (identify path) = orders.Prodos
@@ -84,7 +87,7 @@ IsStatus status = (status ≡ 0) ⊎ (status ≡ 1) ⊎ (status ≡ 3) ⊎ (stat
 -- what is told of the volume in an image, where the words reserve places or not
 abbrev pub IsToldOf : VolumeOptions → Option Text → List ℕ → WorkView → Reply → Type 0
 IsToldOf volume reserve image work reply =
-    IsVolumeReply volume.file_system (order_of volume.order) volume.data_disk reserve image (IsWorkReply work (form_of volume.file_system) (files_of volume.file_system)) reply
+    IsVolumeReply volume.file_system (order_of volume.order) volume.data_disk reserve image (IsWorkReply work (form_of volume.file_system) (files_of volume.file_system) (edits_of volume.file_system)) reply
 
 -- the reply to a job on these bytes of an image, and on those of a file beside it where they are known
 abbrev pub IsReplyTo : JobView → List ℕ → Option (List ℕ) → Reply → Type 0
@@ -93,6 +96,7 @@ IsReplyTo (check path volume reserve) image extra reply = IsToldOf volume reserv
 IsReplyTo (read path name volume whole) image extra reply = IsToldOf volume None image (Read name whole) reply
 IsReplyTo (plan path volume reserve reclaim in_words) image extra reply = IsToldOf volume reserve image (Plan reclaim in_words) reply
 IsReplyTo (optimize words reserve reclaim cert) image extra reply = IsToldOf words.volume reserve image (Optimize reclaim (limit_of words.stop_after)) reply
+IsReplyTo (edit path name volume change out reserve) image extra reply = IsToldOf volume reserve image (Change change name) reply
 IsReplyTo (verify path volume from reserve reclaim) image extra reply = IfSome extra (λ bytes. IsToldOf volume reserve image (Verify reclaim bytes) reply)
 IsReplyTo (convert words) image extra reply = IsConvertReply (order_of words.order) (order_of words.to) words.volume image reply
 IsReplyTo (identify path) image extra reply = IsIdentifyReply image reply
@@ -102,12 +106,17 @@ abbrev pub ReadsExtra : JobView → Type 0
 ReadsExtra (verify path volume from reserve reclaim) = Unit {0}
 ReadsExtra job = ⊥
 
--- the job asks where the parts of files belong
-abbrev pub AsksForMoves : JobView → Type 0
-AsksForMoves (plan path volume reserve reclaim in_words) = Unit {0}
-AsksForMoves (optimize words reserve reclaim cert) = Unit {0}
-AsksForMoves (verify path volume from reserve reclaim) = Unit {0}
-AsksForMoves job = ⊥
+-- the job asks for the fewest moves, or whether they are the fewest
+abbrev pub AsksForPlan : JobView → Type 0
+AsksForPlan (plan path volume reserve reclaim in_words) = Unit {0}
+AsksForPlan (verify path volume from reserve reclaim) = Unit {0}
+AsksForPlan job = ⊥
+
+-- the job changes a volume
+abbrev pub ChangesVolume : JobView → Type 0
+ChangesVolume (optimize words reserve reclaim cert) = Unit {0}
+ChangesVolume (edit path name volume change out reserve) = Unit {0}
+ChangesVolume job = ⊥
 
 -- the job makes an image, for the output file
 abbrev pub MakesImage : JobView → Type 0
@@ -116,13 +125,15 @@ MakesImage (check path volume reserve) = ⊥
 MakesImage (read path name volume whole) = ⊥
 MakesImage (plan path volume reserve reclaim in_words) = ⊥
 MakesImage (optimize words reserve reclaim cert) = Unit {0}
+MakesImage (edit path name volume change out reserve) = Unit {0}
 MakesImage (verify path volume from reserve reclaim) = ⊥
 MakesImage (convert words) = Unit {0}
 MakesImage (identify path) = ⊥
 
--- the image of a job is handed out, once its text is told: `OK` for a conversion, else that of the optimizer's reply
+-- the image of a job is handed out, once its text is told: `OK` for a conversion or an edit, else that of the optimizer's reply
 abbrev pub HandsOutFor : JobView → ℕ → Option (List ℕ) → Option (List ℕ) → Type 0
 HandsOutFor (convert words) status old new = Appends old new (codes "OK\n") × ((status ≡ 0) ⊎ (status ≡ 4))
+HandsOutFor (edit path name volume change out reserve) status old new = Appends old new (codes "OK\n") × ((status ≡ 0) ⊎ (status ≡ 4))
 HandsOutFor job status old new = HandsImage status old new
 
 -- what may go wrong before the bytes are there: a reader fails, or there is no room for what it has

@@ -1,9 +1,9 @@
 // Jobs, from an image's reader to the text and the output file.
-ghost use Rattle.std.specs.Prelude.{◌≡◌, ◌⊎◌, ◌+◌, Some, take, IfOk, IfErr, IfSome};
+ghost use Rattle.std.specs.Prelude.{◌≡◌, ◌⊎◌, ◌+◌, ℕ, List, Option, Some, take, IfOk, IfErr, IfSome};
 ghost use Rattle.shop_words.specs.Job.{job_view};
 ghost use Rattle.job_reply.specs.Reply.{held};
 ghost use Rattle.volume_jobs.specs.VerifyReply.{most_certificate};
-ghost use Rattle.shop_commands.specs.Answer.{AsksForMoves, HandsOutFor, IsAnswer, IsDosCatalogAnswer, IsReadFailure, IsReplyTo, IsStatus, MakesImage, ReadsExtra, image_order_of, limit_of as of_limit, order_of as named};
+ghost use Rattle.shop_commands.specs.Answer.{AsksForPlan, ChangesVolume, HandsOutFor, IsAnswer, IsDosCatalogAnswer, IsReadFailure, IsReplyTo, IsStatus, MakesImage, ReadsExtra, image_order_of, limit_of as of_limit, order_of as named};
 
 use crate::input::{read_extra, read_image};
 use a2_image::Order;
@@ -35,6 +35,7 @@ fn image_order(job: &Job) -> Order
         | Job::Read { volume, .. }
         | Job::Plan { volume, .. }
         | Job::Optimize { volume, .. }
+        | Job::Edit { volume, .. }
         | Job::Verify { volume, .. } => order_of(volume.order),
         Job::Convert { order, .. } => order_of(*order),
         // No order allows an image to be longer.
@@ -64,9 +65,9 @@ fn extra_for<E: Read>(alloc: Global, job: &Job, extra: &mut E) -> Result<Vec<u8>
     }
 }
 
-// The reply to a plan, an optimization or a verification, on the bytes of its image and of a file beside it.
-fn moves_reply(alloc: Global, job: &Job, image: Vec<u8>, extra: &[u8]) -> Reply
-    requires { AsksForMoves (job_view job.now) }
+// The reply to a plan or a verification, on the bytes of its image and of a file beside it.
+fn plan_job_reply(alloc: Global, job: &Job, image: Vec<u8>, extra: &[u8]) -> Reply
+    requires { AsksForPlan (job_view job.now) }
     ensures { IsReplyTo (job_view job.now) image.items (Some extra.now) result }
 {
     let order = image_order(job);
@@ -84,6 +85,29 @@ fn moves_reply(alloc: Global, job: &Job, image: Vec<u8>, extra: &[u8]) -> Reply
             };
             volume_reply(alloc, work, image, order, *volume, reserve.as_deref())
         }
+        Job::Verify {
+            volume,
+            reserve,
+            reclaim,
+            ..
+        } => {
+            let work = Work::Verify {
+                reclaim: *reclaim,
+                certificate: extra,
+            };
+            volume_reply(alloc, work, image, order, *volume, reserve.as_deref())
+        }
+        _ => unreachable!(),
+    }
+}
+
+// The reply to an optimization or an edit, on the bytes of its image.
+fn change_reply(alloc: Global, job: &Job, image: Vec<u8>) -> Reply
+    requires { ChangesVolume (job_view job.now) }
+    ensures { (extra : Option (List ℕ)) → IsReplyTo (job_view job.now) image.items extra result }
+{
+    let order = image_order(job);
+    match job {
         Job::Optimize {
             volume,
             reserve,
@@ -98,15 +122,16 @@ fn moves_reply(alloc: Global, job: &Job, image: Vec<u8>, extra: &[u8]) -> Reply
             };
             volume_reply(alloc, work, image, order, *volume, reserve.as_deref())
         }
-        Job::Verify {
+        Job::Edit {
+            name,
             volume,
+            edit,
             reserve,
-            reclaim,
             ..
         } => {
-            let work = Work::Verify {
-                reclaim: *reclaim,
-                certificate: extra,
+            let work = Work::Edit {
+                edit: *edit,
+                name: name.as_bytes(),
             };
             volume_reply(alloc, work, image, order, *volume, reserve.as_deref())
         }
@@ -149,9 +174,8 @@ fn reply_to(alloc: Global, job: &Job, image: Vec<u8>, extra: &[u8]) -> Reply
         }
         Job::Convert { to, volume, .. } => convert_reply(image, order, order_of(*to), *volume),
         Job::Identify { .. } => identify_reply(alloc, image.as_slice()),
-        Job::Plan { .. } | Job::Optimize { .. } | Job::Verify { .. } => {
-            moves_reply(alloc, job, image, extra)
-        }
+        Job::Plan { .. } | Job::Verify { .. } => plan_job_reply(alloc, job, image, extra),
+        Job::Optimize { .. } | Job::Edit { .. } => change_reply(alloc, job, image),
     }
 }
 

@@ -19,5 +19,6 @@ pub mod AskedLemmas
 pub mod FaultLemmas
 pub mod PlanLine
 pub mod OptimizeLine
+pub mod EditLines
 pub mod VerifyLine
 pub mod IdentifyLine

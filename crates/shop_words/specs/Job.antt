@@ -13,6 +13,8 @@ use Rattle.shop_words.specs.declared.job.FileSystem.TheVariants as file_systems
 use Rattle.shop_words.specs.declared.job.ImageOrder.{ImageOrder}
 use Rattle.shop_words.specs.declared.job.ImageOrder.TheVariants as orders
 use Rattle.shop_words.specs.declared.job.VolumeOptions.{VolumeOptions}
+use Rattle.shop_words.specs.declared.job.Edit.{Edit}
+use Rattle.shop_words.specs.declared.job.Edit.TheVariants.{Lock, Unlock}
 use Rattle.shop_words.specs.declared.optimizing.Optimization.{Optimization}
 use Rattle.shop_words.specs.declared.reading.Conversion.{Conversion}
 use Rattle.shop_words.specs.declared.job.Job.{Job}
@@ -47,6 +49,7 @@ pub data JobView : Type 0 where
   convert : ConversionView → JobView
   plan : Text → VolumeOptions → Option Text → Bool → Bool → JobView
   optimize : OptimizationView → Option Text → Bool → Option Text → JobView
+  edit : Text → Text → VolumeOptions → Edit → Text → Option Text → JobView
   verify : Text → VolumeOptions → Text → Option Text → Bool → JobView
   identify : Text → JobView
 
@@ -65,6 +68,7 @@ job_view (jobs.Plan image volume reserve reclaim in_words) = plan (string_bytes 
 job_view (jobs.Optimize image volume out reserve reclaim stop_after cert) =
     optimize (record { image = string_bytes image; volume = volume; out = string_bytes out; stop_after = stop_after })
     (option_map string_bytes reserve) reclaim (option_map string_bytes cert)
+job_view (jobs.Edit image name volume change out reserve) = edit (string_bytes image) (string_bytes name) volume change (string_bytes out) (option_map string_bytes reserve)
 job_view (jobs.Verify image volume from reserve reclaim) = verify (string_bytes image) volume (string_bytes from) (option_map string_bytes reserve) reclaim
 job_view (jobs.Identify image) = identify (string_bytes image)
 
@@ -148,6 +152,14 @@ optimization_by said = optimization_of (said (codes "image")) (volume_by said) (
 abbrev pub optimize_by : Said → Option JobView
 optimize_by said = option_map (λ optimization. optimize optimization (said (codes "reserve")) (is_on (said (codes "reclaim"))) (said (codes "cert"))) (optimization_by said)
 
+-- a change of a file, where each part of it is there; places to reserve are said or not
+abbrev pub change_of : Edit → Option Text → Option Text → Option VolumeOptions → Option Text → Option Text → Option JobView
+change_of change (Some image) (Some name) (Some volume) (Some out) reserve = Some (edit image name volume change out reserve)
+change_of change _ _ _ _ reserve = None
+
+abbrev pub edit_by : Edit → Said → Option JobView
+edit_by change said = change_of change (said (codes "image")) (said (codes "name")) (volume_by said) (said (codes "out")) (said (codes "reserve"))
+
 abbrev pub verify_by : Said → Option JobView
 verify_by said = option_and_then (λ image. option_and_then (λ from. option_map (λ volume.
     verify image volume from (said (codes "reserve")) (is_on (said (codes "reclaim")))) (volume_by said)) (said (codes "from"))) (said (codes "image"))
@@ -164,6 +176,8 @@ job_by command said =
     if bytes_eq command (codes "convert") then option_map convert (conversion_by said) else
     if bytes_eq command (codes "plan") then plan_by said else
     if bytes_eq command (codes "optimize") then optimize_by said else
+    if bytes_eq command (codes "lock") then edit_by Lock said else
+    if bytes_eq command (codes "unlock") then edit_by Unlock said else
     if bytes_eq command (codes "verify") then verify_by said else
     if bytes_eq command (codes "identify") then identify_by said else None
 

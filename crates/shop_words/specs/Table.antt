@@ -144,6 +144,21 @@ optimize_form = record {
   parameters = image ∷ file_system ∷ order ∷ out ∷ data_disk ∷ reserve ∷ reclaim ∷ stop_after ∷ cert ∷ [];
 }
 
+abbrev pub edit_parameters : List ParameterView
+edit_parameters = image ∷ name_of_file ∷ file_system ∷ order ∷ out ∷ data_disk ∷ reserve ∷ []
+
+abbrev pub lock_form : FormView
+lock_form = record {
+  name = codes "lock";
+  parameters = edit_parameters;
+}
+
+abbrev pub unlock_form : FormView
+unlock_form = record {
+  name = codes "unlock";
+  parameters = edit_parameters;
+}
+
 abbrev pub verify_form : FormView
 verify_form = record {
   name = codes "verify";
@@ -158,4 +173,4 @@ identify_form = record {
 
 -- the forms of all commands
 abbrev pub forms : List FormView
-forms = catalog_form ∷ check_form ∷ read_form ∷ convert_form ∷ plan_form ∷ optimize_form ∷ verify_form ∷ identify_form ∷ []
+forms = catalog_form ∷ check_form ∷ read_form ∷ convert_form ∷ plan_form ∷ optimize_form ∷ lock_form ∷ unlock_form ∷ verify_form ∷ identify_form ∷ []

@@ -1,6 +1,6 @@
 //! The words of a user as they are shown.
 ghost use Rattle.std.specs.Prelude.{◌≡◌, ◌<◌, ◌++◌, IfOk, OnOk, map, string_bytes};
-ghost use Rattle.shop_words.specs.Escaping.{escaped, hex_digit, shown_character};
+ghost use Rattle.shop_words.specs.Escaping.{escaped, hex_digit, is_control, shown_character};
 
 use std::alloc::{AllocError, Global};
 
@@ -15,14 +15,21 @@ fn hex_digit(n: u8) -> char
     }
 }
 
+/// Whether a terminal may obey a character in place of showing it.
+fn is_control(character: char) -> bool
+    ensures { result ≡ is_control character }
+{
+    matches!(character as u32, 0..=0x1f | 0x7f..=0x9f)
+}
+
 /// Adds a character to a text, a control character as `\x` and two hexadecimal digits.
 fn push_shown(text: &mut String, character: char) -> Result<(), AllocError>
     ensures { OnOk result (string_bytes text.new ≡ string_bytes text.old ++ shown_character character) }
 {
-    if !character.is_ascii_control() {
+    if !is_control(character) {
         return text.push(character);
     }
-    let code = character as u8;
+    let code = character as u32 as u8;
     text.push_str("\\x")?;
     text.push(hex_digit(code / 16))?;
     text.push(hex_digit(code % 16))

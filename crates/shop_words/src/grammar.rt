@@ -35,7 +35,7 @@ fn command_of<'a>(alloc: Global, form: &Form) -> Result<Command<'a>, AllocError>
 {
     let mut command = Command::new(alloc, form.name)
         .about(form.help)
-        .after_help(form.notes);
+        .after_help(notes::of(form.name));
     for parameter in form.parameters {
         command = command.arg(argument(alloc, parameter))?;
     }

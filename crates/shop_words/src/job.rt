@@ -29,6 +29,15 @@ pub struct VolumeOptions {
     pub data_disk: bool,
 }
 
+/// What is changed of a file.
+#[derive(Clone, Copy, Debug, PartialEq, Eq)]
+pub enum Edit {
+    /// It is locked: the system then refuses to delete it, to rename it or to write it.
+    Lock,
+    /// It is unlocked.
+    Unlock,
+}
+
 /// A command with its words.
 #[derive(Debug, PartialEq, Eq, Drop)]
 pub enum Job {
@@ -95,6 +104,19 @@ pub enum Job {
         stop_after: Option<u64>,
         /// The path of the file that the certificate is written to.
         cert: Option<String>,
+    },
+    /// Changes a file of a volume.
+    Edit {
+        /// The path of the image's file; `-` is standard input.
+        image: String,
+        /// The name of the file in the volume.
+        name: String,
+        volume: VolumeOptions,
+        edit: Edit,
+        /// The path of the file that is written.
+        out: String,
+        /// The places that are kept for the system beside its own, as the words name them.
+        reserve: Option<String>,
     },
     /// Tells whether a certificate shows that no plan is shorter.
     Verify {

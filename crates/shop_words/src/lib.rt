@@ -16,6 +16,7 @@
 //! a refusal only to words in which something else is wrong (`specs/Fault.antt`).
 #![tactic(auto)]
 
+mod editing;
 mod escaping;
 mod fault;
 mod grammar;
@@ -27,6 +28,7 @@ mod refusal;
 mod table;
 mod words;
 
+pub use escaping::escaped;
 pub use fault::WordsFault;
-pub use job::{FileSystem, ImageOrder, Job, VolumeOptions};
+pub use job::{Edit, FileSystem, ImageOrder, Job, VolumeOptions};
 pub use words::parse_words;

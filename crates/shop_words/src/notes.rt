@@ -13,7 +13,7 @@ Status:
   3  the job is refused; one line says why
   4  a file, the image or memory failed";
 
-pub const CATALOG: &str = "\
+const CATALOG: &str = "\
 Example:
   a2shop catalog disk.dsk --fs dos --order dos
 
@@ -23,7 +23,7 @@ Status:
      REFUSED Check   the header, the directory or the map's pointer has a fault
   4  FAILED Input, Device or Memory: the file, a sector of the image or memory failed";
 
-pub const CHECK: &str = "\
+const CHECK: &str = "\
 Example:
   a2shop check disk.dsk --fs dos --order dos
 
@@ -34,7 +34,7 @@ Status:
      REFUSED Length   the image has another length than one in its order
   4  FAILED Input, Device or Memory: the file, a sector of the image or memory failed";
 
-pub const READ: &str = "\
+const READ: &str = "\
 Example:
   a2shop read disk.dsk HELLO --fs dos --order dos
 
@@ -45,7 +45,7 @@ Status:
      REFUSED NotFound  no file has the name
   4  FAILED Input, Device or Memory: the file, a sector of the image or memory failed";
 
-pub const CONVERT: &str = "\
+const CONVERT: &str = "\
 Example:
   a2shop convert disk.dsk --order dos --to nibble --out disk.nib
 
@@ -57,7 +57,7 @@ Status:
      REFUSED NoSector  a track of the image lacks a sector
   4  FAILED Input or Memory: a file or memory failed";
 
-pub const PLAN: &str = "\
+const PLAN: &str = "\
 Examples:
   a2shop plan disk.dsk --fs dos --order dos
   a2shop plan disk.dsk --fs dos --order dos --words
@@ -73,7 +73,7 @@ Status:
      REFUSED NoFreePlace  some part is misplaced, and each place has a part
   4  FAILED Input, Device or Memory: the file, a sector of the image or memory failed";
 
-pub const OPTIMIZE: &str = "\
+const OPTIMIZE: &str = "\
 Example:
   a2shop optimize disk.dsk --fs dos --order dos --out ordered.dsk
 
@@ -86,7 +86,31 @@ Status:
      REFUSED NoFreePlace  some part is misplaced, and each place has a part
   4  FAILED Input, Device or Memory: a file, a sector of the image or memory failed";
 
-pub const VERIFY: &str = "\
+const LOCK: &str = "\
+Example:
+  a2shop lock disk.dsk HELLO --fs dos --order dos --out locked.dsk
+
+Status:
+  0  the image is written, with the file locked
+  3  REFUSED Reserve   the word of --reserve is no list of places
+     REFUSED Length    the image has another length than one in its order
+     REFUSED Check     the volume has a fault; check tells which
+     REFUSED NotFound  no file has the name
+  4  FAILED Input, Device or Memory: a file, a sector of the image or memory failed";
+
+const UNLOCK: &str = "\
+Example:
+  a2shop unlock disk.dsk HELLO --fs dos --order dos --out unlocked.dsk
+
+Status:
+  0  the image is written, with the file unlocked
+  3  REFUSED Reserve   the word of --reserve is no list of places
+     REFUSED Length    the image has another length than one in its order
+     REFUSED Check     the volume has a fault; check tells which
+     REFUSED NotFound  no file has the name
+  4  FAILED Input, Device or Memory: a file, a sector of the image or memory failed";
+
+const VERIFY: &str = "\
 Example:
   a2shop verify disk.dsk --fs dos --order dos --from disk.cert
 
@@ -101,7 +125,7 @@ Status:
      REFUSED NoFreePlace   some part is misplaced, and each place has a part
   4  FAILED Input, Device or Memory: a file, a sector of the image or memory failed";
 
-pub const IDENTIFY: &str = "\
+const IDENTIFY: &str = "\
 Example:
   a2shop identify disk.dsk
 
@@ -110,3 +134,20 @@ Status:
   1  no way to read the image is best
   3  REFUSED Length  the length of the image allows no way to read it
   4  FAILED Input or Memory: the file or memory failed";
+
+/// The notes on the command with this name.
+pub fn of(command: &str) -> &'static str {
+    match command {
+        "catalog" => CATALOG,
+        "check" => CHECK,
+        "read" => READ,
+        "convert" => CONVERT,
+        "plan" => PLAN,
+        "optimize" => OPTIMIZE,
+        "lock" => LOCK,
+        "unlock" => UNLOCK,
+        "verify" => VERIFY,
+        "identify" => IDENTIFY,
+        _ => "",
+    }
+}

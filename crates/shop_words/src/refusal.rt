@@ -14,7 +14,12 @@ use std::alloc::{AllocError, Global};
 
 /// The form of the command with this name.
 fn form_named(name: &str) -> Option<&'static Form> {
-    table().iter().find(|form| form.name == name)
+    for form in table() {
+        if form.name == name {
+            return Some(form);
+        }
+    }
+    None
 }
 
 /// The usage of the command that the words name, or of the program.

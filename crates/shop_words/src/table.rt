@@ -2,8 +2,6 @@
 ghost use Rattle.std.specs.Prelude.{◌≡◌, map};
 ghost use Rattle.shop_words.specs.Table.{form_view, forms};
 
-use crate::notes;
-
 /// What words an option takes.
 #[derive(Clone, Copy)]
 pub enum Values {
@@ -43,8 +41,6 @@ pub struct Form {
     pub name: &'static str,
     pub parameters: &'static [Parameter],
     pub help: &'static str,
-    /// What stands below the help: an example, the statuses and what is refused.
-    pub notes: &'static str,
 }
 
 const IMAGE: Parameter = Parameter {
@@ -144,25 +140,21 @@ const FORMS: &[Form] = &[
         name: "catalog",
         parameters: &[IMAGE, FILE_SYSTEM, ORDER, DATA_DISK],
         help: "List the files of a volume",
-        notes: notes::CATALOG,
     },
     Form {
         name: "check",
         parameters: &[IMAGE, FILE_SYSTEM, ORDER, DATA_DISK, RESERVE],
         help: "Tell whether a volume is sound, or what is wrong with it",
-        notes: notes::CHECK,
     },
     Form {
         name: "read",
         parameters: &[IMAGE, NAME, FILE_SYSTEM, ORDER, WHOLE, DATA_DISK],
         help: "Write the bytes of a file of a volume to standard output",
-        notes: notes::READ,
     },
     Form {
         name: "convert",
         parameters: &[IMAGE, ORDER, TO, OUT, VOLUME, DATA_DISK],
         help: "Write the sectors of an image in another order; tracks that it makes are of volume 254 without --volume",
-        notes: notes::CONVERT,
     },
     Form {
         name: "plan",
@@ -176,7 +168,6 @@ const FORMS: &[Form] = &[
             WORDS,
         ],
         help: "Tell the fewest moves that bring the files of a volume into order, as a certificate or in words",
-        notes: notes::PLAN,
     },
     Form {
         name: "optimize",
@@ -192,19 +183,26 @@ const FORMS: &[Form] = &[
             CERT,
         ],
         help: "Bring the files of a volume into order, by the fewest moves",
-        notes: notes::OPTIMIZE,
+    },
+    Form {
+        name: "lock",
+        parameters: &[IMAGE, NAME, FILE_SYSTEM, ORDER, OUT, DATA_DISK, RESERVE],
+        help: "Lock a file of a volume, so that it is not deleted, renamed or written",
+    },
+    Form {
+        name: "unlock",
+        parameters: &[IMAGE, NAME, FILE_SYSTEM, ORDER, OUT, DATA_DISK, RESERVE],
+        help: "Unlock a file of a volume",
     },
     Form {
         name: "verify",
         parameters: &[IMAGE, FILE_SYSTEM, ORDER, FROM, DATA_DISK, RESERVE, RECLAIM],
         help: "Tell whether a certificate shows that no shorter plan brings a volume into order",
-        notes: notes::VERIFY,
     },
     Form {
         name: "identify",
         parameters: &[IMAGE],
         help: "Tell in which file systems and orders an image can be read, and which is best",
-        notes: notes::IDENTIFY,
     },
 ];
 

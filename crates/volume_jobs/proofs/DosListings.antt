@@ -16,7 +16,8 @@ use Rattle.shop_words.specs.declared.job.FileSystem.TheVariants.{Dos}
 use Rattle.job_reply.specs.declared.reply.Reply.{Reply}
 use Rattle.volume_jobs.specs.CatalogReply.{IsListed}
 use Rattle.volume_jobs.specs.DosCatalogReply.{IsDosCatalogReply, IsDosListed}
-use Rattle.volume_jobs.specs.Volume.{device_of, files_of, form_of}
+use Rattle.file_edits.specs.DosEdits.{dos_edits}
+use Rattle.volume_jobs.specs.Volume.{device_of, edits_of, files_of, form_of}
 use Rattle.volume_jobs.specs.VolumeReply.{IsVolumeReply}
 use Rattle.volume_jobs.specs.Work.{IsWorkReply, Catalog}
 
@@ -38,7 +39,7 @@ listed-dos data_disk reserved device reply size is = elim is [
 ]
 
 reply-dos : (order : Order) (data_disk : Bool) (image : List ℕ) (reply : Reply)
-    → IsVolumeReply Dos order data_disk None image (IsWorkReply Catalog Sector dos_files) reply → IsDosCatalogReply order image reply
+    → IsVolumeReply Dos order data_disk None image (IsWorkReply Catalog Sector dos_files dos_edits) reply → IsDosCatalogReply order image reply
 reply-dos order data_disk image reply is = elim is [
   | inl refused ↦ absurd (refused.1 tt)
   | inr (inl long) ↦ inl (long.0, long.2)
@@ -52,7 +53,7 @@ reply-dos order data_disk image reply is = elim is [
 ]
 
 pub dos_catalog_listed : (order : Order) (data_disk : Bool) (file_system : FileSystem) (image : List ℕ) (reply : Reply) → file_system ≡ Dos
-    → IsVolumeReply file_system order data_disk None image (IsWorkReply Catalog (form_of file_system) (files_of file_system)) reply → IsDosCatalogReply order image reply
+    → IsVolumeReply file_system order data_disk None image (IsWorkReply Catalog (form_of file_system) (files_of file_system) (edits_of file_system)) reply → IsDosCatalogReply order image reply
 dos_catalog_listed order data_disk file_system image reply dos is =
     reply-dos order data_disk image reply
-    (subst (λ system. IsVolumeReply system order data_disk None image (IsWorkReply Catalog (form_of system) (files_of system)) reply) dos is)
+    (subst (λ system. IsVolumeReply system order data_disk None image (IsWorkReply Catalog (form_of system) (files_of system) (edits_of system)) reply) dos is)

@@ -6,5 +6,6 @@ pub mod Checks
 pub mod Readings
 pub mod Unopened
 pub mod Optimized
+pub mod Edited
 pub mod NotMade
 pub mod DosListings

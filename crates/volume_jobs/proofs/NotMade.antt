@@ -12,9 +12,12 @@ use Rattle.job_reply.specs.declared.reply.Refusal.TheVariants as refusals
 use Rattle.job_reply.specs.declared.reply.Failure.TheVariants as failures
 use Rattle.job_reply.specs.declared.reply.Reply.{Reply}
 use Rattle.file_cmds.specs.Files.{FileMeaning}
+use Rattle.file_edits.specs.Edits.{EditMeaning}
 use Rattle.volume_jobs.specs.CatalogReply.{IsListed}
 use Rattle.volume_jobs.specs.ReadReply.{IsRead}
-use Rattle.volume_jobs.specs.Work.{IsWorkReply, WorkView, Catalog, Read, Check, Plan, Optimize, Verify}
+use Rattle.volume_jobs.specs.EditReply.{IsEdited, IsImageReply}
+use Rattle.shop_words.specs.declared.job.Edit.{Edit}
+use Rattle.volume_jobs.specs.Work.{IsWorkReply, WorkView, Catalog, Read, Check, Plan, Optimize, Change, Verify}
 use Rattle.volume_jobs.specs.CheckReply.{IsChecked}
 use Rattle.volume_jobs.specs.PlanReply.{IsPlanned, TellsOpening}
 use Rattle.volume_jobs.specs.PlanWords.{IsPlannedInWords}
@@ -111,17 +114,40 @@ read_not_made name whole files format device reply is made = elim is [
   | inr (inr (inr (inr failed))) ↦ failed_not_made failures.Memory reply failed made
 ]
 
+-- an edit that makes an image answers with it
+pub edited_image : (edit : Edit) (name : List ℕ) (files : FileMeaning) (edits : EditMeaning) (format : Meaning) (device : DeviceState) (reply : Reply)
+    → IsEdited edit name files edits format device reply → IsMade reply → IsImageReply reply
+edited_image edit name files edits format device reply is made = elim is [
+  | inl done ↦ done.image
+  | inr (inl refused) ↦ absurd (refused_not_made refusals.Check reply refused.0 made)
+  | inr (inr (inl refused)) ↦ absurd (refused_not_made refusals.NotFound reply refused.0 made)
+  | inr (inr (inr (inl failed))) ↦ absurd (failed_not_made failures.Device reply failed.0 made)
+  | inr (inr (inr (inr failed))) ↦ absurd (failed_not_made failures.Memory reply failed made)
+]
+
+pub volume_made : (file_system : FileSystem) (order : Order) (data_disk : Bool) (reserve : Option (List ℕ)) (image : List ℕ) (Tells : Meaning → DeviceState → Reply → Type 0) (reply : Reply)
+    (P : Type 0) → ((format : Meaning) (device : DeviceState) → Tells format device reply → P)
+    → IsVolumeReply file_system order data_disk reserve image Tells reply → IsMade reply → P
+volume_made file_system order data_disk reserve image Tells reply P told is made = elim is [
+  | inl refused ↦ absurd (refused_not_made refusals.Reserve reply refused.0 made)
+  | inr (inl refused) ↦ absurd (refused_not_made refusals.Length reply refused.0 made)
+  | inr (inr (inl failed)) ↦ absurd (failed_not_made failures.Memory reply failed made)
+  | inr (inr (inr is)) ↦ told _ _ is.2.3
+]
+
 -- work that makes no image
 abbrev pub MakesNone : WorkView → Type 0
 MakesNone (Optimize reclaim limit) = ⊥
+MakesNone (Change edit name) = ⊥
 MakesNone work = Unit {0}
 
-pub work_not_made : (work : WorkView) → MakesNone work → (form : PlaceForm) (files : FileMeaning) (format : Meaning) (device : DeviceState) (reply : Reply)
-    → IsWorkReply work form files format device reply → ¬ IsMade reply
-work_not_made Catalog none form files format device reply is made = listed_not_made form files format device reply is made
-work_not_made (Read name whole) none form files format device reply is made = read_not_made name whole files format device reply is made
-work_not_made Check none form files format device reply is made = checked_not_made form format device reply is made
-work_not_made (Plan reclaim false) none form files format device reply is made = planned_not_made reclaim format device reply is made
-work_not_made (Plan reclaim true) none form files format device reply is made = planned_in_words_not_made form files reclaim format device reply is made
-work_not_made (Optimize reclaim limit) none form files format device reply is made = absurd none
-work_not_made (Verify reclaim bytes) none form files format device reply is made = verified_not_made reclaim bytes format device reply is made
+pub work_not_made : (work : WorkView) → MakesNone work → (form : PlaceForm) (files : FileMeaning) (edits : EditMeaning) (format : Meaning) (device : DeviceState) (reply : Reply)
+    → IsWorkReply work form files edits format device reply → ¬ IsMade reply
+work_not_made Catalog none form files edits format device reply is made = listed_not_made form files format device reply is made
+work_not_made (Read name whole) none form files edits format device reply is made = read_not_made name whole files format device reply is made
+work_not_made Check none form files edits format device reply is made = checked_not_made form format device reply is made
+work_not_made (Plan reclaim false) none form files edits format device reply is made = planned_not_made reclaim format device reply is made
+work_not_made (Plan reclaim true) none form files edits format device reply is made = planned_in_words_not_made form files reclaim format device reply is made
+work_not_made (Optimize reclaim limit) none form files edits format device reply is made = absurd none
+work_not_made (Change edit name) none form files edits format device reply is made = absurd none
+work_not_made (Verify reclaim bytes) none form files edits format device reply is made = verified_not_made reclaim bytes format device reply is made

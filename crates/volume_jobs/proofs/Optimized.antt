@@ -15,7 +15,7 @@ use Rattle.volume_jobs.specs.OptimizeReply.{AreBytesOf, IsOptimized, KeepsBytes,
 use Rattle.volume_jobs.proofs.Unopened.{unopened}
 
 -- the image under a device is still of the form that it had at first
-keeps_bytes : (old new : DeviceState) (bytes : List ℕ) → new.image ≡ old.image → AreBytesOf new bytes → KeepsBytes old bytes
+pub keeps_bytes : (old new : DeviceState) (bytes : List ℕ) → new.image ≡ old.image → AreBytesOf new bytes → KeepsBytes old bytes
 keeps_bytes old new bytes same (image, is, holds, kept, form, units) first of =
     let one : Some first ≡ Some (record { order = image.order; bytes = length image.bytes; kept = image.kept }) = sym of ∙ sym same ∙ form in
     let that : first ≡ record { order = image.order; bytes = length image.bytes; kept = image.kept } = cc in

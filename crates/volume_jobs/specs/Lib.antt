@@ -11,4 +11,5 @@ pub mod PlanWords
 pub mod OptimizeReply
 pub mod VerifyReply
 pub mod ReadReply
+pub mod EditReply
 pub mod Work

@@ -18,6 +18,9 @@ use Rattle.pro_format.specs.Pro.{pro_meaning}
 use Rattle.file_cmds.specs.DosFiles.{dos_files}
 use Rattle.file_cmds.specs.Files.{FileMeaning}
 use Rattle.file_cmds.specs.ProFiles.{pro_files}
+use Rattle.file_edits.specs.DosEdits.{dos_edits}
+use Rattle.file_edits.specs.Edits.{EditMeaning}
+use Rattle.file_edits.specs.ProEdits.{pro_edits}
 use Rattle.shop_words.specs.declared.job.FileSystem.{FileSystem}
 use Rattle.shop_words.specs.declared.job.FileSystem.TheVariants.{Dos, Prodos}
 use Rattle.job_reply.specs.Disk.{disk_bytes}
@@ -40,6 +43,11 @@ meaning_of Prodos data_disk reserved = pro_meaning reserved
 abbrev pub files_of : FileSystem → FileMeaning
 files_of Dos = dos_files
 files_of Prodos = pro_files
+
+-- how its entries are changed
+abbrev pub edits_of : FileSystem → EditMeaning
+edits_of Dos = dos_edits
+edits_of Prodos = pro_edits
 
 -- an image in this order may have so many bytes: those of a disk, or in ProDOS those of 16 to 65,535 blocks
 abbrev pub TakesBytes : FileSystem → Order → ℕ → Type 0

@@ -7,8 +7,11 @@ use Rattle.job_reply.specs.declared.reply.Reply.{Reply}
 use Rattle.volume_jobs.specs.declared.volume.Work.{Work}
 use Rattle.volume_jobs.specs.declared.volume.Work.TheVariants as works
 use Rattle.file_cmds.specs.Files.{FileMeaning}
+use Rattle.file_edits.specs.Edits.{EditMeaning}
+use Rattle.shop_words.specs.declared.job.Edit.{Edit}
 use Rattle.volume_jobs.specs.CatalogReply.{IsListed}
 use Rattle.volume_jobs.specs.ReadReply.{IsRead}
+use Rattle.volume_jobs.specs.EditReply.{IsEdited}
 use Rattle.volume_jobs.specs.CheckReply.{IsChecked}
 use Rattle.volume_jobs.specs.OptimizeReply.{IsOptimized}
 use Rattle.volume_jobs.specs.PlanReply.{IsPlanned}
@@ -22,6 +25,7 @@ pub data WorkView : Type 0 where
   Check : WorkView
   Plan : Bool → Bool → WorkView
   Optimize : Bool → ℕ → WorkView
+  Change : Edit → List ℕ → WorkView
   Verify : Bool → List ℕ → WorkView
 
 abbrev pub work_view : Work → WorkView
@@ -30,13 +34,15 @@ work_view (works.Read name whole) = Read name.now whole
 work_view works.Check = Check
 work_view (works.Plan reclaim in_words) = Plan reclaim in_words
 work_view (works.Optimize reclaim limit) = Optimize reclaim limit
+work_view (works.Edit edit name) = Change edit name.now
 work_view (works.Verify reclaim certificate) = Verify reclaim certificate.now
 
-abbrev pub IsWorkReply : WorkView → PlaceForm → FileMeaning → Meaning → DeviceState → Reply → Type 0
-IsWorkReply Catalog form files format device reply = IsListed form files format device reply
-IsWorkReply (Read name whole) form files format device reply = IsRead name whole files format device reply
-IsWorkReply Check form files format device reply = IsChecked form format device reply
-IsWorkReply (Plan reclaim false) form files format device reply = IsPlanned reclaim format device reply
-IsWorkReply (Plan reclaim true) form files format device reply = IsPlannedInWords form files reclaim format device reply
-IsWorkReply (Optimize reclaim limit) form files format device reply = IsOptimized reclaim limit format device reply
-IsWorkReply (Verify reclaim bytes) form files format device reply = IsVerified reclaim bytes format device reply
+abbrev pub IsWorkReply : WorkView → PlaceForm → FileMeaning → EditMeaning → Meaning → DeviceState → Reply → Type 0
+IsWorkReply Catalog form files edits format device reply = IsListed form files format device reply
+IsWorkReply (Read name whole) form files edits format device reply = IsRead name whole files format device reply
+IsWorkReply Check form files edits format device reply = IsChecked form format device reply
+IsWorkReply (Plan reclaim false) form files edits format device reply = IsPlanned reclaim format device reply
+IsWorkReply (Plan reclaim true) form files edits format device reply = IsPlannedInWords form files reclaim format device reply
+IsWorkReply (Optimize reclaim limit) form files edits format device reply = IsOptimized reclaim limit format device reply
+IsWorkReply (Change edit name) form files edits format device reply = IsEdited edit name files edits format device reply
+IsWorkReply (Verify reclaim bytes) form files edits format device reply = IsVerified reclaim bytes format device reply

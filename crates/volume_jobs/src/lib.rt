@@ -10,6 +10,7 @@
 
 mod check;
 mod check_text;
+mod edit;
 mod listing;
 mod optimize;
 mod plan;

@@ -57,8 +57,8 @@ fn report_text(alloc: Global, report: &Report) -> Result<Vec<u8>, AllocError>
     Ok(text)
 }
 
-// The bytes of the image under a device.
-fn image_bytes(device: ImageDevice) -> Vec<u8>
+/// The bytes of the image under a device.
+pub fn image_bytes(device: ImageDevice) -> Vec<u8>
     ensures { AreBytesOf (⟦<ImageDevice as Device>⟧.state device) result.items }
 {
     let image = device.into_image();

@@ -1,16 +1,17 @@
 // Jobs on the volume of an image.
-ghost use Rattle.std.specs.Prelude.{◌≡◌, ◌⊎◌, Some, IsTrue, false, length, IfOk, IfErr, option_map};
+ghost use Rattle.std.specs.Prelude.{◌≡◌, ◌⊎◌, [], None, Some, IsTrue, false, length, IfOk, IfErr, option_map};
 ghost use Rattle.a2_image.specs.Image.{IsOfDisk};
 ghost use Rattle.reserved_places.specs.declared.error.ReserveError.TheVariants.{Syntax};
 ghost use Rattle.shop_words.specs.declared.job.FileSystem.TheVariants.{Dos as OfDos, Prodos as OfProdos};
 ghost use Rattle.volume_jobs.specs.Refusals.{reply_to_reserve};
-ghost use Rattle.volume_jobs.specs.Volume.{IsImageOf, RefusesBytes, TakesBytes, device_of, files_of, form_of as form_by, meaning_of};
+ghost use Rattle.volume_jobs.specs.Volume.{IsImageOf, RefusesBytes, TakesBytes, device_of, edits_of, files_of, form_of as form_by, meaning_of};
 ghost use Rattle.volume_jobs.specs.VolumeReply.{IsVolumeReply, NamesPlaces, ReservesNamed};
 ghost use Rattle.volume_jobs.specs.Work.{IsWorkReply, work_view};
 ghost use Rattle.job_reply.specs.declared.reply.Reply.TheVariants.{Failed as AFailed};
 ghost use Rattle.job_reply.specs.declared.reply.Failure.TheVariants.{Memory as OfMemory};
 
 use crate::check::check_reply;
+use crate::edit::edit_reply;
 use crate::listing::catalog_reply;
 use crate::optimize::optimize_reply;
 use crate::plan::plan_reply;
@@ -20,13 +21,12 @@ use crate::verify::verify_reply;
 use a2_device::{Device, ImageDevice};
 use a2_image::{Image, ImageError, Order};
 use dos_format::Dos33;
-use file_cmds::FileFormat;
+use file_edits::EditableFormat;
 use job_reply::{Failure, Refusal, Reply, open_disk};
 use pro_format::Prodos;
 use reserved_places::{PlaceForm, ReserveError, Reserved};
-use shop_words::{FileSystem, VolumeOptions};
+use shop_words::{Edit, FileSystem, VolumeOptions};
 use std::alloc::Global;
-use vol_format::WritableFormat;
 
 // The reply to a text of places to reserve that is not taken.
 fn reserve_reply(error: ReserveError) -> Reply
@@ -59,6 +59,11 @@ pub enum Work<'a> {
     Optimize {
         reclaim: bool,
         limit: u64,
+    },
+    /// A change of a file.
+    Edit {
+        edit: Edit,
+        name: &'a [u8],
     },
     /// Whether this text is a certificate that shows that no plan is shorter.
     Verify {
@@ -109,7 +114,7 @@ fn open_volume(bytes: Vec<u8>, order: Order, file_system: FileSystem) -> Result<
 }
 
 // The reply to work on the volume of a device.
-fn work_reply<F: FileFormat + WritableFormat>(
+fn work_reply<F: EditableFormat>(
     alloc: Global,
     work: Work<'_>,
     device: ImageDevice,
@@ -119,7 +124,8 @@ fn work_reply<F: FileFormat + WritableFormat>(
     requires unit { (⟦<ImageDevice as Device>⟧.state device).unit_size ≡ (F.meaning format.now).unit_size }
     requires places { (F.meaning format.now).Takes (⟦<ImageDevice as Device>⟧.state device).places }
     ensures { IsTrue (⟦<ImageDevice as Device>⟧.state device).honest → (⟦<ImageDevice as Device>⟧.state device).read_failures ≡ Some 0
-        → IsWorkReply (work_view work.entry) form (F.files format.now) (F.meaning format.now) (⟦<ImageDevice as Device>⟧.state device) result }
+        → (⟦<ImageDevice as Device>⟧.state device).write_failures ≡ Some [] → (⟦<ImageDevice as Device>⟧.state device).passes ≡ None → (⟦<ImageDevice as Device>⟧.state device).writes ≡ 0
+        → IsWorkReply (work_view work.entry) form (F.files format.now) (F.edits format.now) (F.meaning format.now) (⟦<ImageDevice as Device>⟧.state device) result }
 {
     let mut device = device;
     match work {
@@ -135,6 +141,7 @@ fn work_reply<F: FileFormat + WritableFormat>(
             words: true,
         } => plan_words_reply(alloc, &mut device, format, form, reclaim),
         Work::Optimize { reclaim, limit } => optimize_reply(alloc, device, format, reclaim, limit),
+        Work::Edit { edit, name } => edit_reply(alloc, device, format, edit, name),
         Work::Verify {
             reclaim,
             certificate,
@@ -151,7 +158,7 @@ fn dos_reply(
     reserved: Reserved,
 ) -> Reply
     requires { IsOfDisk disk }
-    ensures { (result ≡ AFailed OfMemory) ⊎ IsWorkReply (work_view work.entry) (form_by OfDos) (files_of OfDos) (meaning_of OfDos data_disk reserved) (device_of OfDos disk) result }
+    ensures { (result ≡ AFailed OfMemory) ⊎ IsWorkReply (work_view work.entry) (form_by OfDos) (files_of OfDos) (edits_of OfDos) (meaning_of OfDos data_disk reserved) (device_of OfDos disk) result }
 {
     let Ok(format) = Dos33::new(alloc, data_disk, reserved) else {
         return Reply::Failed(Failure::Memory);
@@ -167,7 +174,7 @@ fn dos_reply(
 
 // The reply to work on the ProDOS volume of an image.
 fn prodos_reply(alloc: Global, work: Work<'_>, image: Image, reserved: Reserved) -> Reply
-    ensures { IsWorkReply (work_view work.entry) (form_by OfProdos) (files_of OfProdos) (meaning_of OfProdos false reserved) (device_of OfProdos image) result }
+    ensures { IsWorkReply (work_view work.entry) (form_by OfProdos) (files_of OfProdos) (edits_of OfProdos) (meaning_of OfProdos false reserved) (device_of OfProdos image) result }
 {
     let format = Prodos::new(alloc, reserved);
     // An image has 16 to 65,535 blocks.
@@ -189,7 +196,7 @@ pub fn volume_reply(
     reserve: Option<&str>,
 ) -> Reply
     ensures { IsVolumeReply options.file_system order options.data_disk (option_map (λ s. s.now) reserve.entry) image.items
-        (IsWorkReply (work_view work.entry) (form_by options.file_system) (files_of options.file_system)) result }
+        (IsWorkReply (work_view work.entry) (form_by options.file_system) (files_of options.file_system) (edits_of options.file_system)) result }
 {
     let reserved = match reserved_by(alloc, form_of(options.file_system), reserve) {
         Ok(reserved) => reserved,

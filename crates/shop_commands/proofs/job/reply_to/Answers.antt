@@ -3,7 +3,7 @@ use Rattle.a2_image.specs.declared.order.Order.{Order}
 use Rattle.shop_words.specs.Job.{job_view}
 use Rattle.shop_words.specs.declared.job.Job.{Job}
 use Rattle.shop_commands.specs.Answer.{IsReplyTo, image_order_of}
-use Rattle.volume_jobs.specs.Volume.{files_of, form_of}
+use Rattle.volume_jobs.specs.Volume.{edits_of, files_of, form_of}
 use Rattle.volume_jobs.specs.VolumeReply.{IsVolumeReply}
 use Rattle.volume_jobs.specs.Work.{IsWorkReply, Catalog}
 use Rattle.image_readings.specs.IdentifyReply.{IsIdentifyReply}
@@ -14,7 +14,7 @@ returns-in-Catalog c =
     let volume = c.in-Catalog.volume in
     subst (λ (job : Job). IsReplyTo (job_view job) c.args.image.items (Some c.args.extra.now) c.volume_reply.result) (sym c.in-Catalog.is)
     (subst (λ (order : Order). IsVolumeReply volume.file_system order volume.data_disk None c.args.image.items
-    (IsWorkReply Catalog (form_of volume.file_system) (files_of volume.file_system)) c.volume_reply.result)
+    (IsWorkReply Catalog (form_of volume.file_system) (files_of volume.file_system) (edits_of volume.file_system)) c.volume_reply.result)
     (c.image_order-order.ensures ∙ ap (λ (job : Job). image_order_of (job_view job)) c.in-Catalog.is) c.volume_reply.ensures)
 
 pub returns-in-Identify : goal.returns-in-Identify

@@ -1,7 +1,7 @@
 use Rattle.std.proofs.Common.{◌≡◌, ◌<◌, ℕ, false}
 use Rattle.vol_format.specs.Directory.{entry_of}
 use Rattle.file_cmds.specs.Files.{is_named}
-use Rattle.file_cmds.proofs.find.find.Given as goal
+use Rattle.file_cmds.proofs.finding.find.Given as goal
 
 abbrev pub invariant-loop-file : goal.invariant-loop-file
 invariant-loop-file g l =

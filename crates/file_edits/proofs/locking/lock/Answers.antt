@@ -1,0 +1,32 @@
+use Rattle.std.specs.Prelude.{true}
+use Rattle.file_edits.specs.Edited.{IsLockEdit}
+use Rattle.file_edits.specs.Lists.{with_lock_on}
+use Rattle.file_edits.proofs.Changed.{done_changed, stopped_changed}
+use Rattle.file_edits.proofs.Locked.{lock_is_one_change}
+use Rattle.file_edits.proofs.locking.lock.Goals as goal
+
+pub returns-clause-files : goal.returns-clause-files
+returns-clause-files g c = λ honest.
+    let format = c.args.format.now in
+    let meaning = g.F.Format.meaning format in
+    let files = g.F.FileFormat.files format in
+    let edits = g.F.EditableFormat.edits format in
+    let path = c.args.path.now in
+    let old = g.D.Device.state c.args.device.now in
+    done_changed meaning (with_lock_on files edits path true) (IsLockEdit meaning files edits old.store path true) old (g.D.Device.state c.relock.new.device)
+    (lock_is_one_change meaning (g.met.F.Format.readable format) (g.met.F.WritableFormat.movable format) (g.met.F.WritableFormat.writable format)
+    files edits (g.met.F.EditableFormat.lockable format) path true old (g.met.D.Device.whole c.args.device.now honest) c.requires.unit)
+    c.relock.result honest c.relock.ensures.edited
+
+pub returns-clause-stopped : goal.returns-clause-stopped
+returns-clause-stopped g c = λ honest is.
+    let format = c.args.format.now in
+    let meaning = g.F.Format.meaning format in
+    let files = g.F.FileFormat.files format in
+    let edits = g.F.EditableFormat.edits format in
+    let path = c.args.path.now in
+    let old = g.D.Device.state c.args.device.now in
+    stopped_changed meaning (with_lock_on files edits path true) (IsLockEdit meaning files edits old.store path true) old (g.D.Device.state c.relock.new.device)
+    (lock_is_one_change meaning (g.met.F.Format.readable format) (g.met.F.WritableFormat.movable format) (g.met.F.WritableFormat.writable format)
+    files edits (g.met.F.EditableFormat.lockable format) path true old (g.met.D.Device.whole c.args.device.now honest) c.requires.unit)
+    c.relock.result honest c.relock.ensures.edited is

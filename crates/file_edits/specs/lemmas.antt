@@ -1,0 +1,2 @@
+pub mod DosLocking
+pub mod ProLocking

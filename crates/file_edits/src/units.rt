@@ -1,0 +1,40 @@
+// Units of the device that are read and written.
+ghost use Rattle.std.specs.Prelude.{◌≡◌, ◌<◌, length, OnOk, IsErr, IsTrue, Err, is_err};
+ghost use Rattle.a2_device.specs.Device.{IsSameDevice, OnlyReads, faults_after, unit_at, written};
+ghost use Rattle.file_edits.specs.Writes.{RefusesWrite};
+
+use crate::EditError;
+use a2_device::Device;
+
+// Reads a unit.
+pub(crate) fn read_unit<D: Device>(
+    device: &mut D,
+    place: u32,
+    unit: &mut [u8],
+) -> Result<(), EditError>
+    requires place { place < (D.state device.old).places }
+    requires unit { length unit.old ≡ (D.state device.old).unit_size }
+    ensures device { OnlyReads (is_err result) (D.state device.old) (D.state device.new) }
+    ensures error { IsErr result → result ≡ Err EditError.Device }
+    ensures read { IsTrue (D.state device.old).honest → OnOk result (unit.new ≡ unit_at (D.state device.old).store place) }
+{
+    device.read(place, unit).map_err(|_| EditError::Device)
+}
+
+// Writes a unit.
+pub(crate) fn write_unit<D: Device>(
+    device: &mut D,
+    place: u32,
+    unit: &[u8],
+) -> Result<(), EditError>
+    requires place { place < (D.state device.old).places }
+    requires unit { length unit.now ≡ (D.state device.old).unit_size }
+    ensures device { IsSameDevice (D.state device.old) (D.state device.new) }
+    ensures faults { (D.state device.new).faults ≡ faults_after result (D.state device.old).faults }
+    ensures error { IsErr result → result ≡ Err EditError.Device }
+    ensures written { IsTrue (D.state device.old).honest → OnOk result (D.state device.new ≡ written place unit.now (D.state device.old)) }
+    ensures refused { IsTrue (D.state device.old).honest → IsErr result
+        → RefusesWrite (record { place = place; unit = unit.now }) (D.state device.old) (D.state device.new) }
+{
+    device.write(place, unit).map_err(|_| EditError::Device)
+}

@@ -1,0 +1,4 @@
+pub mod Rewritten
+pub mod Slots
+pub mod Filled
+pub mod Plan

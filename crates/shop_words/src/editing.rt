@@ -1,0 +1,35 @@
+//! The words of the commands that change a file.
+ghost use Rattle.std.specs.Prelude.{◌≡◌, IfOk, option_map};
+ghost use Rattle.clap.specs.Matches.{found_of};
+ghost use Rattle.clap.specs.Walk.{first_of, rows_of};
+ghost use Rattle.shop_words.specs.Job.{edit_by, job_view};
+
+use crate::job::{Edit, Job};
+use crate::reading::{said, text_said, volume_in};
+use clap::ArgMatches;
+use std::alloc::{AllocError, Global};
+
+/// The job of a command that changes a file so.
+pub fn edit_in(
+    alloc: Global,
+    matches: &ArgMatches<'_>,
+    edit: Edit,
+) -> Result<Option<Job>, AllocError>
+    ensures { IfOk result (λ job. option_map job_view job
+        ≡ edit_by edit (λ name. first_of name (rows_of (found_of matches.now)))) }
+{
+    let (Some(image), Some(name)) = (said(matches, "image"), said(matches, "name")) else {
+        return Ok(None);
+    };
+    let (Some(volume), Some(out)) = (volume_in(matches), said(matches, "out")) else {
+        return Ok(None);
+    };
+    Ok(Some(Job::Edit {
+        image: image.to_string(alloc)?,
+        name: name.to_string(alloc)?,
+        volume,
+        edit,
+        out: out.to_string(alloc)?,
+        reserve: text_said(alloc, matches, "reserve")?,
+    }))
+}
