@@ -7,7 +7,8 @@ use Rattle.vol_files.specs.Files.{File}
 use Rattle.file_edits.specs.declared.error.EditError.{EditError}
 use Rattle.file_edits.specs.declared.error.EditError.TheVariants.{Device}
 use Rattle.file_edits.specs.Edited.{HasChanged, IsOldOrChanged}
-use Rattle.file_edits.specs.Writes.{Write, HasEdited, StopsIn, RefusesWrite, device_after, no_write}
+use Rattle.delete_laws.specs.Writes.{Write}
+use Rattle.file_edits.specs.Writes.{HasEdited, StopsIn, RefusesWrite, device_after, no_write}
 
 -- a read that failed leaves the store, and a write that was refused leaves the old unit or the new one
 pub read_keeps : (old new : DeviceState) → IsTrue old.honest → OnlyReads true old new → new.store ≡ old.store

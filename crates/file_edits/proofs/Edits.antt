@@ -5,7 +5,8 @@ use Rattle.a2_device.specs.Device.{DeviceState, IsSameDevice, OnlyReads, counted
 use Rattle.file_edits.specs.declared.error.EditError.{EditError}
 use Rattle.file_edits.specs.declared.error.EditError.TheVariants.{Device}
 use Rattle.file_edits.specs.Refusal.{told_device}
-use Rattle.file_edits.specs.Writes.{Write, HasEdited, StopsIn, RefusesWrite, device_after}
+use Rattle.delete_laws.specs.Writes.{Write}
+use Rattle.file_edits.specs.Writes.{HasEdited, StopsIn, RefusesWrite, device_after}
 
 module _ {T : Type 0} (result : Result T EditError) (old new : DeviceState) where
   -- an edit after reads that all came

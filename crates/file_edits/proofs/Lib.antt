@@ -4,3 +4,9 @@ pub mod FirstNamed
 pub mod RewrittenFile
 pub mod Locked
 pub mod EntryWrites
+pub mod Making
+pub mod MadeDeletion
+pub mod DosErased
+pub mod Nearest
+pub mod ReleasedUnits
+pub mod WholeDelete

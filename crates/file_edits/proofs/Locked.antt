@@ -11,7 +11,7 @@ use Rattle.file_cmds.specs.Files.{FileMeaning, IsFirstNamed}
 use Rattle.file_edits.specs.Edits.{EditMeaning, IsLockable, lock_written}
 use Rattle.file_edits.specs.Edited.{IsLockEdit, HasChanged}
 use Rattle.file_edits.specs.Lists.{with_lock_on}
-use Rattle.file_edits.specs.Writes.{Write}
+use Rattle.delete_laws.specs.Writes.{Write}
 use Rattle.file_edits.proofs.Changed.{IsOneChange}
 use Rattle.file_edits.proofs.RewrittenFile.{first_is_file, first_inside, rewrite_changes}
 

@@ -8,7 +8,7 @@ use Rattle.vol_format.specs.Meaning.{Meaning}
 use Rattle.vol_format.specs.Standing.{IsLost}
 use Rattle.file_cmds.specs.Files.{FileMeaning, IsFirstNamed, NamesNone}
 use Rattle.file_edits.specs.Edits.{EditMeaning}
-use Rattle.file_edits.specs.Writes.{Write}
+use Rattle.delete_laws.specs.Writes.{Write}
 
 -- The one write that locks or unlocks the first file that a path names, of an accepted volume: into the entry of that file.
 pub record IsLockEdit (format : Meaning) (files : FileMeaning) (edits : EditMeaning) (store : List (List ℕ)) (path : List ℕ) (on : Bool) (writes : List Write) : Type 0 where

@@ -1,8 +1,13 @@
 pub mod Refusal
 pub mod Writes
+pub mod Prepared
 pub mod Edits
 pub mod Lists
 pub mod Edited
+pub mod Deleted
+pub mod Erasing
+pub mod Releases
 pub mod DosEdits
+pub mod DosErasing
 pub mod ProEdits
 pub mod lemmas

@@ -23,3 +23,9 @@ IsLockRefusal NotFound = Unit {0}
 IsLockRefusal Device = Unit {0}
 IsLockRefusal Memory = Unit {0}
 IsLockRefusal error = ⊥
+
+-- why a write is not prepared
+abbrev pub IsPrepareRefusal : EditError → Type 0
+IsPrepareRefusal Device = Unit {0}
+IsPrepareRefusal Memory = Unit {0}
+IsPrepareRefusal error = ⊥

@@ -1,23 +1,15 @@
 -- The writes of an edit, and what they leave of a device.
-use Rattle.std.specs.Prelude.{◌≡◌, ◌≢◌, ◌⊎◌, ◌<◌, ℕ, true, List, [], ◌∷◌, length, take, slice_index_or, slice_set, if◌then◌else◌, Result, Err, IsTrue, OnOk}
+use Rattle.std.specs.Prelude.{◌≡◌, ◌≢◌, ◌⊎◌, ◌<◌, ℕ, true, List, [], ◌∷◌, length, take, slice_index_or, if◌then◌else◌, Result, Err, IsTrue, OnOk}
 use Rattle.a2_device.specs.Device.{DeviceState, IsSameDevice, OnlyReads, FailsWrite, counted, last_count, written}
 use Rattle.file_edits.specs.declared.error.EditError.{EditError}
 use Rattle.file_edits.specs.declared.error.EditError.TheVariants.{Device}
+use Rattle.delete_laws.specs.Writes.{Write}
 use Rattle.file_edits.specs.Refusal.{told_device}
-
--- a unit, and the place that it is for
-pub record Write : Type 0 where
-  pub place : ℕ
-  pub unit : List ℕ
 
 abbrev pub no_write : Write
 no_write = record { place = 0; unit = [] }
 
--- a store, and a device, once these writes stand, each made in turn
-abbrev pub store_after : List Write → List (List ℕ) → List (List ℕ)
-store_after [] store = store
-store_after (write ∷ writes) store = store_after writes (slice_set store write.place write.unit)
-
+-- a device once these writes stand, each made in turn
 abbrev pub device_after : List Write → DeviceState → DeviceState
 device_after [] device = device
 device_after (write ∷ writes) device = device_after writes (written write.place write.unit device)

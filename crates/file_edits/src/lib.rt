@@ -5,15 +5,28 @@
 //! list stands, and the files are those of before or those of after (`specs/Edited.antt`). What the commands ask of a format beside its
 //! parts and its names is the trait `EditableFormat`; its model is the record `EditMeaning` (`specs/Edits.antt`); DOS 3.3 and ProDOS
 //! have it (`specs/DosEdits.antt`, `specs/ProEdits.antt`). What an edit does to the list of files is a function on that list (`specs/Lists.antt`).
+//!
+//! What deleting a file is made of stands here too, without the command: units that are prepared and then written one after another (`writes`), the units of
+//! the map in which places are marked free, each once and in rising order (`releasing`, `specs/Releases.antt`), the write that erases an entry in DOS 3.3
+//! (`specs/Erasing.antt`, `specs/DosErasing.antt`), and laws that these together delete the file (`deletion`, `specs/Deleted.antt`).
 #![tactic(auto)]
 
+mod deletion;
 mod dos;
 mod error;
 mod format;
 mod locking;
 mod pro;
+mod releasing;
 mod units;
+mod writes;
 
+pub use deletion::{
+    a_deletion_made_takes_out_one_file, a_dos_entry_is_erased_by_one_write,
+    an_erased_entry_and_released_places_are_a_deletion,
+};
 pub use error::EditError;
 pub use format::EditableFormat;
 pub use locking::{lock, unlock};
+pub use releasing::{next_unit, release_all, release_unit};
+pub use writes::{Prepared, write_all};

@@ -6,7 +6,8 @@ ghost use Rattle.a2_device.specs.Device.{unit_at};
 ghost use Rattle.file_edits.specs.Edited.{IsLockEdit, HasNoSuchFile, HasChanged, IsOldOrChanged};
 ghost use Rattle.file_edits.specs.Lists.{with_lock_on};
 ghost use Rattle.file_edits.specs.Refusal.{IsLockRefusal};
-ghost use Rattle.file_edits.specs.Writes.{HasEdited, Write};
+ghost use Rattle.delete_laws.specs.Writes.{Write};
+ghost use Rattle.file_edits.specs.Writes.{HasEdited};
 
 use crate::units::{read_unit, write_unit};
 use crate::{EditError, EditableFormat};

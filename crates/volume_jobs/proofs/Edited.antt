@@ -8,7 +8,8 @@ use Rattle.file_cmds.specs.Files.{FileMeaning}
 use Rattle.file_edits.specs.Edited.{HasChanged, HasNoSuchFile}
 use Rattle.file_edits.specs.Edits.{EditMeaning}
 use Rattle.file_edits.specs.Refusal.{IsLockRefusal}
-use Rattle.file_edits.specs.Writes.{HasEdited, RefusesWrite, StopsIn, Write, device_after, no_write}
+use Rattle.delete_laws.specs.Writes.{Write}
+use Rattle.file_edits.specs.Writes.{HasEdited, RefusesWrite, StopsIn, device_after, no_write}
 use Rattle.file_edits.specs.declared.error.EditError.{EditError}
 use Rattle.file_edits.specs.declared.error.EditError.TheVariants as refused
 use Rattle.shop_words.specs.declared.job.Edit.{Edit}

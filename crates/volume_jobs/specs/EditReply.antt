@@ -9,7 +9,8 @@ use Rattle.file_cmds.specs.Files.{FileMeaning}
 use Rattle.file_edits.specs.Edited.{HasChanged, HasNoSuchFile, IsLockEdit}
 use Rattle.file_edits.specs.Edits.{EditMeaning}
 use Rattle.file_edits.specs.Lists.{with_lock_on}
-use Rattle.file_edits.specs.Writes.{Write, device_after}
+use Rattle.delete_laws.specs.Writes.{Write}
+use Rattle.file_edits.specs.Writes.{device_after}
 use Rattle.shop_words.specs.declared.job.Edit.{Edit}
 use Rattle.shop_words.specs.declared.job.Edit.TheVariants as words
 use Rattle.job_reply.specs.declared.reply.Refusal.TheVariants as refusals

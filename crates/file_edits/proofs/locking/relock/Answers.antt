@@ -4,7 +4,8 @@ use Rattle.vol_check.specs.Told.{volume_of}
 use Rattle.vol_format.specs.Directory.{Listed, entry_of}
 use Rattle.file_cmds.specs.Files.{IsFirstNamed}
 use Rattle.file_edits.specs.Edited.{IsLockEdit}
-use Rattle.file_edits.specs.Writes.{Write, HasEdited}
+use Rattle.delete_laws.specs.Writes.{Write}
+use Rattle.file_edits.specs.Writes.{HasEdited}
 use Rattle.file_edits.proofs.Edits.{edited_after, edited_as}
 use Rattle.file_edits.proofs.locking.relock.Goals as goal
 

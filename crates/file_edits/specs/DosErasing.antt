@@ -1,0 +1,13 @@
+-- The one write that erases an entry of a DOS 3.3 catalog (Beneath Apple DOS, chapter 4).
+use Rattle.std.specs.Prelude.{ℕ, List, [], ◌∷◌}
+use Rattle.vol_format.specs.Directory.{Directory}
+use Rattle.dos_catalog.specs.Writes.{erased}
+use Rattle.dos_entries.specs.Rewriting.{place_of_entry, slot_of_entry, sector_of_entry}
+use Rattle.delete_laws.specs.Writes.{Write}
+
+-- its track goes into the last byte of its name, and FF comes in its place
+abbrev pub dos_erasing : Directory → ℕ → List (List ℕ) → List Write
+dos_erasing directory file store = record {
+  place = place_of_entry directory file;
+  unit = erased (slot_of_entry directory file) (sector_of_entry directory store file);
+} ∷ []
