@@ -21,7 +21,7 @@ use Rattle.entry_laws.specs.Inserted.{inserted, shifted_entry}
 use Rattle.dos_entries.specs.Slots.{IsUsedSlot, number_of_slot}
 use Rattle.dos_entries.specs.Rewriting.{sector_of_entry, entry_erased}
 use Rattle.dos_entries.specs.Erasing.{HasErased}
-use Rattle.dos_entries.proofs.Filling.{insert_here, length-insert_at}
+use Rattle.entry_laws.proofs.Inserting.{insert_here, length-insert_at}
 use Rattle.dos_entries.proofs.OneMore.{IsFilled, number_within, directory_more}
 use Rattle.dos_entries.proofs.SlotWrites.{empties, says_of, on_catalog, below_last, sector_written}
 use Rattle.dos_entries.proofs.Windows.{IsSameOutside}

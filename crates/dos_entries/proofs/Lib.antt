@@ -3,7 +3,6 @@ pub mod Windows
 pub mod Places
 pub mod Rewritten
 pub mod Rewrites
-pub mod Filling
 pub mod OneMore
 pub mod SlotWrites
 pub mod Entered

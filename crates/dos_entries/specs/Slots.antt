@@ -8,6 +8,7 @@ use Rattle.dos_catalog.specs.Entry.{entry_at, is_in_use, entries_of}
 use Rattle.dos_catalog.specs.Writes.{slot_offset, with_bytes, entry_bytes}
 use Rattle.vol_format.specs.declared.link.Link.TheVariants.{To}
 use Rattle.vol_format.specs.Directory.{Listed}
+use Rattle.entry_laws.specs.Inserted.{index_in_all}
 
 -- a slot of a catalog sector, which has an entry in use, or none
 pub record IsUsedSlot (store : List (List ℕ)) (sectors : List ℕ) (place slot : ℕ) : Type 0 where
@@ -19,11 +20,6 @@ pub record IsFreeSlot (store : List (List ℕ)) (sectors : List ℕ) (place slot
   pub of_catalog : Contains sectors place
   pub below : slot < 7
   pub unused : is_in_use (entry_at place (unit_at store place) slot) ≡ false
-
--- where an element stands in the lists of some places, one after another, that is number k of the list of one of them
-abbrev pub index_in_all : {X : Type 0} → (ℕ → List X) → List ℕ → ℕ → ℕ → ℕ
-index_in_all f [] place k = 0
-index_in_all f (first ∷ rest) place k = if first == place then k else (length (f first) + index_in_all f rest place k)
 
 -- The number of the entry in a slot, among the entries in use of these sectors: how many of them stand before it.
 abbrev pub number_of_slot : List (List ℕ) → List ℕ → ℕ → ℕ → ℕ

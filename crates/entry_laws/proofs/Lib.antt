@@ -1,4 +1,5 @@
 pub mod Inserting
+pub mod Filling
 pub mod Filtered
 pub mod Parts
 pub mod Renumbered

@@ -1,5 +1,5 @@
 -- A directory with one entry more, after which the files from there on have numbers one higher; or with one entry rewritten.
-use Rattle.std.specs.Prelude.{ℕ, ◌+◌, not, length, suc, zero, nat_lt, if◌then◌else◌, List, [], ◌∷◌, map, filter, take, slice_set}
+use Rattle.std.specs.Prelude.{ℕ, ◌+◌, ◌==◌, not, length, suc, zero, nat_lt, if◌then◌else◌, List, [], ◌∷◌, map, filter, take, slice_set}
 use Rattle.vol_parts.specs.declared.part.Part.{Part}
 use Rattle.vol_format.specs.declared.link.Link.{Link}
 use Rattle.vol_format.specs.declared.link.Link.TheVariants.{Null, Wild, Directory as ToDirectory, OtherType, To}
@@ -51,3 +51,8 @@ rewritten directory file path bytes =
 -- how many of the entries before an index are files'
 abbrev pub files_before : Directory → ℕ → ℕ
 files_before directory at = length (filter (λ (entry : Listed). not (is_directory entry)) (take at directory.listed))
+
+-- where an element stands in the lists of some places, one after another, that is number k of the list of one of them
+abbrev pub index_in_all : {X : Type 0} → (ℕ → List X) → List ℕ → ℕ → ℕ → ℕ
+index_in_all f [] place k = 0
+index_in_all f (first ∷ rest) place k = if first == place then k else (length (f first) + index_in_all f rest place k)

@@ -9,7 +9,7 @@ use Rattle.pro_format.specs.lemmas.ProTree.{AreDistinct, distinct_left, distinct
 use Rattle.entry_laws.specs.Inserted.{insert_at}
 use Rattle.pro_entries.specs.Filled.{IsAlike, IsFilled, IsNoKey, filled_entry, HasOneLess}
 use Rattle.pro_entries.specs.Slots.{IsNoHeader}
-use Rattle.pro_entries.proofs.Filling.{insert_left, insert_right}
+use Rattle.entry_laws.proofs.Filling.{insert_left, insert_right}
 use Rattle.pro_entries.proofs.Alike.{directory_kept, own_kept, key_inside, entries_kept, lists_kept}
 use Rattle.pro_entries.proofs.FilledBlocks.{in_own_or_later, directory_filled, x_file}
 

@@ -20,7 +20,7 @@ use Rattle.pro_entries.specs.Slots.{HasOneEntryLess}
 use Rattle.pro_entries.proofs.EmptiedDirectories.{HasProLeft, pro_emptied}
 use Rattle.pro_entries.proofs.EntryNumbers.{entry_is, number_inside}
 use Rattle.pro_entries.proofs.EntrySlots.{HasSlot, each_slot_of}
-use Rattle.pro_entries.proofs.Inserting.{insert_here, length-insert_at}
+use Rattle.entry_laws.proofs.Inserting.{insert_here, length-insert_at}
 use Rattle.pro_entries.proofs.Owners.{no_header_of_volume, no_key_of_entries}
 use Rattle.pro_entries.proofs.RewrittenEntries.{file_listed}
 use Rattle.pro_entries.proofs.SlotLaws.{insert_had, slot_below, slot_inside}

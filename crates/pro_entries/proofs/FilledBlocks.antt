@@ -10,10 +10,11 @@ use Rattle.pro_dir.specs.Entry.{entry_at, entries_of, entries_in, is_listed, is_
 use Rattle.pro_format.specs.Pro.{no_slot}
 use Rattle.pro_format.specs.lemmas.ProTree.{AreDistinct}
 use Rattle.entry_laws.specs.Inserted.{insert_at}
-use Rattle.pro_entries.specs.Filled.{index_in_all, IsFilled, filled_entry}
+use Rattle.pro_entries.specs.Filled.{IsFilled, filled_entry}
+use Rattle.entry_laws.specs.Inserted.{index_in_all}
 use Rattle.pro_entries.specs.Slots.{IsNoHeader}
 use Rattle.pro_entries.proofs.Alike.{entries_elsewhere}
-use Rattle.pro_entries.proofs.Filling.{filter_filled, flat_filled, index_within, length-filter_take}
+use Rattle.entry_laws.proofs.Filling.{filter_filled, flat_filled, index_within, length-filter_take}
 
 -- a block of the one list or of the other
 pub in_own_or_later : (place : ℕ) (own later : List ℕ) → Contains (own ++ later) place → Contains own place ⊎ Contains later place
@@ -81,8 +82,7 @@ module _ (less more : List (List ℕ)) (place slot : ℕ) (filled : IsFilled les
   pub directory_filled : (key : ℕ) (own : List ℕ) → IsNoHeader place slot key → AreDistinct own → Contains own place → OneMoreIn key own
   directory_filled key own no_header once has = record {
     at = index_in_all (λ p. entries_of key p (unit_at less p)) own place (before key);
-    within = index_within (λ p. entries_of key p (unit_at less p)) (λ p. entries_of key p (unit_at more p)) place (before key) (x key)
-        (before_within key) (block_filled key no_header) (entries_elsewhere less more place slot filled.alike key) own has;
+    within = index_within (λ p. entries_of key p (unit_at less p)) place (before key) (before_within key) own has;
     is = flat_filled (λ p. entries_of key p (unit_at less p)) (λ p. entries_of key p (unit_at more p)) place (before key) (x key)
         (before_within key) (block_filled key no_header) (entries_elsewhere less more place slot filled.alike key) own once has;
   }

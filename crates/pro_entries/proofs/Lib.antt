@@ -1,14 +1,11 @@
 pub mod Bytes
 pub mod EntryBytes
-pub mod Changed
 pub mod Spelled
 pub mod RewrittenEntries
 pub mod Names
 pub mod AccessBits
 pub mod Rewrites
 pub mod FileFree
-pub mod Inserting
-pub mod Filling
 pub mod Alike
 pub mod FilledBlocks
 pub mod FilledTrees

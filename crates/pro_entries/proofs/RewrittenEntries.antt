@@ -19,7 +19,7 @@ use Rattle.pro_format.specs.lemmas.ProMarks.{map_block, units-same}
 use Rattle.pro_format.specs.lemmas.ProTree.{AreApart}
 use Rattle.entry_laws.specs.Inserted.{rewritten}
 use Rattle.pro_entries.specs.Rewritten.{IsRewritten}
-use Rattle.pro_entries.proofs.Changed.{IsChanged, describes_changed}
+use Rattle.pro_format.specs.lemmas.ProChanged.{IsKept, describes_changed}
 use Rattle.pro_entries.proofs.Spelled.{spelled, with_bytes_of, spelled-here, spelled-other, spelled_keeps, paths_spelled, block_changed, block_unchanged}
 
 -- what is no directory for the volume has no subdirectory's storage type
@@ -148,9 +148,9 @@ module _ (reserved : List Bool) (store : List (List ℕ)) (directory : Directory
   still_file : (storage_of bytes == 13) ≡ false
   still_file = ap (λ s. s == 13) storage ∙ is_file
 
-  block_kept : (block : ℕ) → IsChanged (spelled entry.place entry.slot bytes) store after block
+  block_kept : (block : ℕ) → IsKept (spelled entry.place entry.slot bytes) store after block
   block_kept block = elim (cases_eq block entry.place) [
-    | inl same ↦ subst (IsChanged (spelled entry.place entry.slot bytes) store after) (sym same) (record {
+    | inl same ↦ subst (IsKept (spelled entry.place entry.slot bytes) store after) (sym same) (record {
       next = ap (λ u. word u 2) there ∙ rewrite.next;
       kind = ap (λ u. slice_index u 0x04 / 16) there ∙ rewrite.kind;
       entry_size = ap (λ u. slice_index u 0x23) there ∙ rewrite.entry_size;

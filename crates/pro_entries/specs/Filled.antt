@@ -11,11 +11,6 @@ use Rattle.vol_format.specs.Directory.{Listed}
 use Rattle.entry_laws.specs.Inserted.{insert_at}
 use Rattle.pro_entries.specs.Slots.{IsNoHeader}
 
--- where an element stands in the lists of some places, one after another, that is number k of the list of one of them
-abbrev pub index_in_all : {X : Type 0} → (ℕ → List X) → List ℕ → ℕ → ℕ → ℕ
-index_in_all f [] place k = 0
-index_in_all f (first ∷ rest) place k = if first == place then k else (length (f first) + index_in_all f rest place k)
-
 -- Two stores that differ in one slot of one directory block alone.
 pub record IsAlike (old new : List (List ℕ)) (place slot : ℕ) : Type 0 where
   pub size : length new ≡ length old

@@ -1,4 +1,4 @@
--- A tree of directories in a store where some entries were changed, and no link, no header and no subdirectory's entry.
+-- A tree of directories in a store where some entries were changed, and no link, no type of a header and no subdirectory's entry.
 use Rattle.std.specs.Prelude.{◌≡◌, ℕ, ◌/◌, Bool, true, false, List, [], ◌∷◌, ◌++◌, length, map, slice_index, Contains}
 use Rattle.std.proofs.Common.{refl, sym, ◌∙◌, ap, arith, subst}
 use Rattle.std.proofs.lemmas.List.{map-append}
@@ -11,10 +11,10 @@ use Rattle.pro_dir.specs.Tree.{Leads, IsRun, IsDirectory, HasBlocks, Lists, IsTr
 use Rattle.pro_dir.specs.Volume.{Directory as Tree, Describes, map_blocks, total_blocks}
 use Rattle.pro_format.specs.lemmas.ProDescribed.{volume_inside}
 
--- a block of the directories has its link and the fields of a header, and changed entries
+-- a block of the directories has its link, the type and the sizes of a header, and changed entries
 pub record IsKept (change : Entry → Entry) (store new : List (List ℕ)) (block : ℕ) : Type 0 where
   pub next : next_of (unit_at new block) ≡ next_of (unit_at store block)
-  pub kind : slice_index (unit_at new block) 0x04 ≡ slice_index (unit_at store block) 0x04
+  pub kind : slice_index (unit_at new block) 0x04 / 16 ≡ slice_index (unit_at store block) 0x04 / 16
   pub entry_size : slice_index (unit_at new block) 0x23 ≡ slice_index (unit_at store block) 0x23
   pub entry_count : slice_index (unit_at new block) 0x24 ≡ slice_index (unit_at store block) 0x24
   pub entries : (key : ℕ) → entries_of key block (unit_at new block) ≡ map change (entries_of key block (unit_at store block))
@@ -65,7 +65,7 @@ module _ (change : Entry → Entry) (keeps : KeepsDirectories change) (store new
       let at = kept key (key_among key own among is.run) in
       record {
         run = run_changed key own among is.run;
-        kind_is = ap (λ b. b / 16) at.kind ∙ is.kind_is;
+        kind_is = at.kind ∙ is.kind_is;
         sizes = (at.entry_size ∙ is.sizes.0, at.entry_count ∙ is.sizes.1);
       }
 
@@ -138,7 +138,7 @@ describes_changed change keeps store new tree size kept same_header described =
     let at = kept 2 (volume_inside store tree.blocks tree.entries described.tree) in
     record {
       geometry = record {
-        kind_is = ap (λ b. b / 16) at.kind ∙ described.geometry.kind_is;
+        kind_is = at.kind ∙ described.geometry.kind_is;
         sizes = (at.entry_size ∙ described.geometry.sizes.0, at.entry_count ∙ described.geometry.sizes.1);
         total = ap total_blocks same_header ∙ described.geometry.total ∙ sym size;
       };

@@ -47,7 +47,7 @@ describes_same store new tree size same described =
     (describes_changed (λ e. e) (record { same_kind = λ e. refl; same = λ e is. refl }) store new tree size
     (λ block has. let at = same block has in record {
       next = ap (λ u. slice_index u 2 + 256 * slice_index u 3) at;
-      kind = ap (λ u. slice_index u 0x04) at;
+      kind = ap (λ u. slice_index u 0x04 / 16) at;
       entry_size = ap (λ u. slice_index u 0x23) at;
       entry_count = ap (λ u. slice_index u 0x24) at;
       entries = λ key. ap (entries_of key block) at ∙ sym (map-id (entries_of key block (unit_at store block)));

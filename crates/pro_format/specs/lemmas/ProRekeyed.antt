@@ -1,5 +1,5 @@
 -- The entries of a store where one key pointer was written.
-use Rattle.std.specs.Prelude.{◌≡◌, ◌≢◌, ◌<◌, ℕ, ◌+◌, ◌*◌, ◌==◌, not, ◌&&◌, if◌then◌else◌, suc, Bool, true, false, List, [], ◌∷◌, length, map, filter, slice_index, slice_set, All}
+use Rattle.std.specs.Prelude.{◌≡◌, ◌≢◌, ◌<◌, ℕ, ◌+◌, ◌*◌, ◌/◌, ◌==◌, not, ◌&&◌, if◌then◌else◌, suc, Bool, true, false, List, [], ◌∷◌, length, map, filter, slice_index, slice_set, All}
 use Rattle.std.specs.List.{range_with_len}
 use Rattle.std.proofs.Common.{refl, sym, ◌∙◌, ap, arith, subst, inl, inr, cond}
 use Rattle.std.proofs.lemmas.Bool.{cases_eq}
@@ -116,7 +116,7 @@ module _ (place slot to : ℕ) where
     | inl same ↦ subst (IsKept (rekeyed place slot to) store after) (sym same) (record {
       next = ap (λ b. b + 256 * slice_index (unit_at after place) 3) (byte 2 (λ e. omega (arith, e)) (λ e. omega (arith, e)))
           ∙ ap (λ b. slice_index (unit_at store place) 2 + 256 * b) (byte 3 (λ e. omega (arith, e)) (λ e. omega (arith, e)));
-      kind = byte 0x04 (λ e. omega (arith, e)) (λ e. omega (arith, e));
+      kind = ap (λ b. b / 16) (byte 0x04 (λ e. omega (arith, e)) (λ e. omega (arith, e)));
       entry_size = byte 0x23 (λ e. omega (arith, e)) (λ e. omega (arith, e));
       entry_count = byte 0x24 (λ e. omega (arith, e)) (λ e. omega (arith, e));
       entries = λ key. ap (entries_of key place) there ∙ block_changed key (unit_at store place) file;
@@ -124,7 +124,7 @@ module _ (place slot to : ℕ) where
     | inr differ ↦
         let at = get_or-set_other store place block (pro_with_root (unit_at store place) slot to) [] differ in record {
           next = ap (λ u. slice_index u 2 + 256 * slice_index u 3) at;
-          kind = ap (λ u. slice_index u 0x04) at;
+          kind = ap (λ u. slice_index u 0x04 / 16) at;
           entry_size = ap (λ u. slice_index u 0x23) at;
           entry_count = ap (λ u. slice_index u 0x24) at;
           entries = λ key. ap (entries_of key block) at ∙ block_unchanged key block (unit_at store block) differ;

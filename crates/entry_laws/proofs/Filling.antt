@@ -1,11 +1,10 @@
 -- Lists that get one element more where a slot is filled.
-use Rattle.std.specs.Prelude.{◌≡◌, ◌≢◌, ◌<◌, ◌≤◌, ℕ, ◌+◌, ◌==◌, suc, zero, if◌then◌else◌, Bool, true, false, List, [], ◌∷◌, ◌++◌, length, map, take, filter, flat_map, AllPairs, Contains}
+use Rattle.std.specs.Prelude.{◌≡◌, ◌≢◌, ◌<◌, ◌≤◌, ℕ, ◌+◌, ◌==◌, suc, zero, if◌then◌else◌, Bool, true, false, List, [], ◌∷◌, ◌++◌, length, take, filter, flat_map, AllPairs, Contains}
 use Rattle.std.proofs.Common.{refl, sym, ◌∙◌, ap, subst, arith, get_or, cond, length-append, ⊎_elim}
 use Rattle.std.proofs.lemmas.Bool.Decides.{nat_tests}
 use Rattle.std.proofs.lemmas.List.{ext_get_or}
 use Rattle.vol_layout.proofs.Lists.{Contains-cases}
-use Rattle.entry_laws.specs.Inserted.{insert_at}
-use Rattle.pro_entries.specs.Filled.{index_in_all}
+use Rattle.entry_laws.specs.Inserted.{index_in_all, insert_at}
 
 pub insert_left : {X : Type 0} (i : ℕ) (x : X) (xs ys : List X) → i ≤ length xs → insert_at i x xs ++ ys ≡ insert_at i x (xs ++ ys)
 insert_left zero x xs ys within = refl
@@ -17,11 +16,6 @@ insert_right i x [] ys = let same : i ≡ 0 + i = omega arith in ap (λ n. inser
 insert_right i x (first ∷ xs) ys =
     let same : suc (length xs + i) ≡ suc (length xs) + i = omega arith in
     ap (λ l. first ∷ l) (insert_right i x xs ys) ∙ ap (λ n. insert_at n x (first ∷ (xs ++ ys))) same
-
-pub map-insert_at : {X Y : Type 0} (f : X → Y) (i : ℕ) (x : X) (xs : List X) → map f (insert_at i x xs) ≡ insert_at i (f x) (map f xs)
-map-insert_at f zero x xs = refl
-map-insert_at f (suc i) x [] = refl
-map-insert_at f (suc i) x (first ∷ xs) = ap (λ l. f first ∷ l) (map-insert_at f i x xs)
 
 pub length-filter_take : {X : Type 0} (p : X → Bool) (k : ℕ) (xs : List X) → length (filter p (take k xs)) ≤ length (filter p xs)
 length-filter_take p zero xs = omega arith
@@ -55,7 +49,7 @@ filter_filled p (suc k) d (x ∷ xs) (y ∷ ys) size inside same out in' =
 -- the lists of some places, one of which got one element more
 module _ {X : Type 0} (f g : ℕ → List X) (place k : ℕ) (x : X) (within : k ≤ length (f place)) (here : g place ≡ insert_at k x (f place))
     (others : (other : ℕ) → other ≢ place → g other ≡ f other) where
-  pub flat_kept : (places : List ℕ) → (Contains places place → ⊥) → flat_map g places ≡ flat_map f places
+  flat_kept : (places : List ℕ) → (Contains places place → ⊥) → flat_map g places ≡ flat_map f places
   flat_kept [] none = refl
   flat_kept (first ∷ rest) none =
       ap (λ l. l ++ flat_map g rest) (others first (λ same. none (0, omega arith, same)))
@@ -67,7 +61,7 @@ module _ {X : Type 0} (f g : ℕ → List X) (place k : ℕ) (x : X) (within : k
   flat_filled (first ∷ rest) once has = by_test (first == place) refl (flat_filled rest (λ i j d less inside. once (suc i) (suc j) d (omega (arith, less)) (omega (arith, inside))))
     where
       by_test : (b : Bool) → (first == place) ≡ b → (Contains rest place → flat_map g rest ≡ insert_at (index_in_all f rest place k) x (flat_map f rest))
-          → g first ++ flat_map g rest ≡ insert_at (if b then k else length (f first) + index_in_all f rest place k) x (f first ++ flat_map f rest)
+          → g first ++ flat_map g rest ≡ insert_at (if b then k else (length (f first) + index_in_all f rest place k)) x (f first ++ flat_map f rest)
       by_test true is later =
           let same : first ≡ place = grind (arith, nat_tests, is) in
           ap (λ l. g first ++ l) (flat_kept rest (λ more. once 0 (suc more.0) place (omega arith) (omega (arith, more.1)) (same ∙ sym more.2)))
@@ -79,17 +73,18 @@ module _ {X : Type 0} (f g : ℕ → List X) (place k : ℕ) (x : X) (within : k
           ∙ ap (λ l. f first ++ l) (later (⊎_elim (λ same. absurd (differ same)) (λ more. more) (Contains-cases first rest place has)))
           ∙ insert_right (index_in_all f rest place k) x (f first) (flat_map f rest)
 
-  pub index_within : (places : List ℕ) → Contains places place → index_in_all f places place k ≤ length (flat_map f places)
-  index_within [] has = absurd (omega (arith, has.1))
-  index_within (first ∷ rest) has = by_test (first == place) refl (index_within rest)
-    where
-      by_test : (b : Bool) → (first == place) ≡ b → (Contains rest place → index_in_all f rest place k ≤ length (flat_map f rest))
-          → (if b then k else length (f first) + index_in_all f rest place k) ≤ length (f first ++ flat_map f rest)
-      by_test true is later =
-          let same : first ≡ place = grind (arith, nat_tests, is) in
-          let size : length (f first) ≡ length (f place) = ap (λ n. length (f n)) same in
-          omega (arith, within, size, length-append (f first) (flat_map f rest))
-      by_test false is later =
-          let differ : first ≢ place = grind (arith, nat_tests, is) in
-          let more = later (⊎_elim (λ same. absurd (differ same)) (λ more. more) (Contains-cases first rest place has)) in
-          omega (arith, more, length-append (f first) (flat_map f rest))
+-- an element that would be one more of the list of one of some places would stand among the elements of them all
+pub index_within : {X : Type 0} (f : ℕ → List X) (place k : ℕ) → k ≤ length (f place) → (places : List ℕ) → Contains places place → index_in_all f places place k ≤ length (flat_map f places)
+index_within f place k within [] has = absurd (omega (arith, has.1))
+index_within f place k within (first ∷ rest) has = by_test (first == place) refl (index_within f place k within rest)
+  where
+    by_test : (b : Bool) → (first == place) ≡ b → (Contains rest place → index_in_all f rest place k ≤ length (flat_map f rest))
+        → (if b then k else (length (f first) + index_in_all f rest place k)) ≤ length (f first ++ flat_map f rest)
+    by_test true is later =
+        let same : first ≡ place = grind (arith, nat_tests, is) in
+        let size : length (f first) ≡ length (f place) = ap (λ n. length (f n)) same in
+        omega (arith, within, size, length-append (f first) (flat_map f rest))
+    by_test false is later =
+        let differ : first ≢ place = grind (arith, nat_tests, is) in
+        let more = later (⊎_elim (λ same. absurd (differ same)) (λ more. more) (Contains-cases first rest place has)) in
+        omega (arith, more, length-append (f first) (flat_map f rest))
