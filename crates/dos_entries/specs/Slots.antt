@@ -1,5 +1,5 @@
 -- A slot of the catalog, and what a new entry there says (Beneath Apple DOS, chapter 4).
-use Rattle.std.specs.Prelude.{◌≡◌, ◌<◌, ℕ, ◌+◌, ◌==◌, ◌/◌, ◌%◌, if◌then◌else◌, true, false, List, ◌∷◌, ◌++◌, [], length, take, map, filter, slice_set, Contains}
+use Rattle.std.specs.Prelude.{◌≡◌, ◌<◌, ℕ, ◌/◌, ◌%◌, true, false, List, ◌∷◌, ◌++◌, [], length, take, map, filter, slice_set, Contains}
 use Rattle.std.specs.List.{range_with_len}
 use Rattle.a2_device.specs.Device.{unit_at}
 use Rattle.vol_parts.specs.declared.part.PartKind.TheVariants.{List as AList}

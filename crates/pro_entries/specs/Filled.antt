@@ -1,5 +1,5 @@
 -- Two stores that differ in one slot of a directory block, or in the count of files of one header.
-use Rattle.std.specs.Prelude.{◌≡◌, ◌≢◌, ◌⊎◌, ◌<◌, ◌≤◌, ℕ, ◌+◌, ◌==◌, if◌then◌else◌, true, false, List, [], ◌∷◌, length, slice_index, slice_index_or, All, Contains}
+use Rattle.std.specs.Prelude.{◌≡◌, ◌≢◌, ◌⊎◌, ◌<◌, ◌≤◌, ℕ, ◌==◌, true, false, List, length, slice_index, slice_index_or, All, Contains}
 use Rattle.a2_device.specs.Device.{unit_at}
 use Rattle.pro_dir.specs.declared.entry.Entry.{Entry}
 use Rattle.pro_dir.specs.Entry.{entry_at, slot_bytes, storage_of, name_of, is_directory, key_of}

@@ -1,11 +1,7 @@
 -- The bits of a block of the map put to 0: what the bit of one of these places was makes no difference.
 use Rattle.std.specs.Prelude.{◌≡◌, ◌≢◌, ◌<◌, ◌⊎◌, ℕ, ◌-◌, ◌%◌, true, false, Bool, List, [], ◌∷◌, length, slice_index, slice_set, Contains, bit_and}
-use Rattle.std.specs.Int.{bit_at}
-use Rattle.std.proofs.Common.{refl, sym, ◌∙◌, ap, arith, subst, inl, inr, min, max, ◌^◌, w8}
+use Rattle.std.proofs.Common.{refl, sym, ◌∙◌, ap, arith, subst, inl, inr, ◌^◌}
 use Rattle.std.proofs.lemmas.Bool.{cases_eq}
-use Rattle.std.proofs.lemmas.List.{ext_get_or, length-set, get_or-set_same, get_or-set_other}
-use Rattle.std.proofs.lemmas.Nat.{pow_below}
-use Rattle.std.proofs.lemmas.Nat.Bits.{bit_at_and, bit_at_or, bit_at_not, bit_at-pow_same, bit_at-pow_other, bit_at-lt, same_from_bits}
 use Rattle.vol_layout.proofs.Lists.{Contains-cases}
 use Rattle.vol_format.proofs.Bits.{with_byte, twice, either_first, cleared, put, cleared-put, cleared-either_first}
 use Rattle.pro_format.specs.Pro.{bit_byte, with_bit, pro_with_free, bits_cleared}
