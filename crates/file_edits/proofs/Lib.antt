@@ -10,3 +10,6 @@ pub mod DosErased
 pub mod Nearest
 pub mod ReleasedUnits
 pub mod WholeDelete
+pub mod NameWrites
+pub mod NamedEntries
+pub mod Renamed

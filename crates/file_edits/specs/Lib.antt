@@ -10,4 +10,8 @@ pub mod Releases
 pub mod DosEdits
 pub mod DosErasing
 pub mod ProEdits
+pub mod Names
+pub mod DosNames
+pub mod ProNames
+pub mod Renamed
 pub mod lemmas

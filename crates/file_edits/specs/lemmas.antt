@@ -1,2 +1,4 @@
 pub mod DosLocking
 pub mod ProLocking
+pub mod DosNaming
+pub mod ProNaming

@@ -2,8 +2,10 @@
 ghost use Rattle.std.specs.Prelude.{◌≡◌};
 ghost use Rattle.file_edits.specs.DosEdits.{dos_locked};
 
-use crate::EditableFormat;
-use dos_catalog::set_kind;
+use crate::dos_naming::{dos_name, has_name, is_dos_name, is_locked};
+use crate::{EditError, EditableFormat};
+use a2_device::Device;
+use dos_catalog::{set_kind, set_name};
 use dos_format::{Dos33, DosVolume};
 use std::alloc::Allocator;
 
@@ -23,7 +25,9 @@ fn locked_kind(kind: u8, on: bool) -> u8
 impl<A: Allocator + Copy> EditableFormat for Dos33<A> {
     ghost use Rattle.dos_entries.specs.lemmas.FileFree.{dos_is_file_free};
     ghost use Rattle.file_edits.specs.DosEdits.{dos_edits};
+    ghost use Rattle.file_edits.specs.DosNames.{dos_names};
     ghost use Rattle.file_edits.specs.lemmas.DosLocking.{dos_is_lockable};
+    ghost use Rattle.file_edits.specs.lemmas.DosNaming.{dos_is_namable};
 
     ghost edits = { λ f. dos_edits };
 
@@ -35,4 +39,32 @@ impl<A: Allocator + Copy> EditableFormat for Dos33<A> {
     ghost file_free = { λ f. dos_is_file_free f.data_disk f.reserved };
 
     ghost lockable = { λ f. dos_is_lockable f.data_disk f.reserved };
+
+    ghost names = { λ f. dos_names };
+
+    fn may_have(&self, name: &[u8]) -> bool {
+        is_dos_name(name)
+    }
+
+    fn has_beside<D: Device, B: Allocator + Copy>(
+        &self,
+        _: B,
+        _: &mut D,
+        volume: &DosVolume<A>,
+        _: u32,
+        name: &[u8],
+    ) -> Result<bool, EditError> {
+        Ok(has_name(volume.catalog().entries(), &dos_name(name)))
+    }
+
+    fn keeps_name(&self, volume: &DosVolume<A>, file: u32) -> bool {
+        is_locked(&volume.catalog().entries()[file as usize])
+    }
+
+    fn put_name(&self, volume: &DosVolume<A>, file: u32, unit: &mut [u8], name: &[u8]) {
+        let entry = &volume.catalog().entries()[file as usize];
+        set_name(unit, entry.slot, &dos_name(name));
+    }
+
+    ghost namable = { λ f. dos_is_namable f.data_disk f.reserved };
 }

@@ -1,13 +1,20 @@
 // The trait of formats whose files can be changed.
+use crate::EditError;
+use a2_device::Device;
 use file_cmds::FileFormat;
+use std::alloc::Allocator;
 use vol_format::WritableFormat;
 
 /// A format of volumes whose entries can be changed one by one.
 pub trait EditableFormat: WritableFormat + FileFormat {
-    ghost use Rattle.std.specs.Prelude.{◌≡◌, ◌<◌, true, length};
+    ghost use Rattle.std.specs.Prelude.{◌≡◌, ◌<◌, true, length, IfErr, IsTrue};
+    ghost use Rattle.a2_device.specs.Device.{OnlyReads};
     ghost use Rattle.vol_format.specs.Directory.{entries, entry_of};
     ghost use Rattle.entry_laws.specs.EditLaws.{IsFileFree};
     ghost use Rattle.file_edits.specs.Edits.{EditMeaning, IsLockable};
+    ghost use Rattle.file_edits.specs.Names.{NameMeaning, IsNamable};
+    ghost use Rattle.file_edits.specs.Refusal.{told_device};
+    ghost use Rattle.file_edits.specs.Renamed.{IsAnswer, IsReadRefusal};
 
     ghost edits: { Self → EditMeaning };
 
@@ -18,7 +25,51 @@ pub trait EditableFormat: WritableFormat + FileFormat {
         requires unit { length unit.old ≡ (Self.meaning self.now).unit_size }
         ensures { unit.new ≡ (edits self.now).with_lock on (entry_of (Self.directory self.now volume.now) file) unit.old };
 
+    // names
+
+    ghost names: { Self → NameMeaning };
+
+    /// Whether a file may get a name.
+    fn may_have(&self, name: &[u8]) -> bool
+        ensures { result ≡ (names self.now).may_have name.now };
+
+    /// Whether an entry of the directory in which an entry stands has a name, which a file may get.
+    ///
+    /// # Errors
+    /// `Device` where a read fails; `Memory`; `Check` where a device tells of directories that are none.
+    fn has_beside<D: Device, A: Allocator + Copy>(
+        &self,
+        alloc: A,
+        device: &mut D,
+        volume: &Self::Volume,
+        file: u32,
+        name: &[u8],
+    ) -> Result<bool, EditError>
+        requires unit { (D.state device.old).unit_size ≡ (Self.meaning self.now).unit_size }
+        requires places { (Self.meaning self.now).Takes (D.state device.old).places }
+        requires file { file < entries (Self.directory self.now volume.now) }
+        requires name { (names self.now).may_have name.now ≡ true }
+        ensures device { OnlyReads (told_device result) (D.state device.old) (D.state device.new) }
+        ensures refused { IfErr result IsReadRefusal }
+        ensures told { IsTrue (D.state device.old).honest → (Self.meaning self.now).Describes (D.state device.old).store (Self.directory self.now volume.now)
+            → IsAnswer ((names self.now).HasBeside (D.state device.old).store (Self.directory self.now volume.now) file name.now) result };
+
+    /// Whether an entry keeps its name.
+    fn keeps_name(&self, volume: &Self::Volume, file: u32) -> bool
+        requires { file < entries (Self.directory self.now volume.now) }
+        ensures { result ≡ (names self.now).keeps (entry_of (Self.directory self.now volume.now) file).bytes };
+
+    /// Writes a name, which a file may get, into the unit of a directory for the entry that stands there.
+    fn put_name(&self, volume: &Self::Volume, file: u32, unit: &mut [u8], name: &[u8])
+        requires file { file < entries (Self.directory self.now volume.now) }
+        requires slot { (Self.meaning self.now).HasSlot true (entry_of (Self.directory self.now volume.now) file).slot }
+        requires unit { length unit.old ≡ (Self.meaning self.now).unit_size }
+        requires name { (names self.now).may_have name.now ≡ true }
+        ensures { unit.new ≡ (names self.now).with_name name.now (entry_of (Self.directory self.now volume.now) file) unit.old };
+
     ghost file_free: { (format : Self) → IsFileFree (Self.meaning format) };
 
     ghost lockable: { (format : Self) → IsLockable (Self.meaning format) (edits format) };
+
+    ghost namable: { (format : Self) → IsNamable (Self.meaning format) (names format) };
 }

@@ -6,6 +6,9 @@
 //! parts and its names is the trait `EditableFormat`; its model is the record `EditMeaning` (`specs/Edits.antt`); DOS 3.3 and ProDOS
 //! have it (`specs/DosEdits.antt`, `specs/ProEdits.antt`). What an edit does to the list of files is a function on that list (`specs/Lists.antt`).
 //!
+//! Which names a file may get, whether an entry of its directory has one, and how it is stored, is the record `NameMeaning`
+//! (`specs/Names.antt`, `specs/DosNames.antt`, `specs/ProNames.antt`); what renaming leaves and why it is refused, `specs/Renamed.antt`.
+//!
 //! What deleting a file is made of stands here too, without the command: units that are prepared and then written one after another (`writes`), the units of
 //! the map in which places are marked free, each once and in rising order (`releasing`, `specs/Releases.antt`), the write that erases an entry in DOS 3.3
 //! (`specs/Erasing.antt`, `specs/DosErasing.antt`), and laws that these together delete the file (`deletion`, `specs/Deleted.antt`).
@@ -13,10 +16,13 @@
 
 mod deletion;
 mod dos;
+mod dos_naming;
 mod error;
 mod format;
 mod locking;
+mod naming;
 mod pro;
+mod pro_naming;
 mod releasing;
 mod units;
 mod writes;
@@ -28,5 +34,6 @@ pub use deletion::{
 pub use error::EditError;
 pub use format::EditableFormat;
 pub use locking::{lock, unlock};
+pub use naming::rename;
 pub use releasing::{next_unit, release_all, release_unit};
 pub use writes::{Prepared, write_all};

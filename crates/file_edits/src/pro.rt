@@ -2,9 +2,11 @@
 ghost use Rattle.std.specs.Prelude.{◌≡◌};
 ghost use Rattle.file_edits.specs.ProEdits.{pro_locked};
 
-use crate::EditableFormat;
+use crate::pro_naming::{has_name_beside, is_pro_name, pro_name, refusal};
+use crate::{EditError, EditableFormat};
+use a2_device::Device;
 use bitflags::Flags;
-use pro_dir::{Access, set_access};
+use pro_dir::{Access, VolumeDir, set_access, set_name};
 use pro_format::{ProVolume, Prodos};
 use std::alloc::Allocator;
 
@@ -22,7 +24,9 @@ fn locked_access(access: Access, on: bool) -> u8
 impl<A: Allocator + Copy> EditableFormat for Prodos<A> {
     ghost use Rattle.pro_entries.proofs.FileFree.{pro_is_file_free};
     ghost use Rattle.file_edits.specs.ProEdits.{pro_edits};
+    ghost use Rattle.file_edits.specs.ProNames.{pro_names};
     ghost use Rattle.file_edits.specs.lemmas.ProLocking.{pro_is_lockable};
+    ghost use Rattle.file_edits.specs.lemmas.ProNaming.{pro_is_namable};
 
     ghost edits = { λ f. pro_edits };
 
@@ -34,4 +38,37 @@ impl<A: Allocator + Copy> EditableFormat for Prodos<A> {
     ghost file_free = { λ f. pro_is_file_free f };
 
     ghost lockable = { λ f. pro_is_lockable f };
+
+    ghost names = { λ f. pro_names };
+
+    fn may_have(&self, name: &[u8]) -> bool {
+        is_pro_name(name)
+    }
+
+    fn has_beside<D: Device, B: Allocator + Copy>(
+        &self,
+        alloc: B,
+        device: &mut D,
+        _: &ProVolume<A>,
+        file: u32,
+        name: &[u8],
+    ) -> Result<bool, EditError> {
+        let walked = match VolumeDir::walk(alloc, device) {
+            Ok(walked) => walked,
+            Err(error) => return Err(refusal(error)),
+        };
+        Ok(has_name_beside(walked.entries(), file, name))
+    }
+
+    fn keeps_name(&self, volume: &ProVolume<A>, file: u32) -> bool {
+        let entry = &volume.directory().entries()[file as usize];
+        !entry.access().can_rename()
+    }
+
+    fn put_name(&self, volume: &ProVolume<A>, file: u32, unit: &mut [u8], name: &[u8]) {
+        let entry = &volume.directory().entries()[file as usize];
+        set_name(unit, entry.slot, &pro_name(name), name.len() as u8);
+    }
+
+    ghost namable = { λ f. pro_is_namable f };
 }

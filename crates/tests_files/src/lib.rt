@@ -14,6 +14,8 @@ mod locks;
 #[cfg(test)]
 mod prodos_files;
 #[cfg(test)]
+mod renames;
+#[cfg(test)]
 mod runs;
 #[cfg(test)]
 mod whole_files;
