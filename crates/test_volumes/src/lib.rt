@@ -1,10 +1,12 @@
-//! The volumes that tests are run on, made in memory from the formats. No program uses it.
+//! The volumes that tests are run on, made in memory from the formats, and a device of which one call fails after so many
+//! others. No program uses it.
 //!
 //! Each is the bytes of an image: in DOS order, 35 tracks of 16 sectors of 256 bytes; in ProDOS order, blocks of 512
 //! bytes. What is not named is 0.
 #![tactic(auto)]
 
 mod blocks;
+mod late_failure;
 
 ghost use Rattle.std.specs.Prelude.{◌≡◌, ◌+◌, ◌*◌, ◌<◌, ◌≤◌, length, take, drop, slice_range, vec_len, IfOk, IsTrue};
 
@@ -13,6 +15,7 @@ use a2_image::{Image, Order};
 pub use blocks::{
     LARGE_BYTES, block_device, put_in_block, seedlings_far_out, tree, tree_and_subdirectory,
 };
+pub use late_failure::LateFailure;
 use std::alloc::{AllocError, Allocator, Global};
 
 /// The bytes of a disk's image.

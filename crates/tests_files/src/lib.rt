@@ -1,5 +1,5 @@
 //! Tests of the libraries of files: of `file_cmds` and `file_edits` worked volumes of DOS 3.3 and ProDOS with the literal text of their listings
-//! and the literal bytes of their files, each public call on its happy path, refused memory, and failing reads; of
+//! and the literal bytes of their files, each public call on its happy path, refused memory, and each read and write failing in turn; of
 //! `whole_file` files that are replaced in a folder in memory, whose calls fail in turn.
 #![tactic(auto)]
 
@@ -9,6 +9,8 @@ mod dos_listings;
 mod dos_reads;
 #[cfg(test)]
 mod folder;
+#[cfg(test)]
+mod late_failures;
 #[cfg(test)]
 mod locks;
 #[cfg(test)]

@@ -8,6 +8,8 @@ mod agendas;
 #[cfg(test)]
 mod checks;
 #[cfg(test)]
+mod late_failures;
+#[cfg(test)]
 mod memory;
 #[cfg(test)]
 mod openings;
