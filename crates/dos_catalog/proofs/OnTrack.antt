@@ -1,13 +1,15 @@
 -- Entries of one sector more are on the track.
-use Rattle.std.proofs.Common.{◌≡◌, ◌<◌, ◌≤◌, ◌+◌, ◌*◌, ℕ, Bool, List, [], ◌++◌, length, length-append, refl, sym, ◌∙◌, ap, subst, arith, count_by, map, replicate, false}
-use Rattle.std.specs.Prelude.{not, filter}
+use Rattle.std.proofs.Common.{◌≡◌, ◌<◌, ◌≤◌, ◌+◌, ◌*◌, ℕ, Bool, true, false, List, [], ◌∷◌, ◌++◌, cond, length, length-append, refl, sym, subst, arith, count_by, map, replicate}
+use Rattle.std.specs.Prelude.{Option, Some, None, IfSome, find, not, option_map}
+use Rattle.std.specs.Option.{option_or}
 use Rattle.std.specs.List.{All, range_with_len}
-use Rattle.std.proofs.lemmas.List.Elements.{All-filter, All-append}
+use Rattle.std.proofs.lemmas.List.Elements.{All-head, All-tail, All-filter, All-append}
 use Rattle.std.proofs.lemmas.List.Filters.{length-filter_both}
-use Rattle.std.proofs.lemmas.List.FromFn.{length-map-range_with_len, get_or-map-range_with_len}
+use Rattle.std.proofs.lemmas.List.FromFn.{length-range_with_len, get_or-range_with_len, length-map-range_with_len, get_or-map-range_with_len}
 use Rattle.dos_catalog.specs.declared.entry.Entry.{Entry}
 use Rattle.dos_catalog.specs.Entry.{entry_at, is_in_use, entries_of}
-use Rattle.dos_catalog.specs.Found.{AreOnTrack}
+use Rattle.dos_catalog.specs.Found.{IsSlotOnTrack}
+use Rattle.dos_catalog.specs.Walk.{first_free_of}
 
 -- entries so far, of the sectors that are met, each of which has seven slots
 pub record AreSoFar (met : List Bool) (entries : List Entry) : Type 0 where
@@ -40,3 +42,30 @@ so_far met now old new place unit on_track fewer is before = subst (AreSoFar now
 
 pub none_yet : AreSoFar (replicate 16 false) []
 none_yet = record { places = λ k d within. absurd (omega (arith, within)); slots = λ k d within. absurd (omega (arith, within)); few = omega arith }
+
+-- what is found in a list has what all of it have
+found_in : (P : ℕ → Type 0) (p : ℕ → Bool) (xs : List ℕ) → All P xs → IfSome (find p xs) P
+found_in P p [] all = tt
+found_in P p (x ∷ xs) all = by_test (p x) (found_in P p xs (All-tail P x xs all))
+  where
+    by_test : (b : Bool) → IfSome (find p xs) P → IfSome (cond b (Some x) (find p xs)) P
+    by_test true rest = All-head P x xs all
+    by_test false rest = rest
+
+slot_found : (place : ℕ) (found : Option ℕ) → (272 < place) × (place < 288) → IfSome found (λ slot. slot < 7) → IfSome (option_map (λ slot. (place, slot)) found) IsSlotOnTrack
+slot_found place None on_track below = tt
+slot_found place (Some slot) on_track below = (on_track.0, on_track.1, below)
+
+seven : All (λ slot. slot < 7) (range_with_len 0 7)
+seven k d within =
+    let inside : k < 7 = omega (arith, within, length-range_with_len 0 7) in
+    omega (arith, inside, get_or-range_with_len 0 7 k d inside)
+
+-- the first free slot, with one sector more
+pub free_slot_on : (old first : Option (ℕ × ℕ)) (place : ℕ) (unit : List ℕ) → (272 < place) × (place < 288) → first ≡ option_or old (first_free_of place unit)
+    → IfSome old IsSlotOnTrack → IfSome first IsSlotOnTrack
+unfolding first_free_of
+free_slot_on (Some slot) first place unit on_track is before = subst (λ free. IfSome free IsSlotOnTrack) (sym is) before
+free_slot_on None first place unit on_track is before =
+    let is_free : ℕ → Bool = λ slot. not (is_in_use (entry_at place unit slot)) in
+    subst (λ free. IfSome free IsSlotOnTrack) (sym is) (slot_found place (find is_free (range_with_len 0 7)) on_track (found_in (λ slot. slot < 7) is_free (range_with_len 0 7) seven))

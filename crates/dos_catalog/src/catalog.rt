@@ -70,7 +70,7 @@ fn next_sector(unit: &[u8; 256], met: &[bool; 16]) -> Option<u8>
 }
 
 impl<A: Allocator> Catalog<A> {
-    ghost use Rattle.dos_catalog.specs.Found.{AreOnTrack};
+    ghost use Rattle.dos_catalog.specs.Found.{AreOnTrack, IsSlotOnTrack};
     ghost use Rattle.dos_catalog.specs.Listed.{sectors_of_catalog, entries_of_catalog, free_slot_of_catalog};
 
     // Takes one sector with its entries.
@@ -122,6 +122,7 @@ impl<A: Allocator> Catalog<A> {
 
         ensures device { OnlyReads (met_device result) (D.state device.old) (D.state device.new) }
         ensures found { IfOk result (λ catalog. AreOnTrack (entries_of_catalog catalog)) }
+        ensures free_found { IfOk result (λ catalog. IfSome (free_slot_of_catalog catalog) IsSlotOnTrack) }
         ensures listed { IsTrue (D.state device.old).honest → vtoc.now ≡ unit_at (D.state device.old).store 272
             → IfOk result (λ catalog. IsCatalog (D.state device.old).store (sectors_of_catalog catalog)
             × (entries_of_catalog catalog ≡ entries_in (D.state device.old).store (sectors_of_catalog catalog))) }

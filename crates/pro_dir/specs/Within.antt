@@ -1,10 +1,12 @@
 -- What holds of the directories that were walked over, whatever the device tells.
-use Rattle.std.specs.Prelude.{◌≡◌, ◌≢◌, ◌<◌, ◌≤◌, ◌+◌, ℕ, length, All, AllPairs, Contains}
+use Rattle.std.specs.Prelude.{◌≡◌, ◌≢◌, ◌<◌, ◌≤◌, ◌+◌, ℕ, List, Option, IfSome, length, All, AllPairs, Contains}
 use Rattle.pro_dir.specs.declared.entry.Entry.{Entry}
+use Rattle.pro_dir.specs.declared.reading.FreeSlot.{FreeSlot}
 use Rattle.pro_dir.specs.Volume.{Directory, map_blocks, map_first, total_blocks}
 
--- an entry stands in one of the thirteen slots of a block below the places, and has its 39 bytes
+-- an entry stands in one of the thirteen slots of a block below the places, as does its directory's key block, and has its 39 bytes
 pub record IsInSlot (places : ℕ) (entry : Entry) : Type 0 where
+  pub directory : entry.directory < places
   pub place : entry.place < places
   pub slot : entry.slot < 13
   pub bytes : length entry.bytes ≡ 39
@@ -20,3 +22,19 @@ pub record IsWithin (places : ℕ) (directory : Directory) : Type 0 where
   pub few : length directory.entries < 4294967296
   pub map : (place : ℕ) → map_first directory.header ≤ place → place < map_first directory.header + map_blocks places
       → (2 ≤ place) × (place < places) × ¬ Contains directory.blocks place
+
+-- A free slot of the directory with a key block: the number of one of the thirteen slots of a block below the places, but not
+-- that of the directory's header.
+pub record IsFreeWithin (places key : ℕ) (slot : ℕ × ℕ) : Type 0 where
+  pub place : slot.0 < places
+  pub number : slot.1 < 13
+  pub no_header : slot.1 ≡ 0 → slot.0 ≢ key
+
+abbrev pub IsKeptWithin : ℕ → FreeSlot → Type 0
+IsKeptWithin places slot = IsFreeWithin places slot.directory (slot.place, slot.number)
+
+-- what was read of the directory with a key block: its entries, and its first slot without one
+pub record IsReadWithin (places key : ℕ) (inside : List Entry) (slot : Option (ℕ × ℕ)) : Type 0 where
+  pub named : key < places
+  pub entries : All (IsInSlot places) inside
+  pub free : IfSome slot (IsFreeWithin places key)

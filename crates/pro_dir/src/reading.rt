@@ -1,9 +1,9 @@
 // One directory as far as it was read.
-ghost use Rattle.std.specs.Prelude.{◌≡◌, ◌<◌, ◌++◌, [], ℕ, None, All, IfOk, OnOk};
+ghost use Rattle.std.specs.Prelude.{◌≡◌, ◌<◌, ◌++◌, [], ℕ, None, OnOk};
 ghost use Rattle.std.specs.Option.{option_or};
 ghost use Rattle.pro_dir.specs.Entry.{entries_of};
 ghost use Rattle.pro_dir.specs.Walk.{first_free_of};
-ghost use Rattle.pro_dir.specs.Within.{IsInSlot};
+ghost use Rattle.pro_dir.specs.Within.{IsReadWithin};
 
 use crate::entry::{BLOCK_BYTES, ENTRIES, Entry};
 use std::alloc::{AllocError, Allocator, Global};
@@ -74,7 +74,8 @@ impl<A: Allocator> Reading<A> {
         ensures key { self.new.key ≡ self.old.key }
         ensures entries { OnOk result (self.new.entries.items ≡ self.old.entries.items ++ entries_of self.old.key place unit.now) }
         ensures free { OnOk result (self.new.free ≡ option_or self.old.free (first_free_of self.old.key place unit.now)) }
-        ensures within { (places : ℕ) → place < places → All (IsInSlot places) self.old.entries.items → OnOk result (All (IsInSlot places) self.new.entries.items) }
+        ensures within { (places : ℕ) → place < places → IsReadWithin places self.old.key self.old.entries.items self.old.free
+            → OnOk result (IsReadWithin places self.old.key self.new.entries.items self.new.free) }
     {
         take_entries(self.key, place, unit, &mut self.entries)?;
         self.free = self.free.or(first_free(self.key, place, unit));

@@ -10,7 +10,7 @@ ghost use Rattle.pro_dir.specs.declared.reading.Reading.{Reading as AReading};
 ghost use Rattle.pro_dir.specs.Entry.{entries_of, entries_in, free_slots_in, is_directory, key_of};
 ghost use Rattle.pro_dir.specs.Tree.{next_of, CanLink, HasKind, HasSizes, IsDirectory, HasBadLink, SubdirectoryFaultAt, IsCutOff, IsTree, TreeFaultAt};
 ghost use Rattle.pro_dir.specs.Walk.{is_met, first_free_of, kept_slots, IsTable, IsFollowing, IsListing, IsReadOut, IsVolumeKey, work};
-ghost use Rattle.pro_dir.specs.Within.{IsInSlot};
+ghost use Rattle.pro_dir.specs.Within.{IsInSlot, IsKeptWithin, IsReadWithin};
 
 use crate::entry::{BLOCK_BYTES, Entry};
 use crate::reading::{FreeSlot, Reading};
@@ -103,7 +103,8 @@ impl<A: Allocator> Tree<A> {
         ensures key { reading.new.key ≡ reading.old.key }
         ensures inside { OnOk result (reading.new.entries.items ≡ reading.old.entries.items ++ entries_of reading.old.key block unit.now) }
         ensures first { OnOk result (reading.new.free ≡ option_or reading.old.free (first_free_of reading.old.key block unit.now)) }
-        ensures within { (places : ℕ) → block < places → All (IsInSlot places) reading.old.entries.items → OnOk result (All (IsInSlot places) reading.new.entries.items) }
+        ensures within { (places : ℕ) → block < places → IsReadWithin places reading.old.key reading.old.entries.items reading.old.free
+            → OnOk result (IsReadWithin places reading.old.key reading.new.entries.items reading.new.free) }
         ensures same { (self.new.entries ≡ self.old.entries) × (self.new.pending ≡ self.old.pending) × (self.new.free ≡ self.old.free) }
     {
         self.blocks.push(block)?;
@@ -130,7 +131,8 @@ impl<A: Allocator> Tree<A> {
         ensures key { reading.new.key ≡ reading.old.key }
         ensures inside { OnOk result (reading.new.entries.items ≡ reading.old.entries.items ++ entries_of reading.old.key block unit.new) }
         ensures first { OnOk result (reading.new.free ≡ option_or reading.old.free (first_free_of reading.old.key block unit.new)) }
-        ensures within { (places : ℕ) → block < places → All (IsInSlot places) reading.old.entries.items → OnOk result (All (IsInSlot places) reading.new.entries.items) }
+        ensures within { (places : ℕ) → block < places → IsReadWithin places reading.old.key reading.old.entries.items reading.old.free
+            → OnOk result (IsReadWithin places reading.old.key reading.new.entries.items reading.new.free) }
         ensures unit { IsTrue (D.state device.old).honest → OnOk result (unit.new ≡ unit_at (D.state device.old).store block) }
         ensures same { (self.new.entries ≡ self.old.entries) × (self.new.pending ≡ self.old.pending) × (self.new.free ≡ self.old.free) }
     {
@@ -154,7 +156,8 @@ impl<A: Allocator> Tree<A> {
         ensures device { OnlyReads (met_device result) (D.state device.old) (D.state device.new) }
         ensures table { OnOk result (IsTable (D.state device.old).places self.new.met.items self.new.blocks.items) }
         ensures work { OnOk result (work self.new.met.items reading.new.entries.items ≤ work self.old.met.items reading.old.entries.items) }
-        ensures within { All (IsInSlot (D.state device.old).places) reading.old.entries.items → OnOk result (All (IsInSlot (D.state device.old).places) reading.new.entries.items) }
+        ensures within { IsReadWithin (D.state device.old).places reading.old.key reading.old.entries.items reading.old.free
+            → OnOk result (IsReadWithin (D.state device.old).places reading.old.key reading.new.entries.items reading.new.free) }
         ensures key { reading.new.key ≡ reading.old.key }
         ensures found { IsTrue (D.state device.old).honest → (before : List ℕ)
             → IsFollowing (D.state device.old).store reading.old.key before self.old.blocks.items reading.old.entries.items reading.old.free reading.old.key unit.old
@@ -190,7 +193,7 @@ impl<A: Allocator> Tree<A> {
         ensures device { OnlyReads (met_device result) (D.state device.old) (D.state device.new) }
         ensures table { IfOk result (λ reading. IsTable (D.state device.old).places self.new.met.items self.new.blocks.items) }
         ensures work { IfOk result (λ reading. work self.new.met.items reading.entries.items < work self.old.met.items []) }
-        ensures within { IfOk result (λ reading. All (IsInSlot (D.state device.old).places) reading.entries.items) }
+        ensures within { IfOk result (λ reading. IsReadWithin (D.state device.old).places reading.key reading.entries.items reading.free) }
         ensures key { IfOk result (λ reading. reading.key ≡ key_of entry.now) }
         ensures found { IsTrue (D.state device.old).honest → IfOk result (λ reading.
             IsReadOut (D.state device.old).store (key_of entry.now) self.old.blocks.items self.new.blocks.items reading.entries.items reading.free
@@ -258,6 +261,7 @@ impl<A: Allocator> Tree<A> {
         ensures work { OnOk result (work self.new.met.items self.new.pending.items ≤ work self.old.met.items self.old.pending.items) }
         ensures entries { OnOk result (self.new.entries.items ≡ self.old.entries.items ++ entry ∷ []) }
         ensures within { All (IsInSlot (D.state device.old).places) self.old.pending.items → OnOk result (All (IsInSlot (D.state device.old).places) self.new.pending.items) }
+        ensures kept { All (IsKeptWithin (D.state device.old).places) self.old.free.items → OnOk result (All (IsKeptWithin (D.state device.old).places) self.new.free.items) }
         ensures listed { IsTrue (D.state device.old).honest
             → IsListing (D.state device.old).store self.old.blocks.items self.old.entries.items (entry ∷ reverse self.old.pending.items) self.old.free.items
             → OnOk result (IsListing (D.state device.old).store self.new.blocks.items self.new.entries.items (reverse self.new.pending.items) self.new.free.items) }
@@ -285,6 +289,7 @@ impl<A: Allocator> Tree<A> {
         ensures table { OnOk result (IsTable (D.state device.old).places self.new.met.items self.new.blocks.items) }
         ensures within { All (IsInSlot (D.state device.old).places) self.old.entries.items → All (IsInSlot (D.state device.old).places) self.old.pending.items
             → OnOk result (All (IsInSlot (D.state device.old).places) self.new.entries.items) }
+        ensures kept { All (IsKeptWithin (D.state device.old).places) self.old.free.items → OnOk result (All (IsKeptWithin (D.state device.old).places) self.new.free.items) }
         ensures few { OnOk result (length self.new.entries.items ≤ length self.old.entries.items + work self.old.met.items self.old.pending.items) }
         ensures listed { IsTrue (D.state device.old).honest
             → IsListing (D.state device.old).store self.old.blocks.items self.old.entries.items (reverse self.old.pending.items) self.old.free.items
@@ -313,6 +318,7 @@ impl<A: Allocator> Tree<A> {
         ensures device { OnlyReads (met_device result) (D.state device.old) (D.state device.new) }
         ensures table { IfOk result (λ tree. IsTable (D.state device.old).places tree.met.items tree.blocks.items) }
         ensures within { IfOk result (λ tree. All (IsInSlot (D.state device.old).places) tree.entries.items × All (IsInSlot (D.state device.old).places) tree.pending.items) }
+        ensures kept { IfOk result (λ tree. All (IsKeptWithin (D.state device.old).places) tree.free.items) }
         ensures few { IfOk result (λ tree. length tree.entries.items + work tree.met.items tree.pending.items ≤ 14 * (D.state device.old).places) }
         ensures listed { IsTrue (D.state device.old).honest → IsVolumeKey (D.state device.old).store unit.old
             → IfOk result (λ tree. IsListing (D.state device.old).store tree.blocks.items tree.entries.items (reverse tree.pending.items) tree.free.items) }
@@ -344,6 +350,7 @@ impl<A: Allocator> Tree<A> {
         ensures device { OnlyReads (met_device result) (D.state device.old) (D.state device.new) }
         ensures table { IfOk result (λ tree. IsTable (D.state device.old).places tree.met.items tree.blocks.items) }
         ensures within { IfOk result (λ tree. All (IsInSlot (D.state device.old).places) tree.entries.items) }
+        ensures kept { IfOk result (λ tree. All (IsKeptWithin (D.state device.old).places) tree.free.items) }
         ensures few { IfOk result (λ tree. length tree.entries.items ≤ 14 * (D.state device.old).places) }
         ensures listed { IsTrue (D.state device.old).honest → IsVolumeKey (D.state device.old).store unit.old
             → IfOk result (λ tree. IsListing (D.state device.old).store tree.blocks.items tree.entries.items [] tree.free.items) }

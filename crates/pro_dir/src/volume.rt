@@ -1,5 +1,5 @@
 // The header, the directories and the map's pointer of a volume.
-ghost use Rattle.std.specs.Prelude.{◌≡◌, ◌≤◌, ◌<◌, ◌+◌, ◌↔◌, ℕ, List, false, length, slice_get, IfOk, IfErr, IsTrue};
+ghost use Rattle.std.specs.Prelude.{◌≡◌, ◌≤◌, ◌<◌, ◌+◌, ◌↔◌, ℕ, List, false, length, slice_get, IfSome, IfOk, IfErr, IsTrue};
 ghost use Rattle.a2_device.specs.Device.{OnlyReads, unit_at};
 ghost use Rattle.a2_device.specs.Reading.{met_device};
 ghost use Rattle.vol_parts.specs.declared.fault.Fault.{Fault};
@@ -102,7 +102,7 @@ fn has_map<A: Allocator>(tree: &Tree<A>, first: u32, places: u32) -> bool
 
 impl<A: Allocator> VolumeDir<A> {
     ghost use Rattle.pro_dir.specs.Listed.{directory_of, free_slot_of};
-    ghost use Rattle.pro_dir.specs.Within.{IsWithin};
+    ghost use Rattle.pro_dir.specs.Within.{IsFreeWithin, IsWithin};
 
     /// Walks over the directories of a volume.
     ///
@@ -119,6 +119,7 @@ impl<A: Allocator> VolumeDir<A> {
 
         ensures device { OnlyReads (met_device result) (D.state device.old) (D.state device.new) }
         ensures within { IfOk result (λ volume. IsWithin (D.state device.old).places (directory_of volume)) }
+        ensures slots { IfOk result (λ volume. (key : ℕ) → IfSome (free_slot_of volume key) (IsFreeWithin (D.state device.old).places key)) }
         ensures described { IsTrue (D.state device.old).honest → IfOk result (λ volume. Describes (D.state device.old).store (directory_of volume)) }
         ensures free { IsTrue (D.state device.old).honest → IfOk result (λ volume. (key : ℕ) (own : List ℕ) → IsKeyOf (directory_of volume).entries key
             → IsRun (D.state device.old).store key own → free_slot_of volume key ≡ slice_get (free_slots_in (D.state device.old).store key own) 0) }

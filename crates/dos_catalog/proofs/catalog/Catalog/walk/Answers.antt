@@ -8,7 +8,7 @@ use Rattle.dos_catalog.specs.lemmas.Chain.{no_catalog}
 use Rattle.dos_catalog.specs.Walk.{IsTable}
 use Rattle.dos_catalog.proofs.Sectors.{marked, tabled, walked_on, bad_link, free_on}
 use Rattle.a2_device.specs.Reading.{then_reads}
-use Rattle.dos_catalog.proofs.OnTrack.{so_far}
+use Rattle.dos_catalog.proofs.OnTrack.{so_far, free_slot_on}
 use Rattle.dos_catalog.proofs.catalog.Catalog.walk.Goals as goal
 
 pub returns-in_default-clause-refused : goal.returns-in_default-clause-refused
@@ -44,6 +44,7 @@ loop-unit-preserved g c =
       size = length-set now.met c.in-Some.sector true ∙ now.invariant.size;
       found = so_far now.met (set now.met c.in-Some.sector true) now.catalog.entries.items c.read.new.self.entries.items next c.read.new.unit
           (omega (arith, link.0, link.1), omega (arith, link.2)) (marked now.met c.in-Some.sector within link.3) c.in_ok-read.ensures.entries now.invariant.found;
+      free_found = free_slot_on now.catalog.free c.read.new.self.free next c.read.new.unit (omega (arith, link.0, link.1), omega (arith, link.2)) c.in_ok-read.ensures.free now.invariant.free_found;
       table = subst (IsTable (set now.met c.in-Some.sector true)) (sym c.in_ok-read.ensures.sectors)
           (tabled now.met now.catalog.sectors.items c.in-Some.sector within link.3 now.invariant.table);
       walking = λ honest is.

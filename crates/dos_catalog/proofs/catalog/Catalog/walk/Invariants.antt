@@ -1,7 +1,8 @@
 use Rattle.std.proofs.Common.{◌≡◌, false, length, count_by}
-use Rattle.std.specs.Prelude.{IsTrue, not, slice_get}
+use Rattle.std.specs.Prelude.{IfSome, IsTrue, not, slice_get}
 use Rattle.a2_device.specs.Device.{OnlyReads, unit_at}
 use Rattle.dos_catalog.specs.Entry.{free_slots_in}
+use Rattle.dos_catalog.specs.Found.{IsSlotOnTrack}
 use Rattle.dos_catalog.specs.Walk.{IsTable, IsWalking}
 use Rattle.dos_catalog.proofs.OnTrack.{AreSoFar}
 use Rattle.dos_catalog.proofs.catalog.Catalog.walk.Given as goal
@@ -13,6 +14,7 @@ invariant-loop-unit g l =
       device : OnlyReads false start (g.D.Device.state l.device);
       size : length l.met ≡ 16;
       found : AreSoFar l.met l.catalog.entries.items;
+      free_found : IfSome l.catalog.free IsSlotOnTrack;
       table : IsTable l.met l.catalog.sectors.items;
       walking : IsTrue start.honest → l.fn.vtoc ≡ unit_at start.store 272
           → IsWalking start.store l.catalog.sectors.items l.catalog.entries.items l.holder l.unit;

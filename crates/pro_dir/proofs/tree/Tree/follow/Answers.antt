@@ -8,6 +8,7 @@ use Rattle.vol_parts.specs.declared.fault.Fault.TheVariants.{DirLink}
 use Rattle.pro_dir.specs.Entry.{entries_of}
 use Rattle.pro_dir.specs.Tree.{HasBadLink}
 use Rattle.pro_dir.specs.Walk.{first_free_of}
+use Rattle.pro_dir.specs.Within.{IsReadWithin}
 use Rattle.pro_dir.proofs.Table.{tabled_on, work-less}
 use Rattle.pro_dir.proofs.Following.{followed_on, bad_link, read_out}
 use Rattle.pro_dir.proofs.tree.Tree.follow.Goals as goal
@@ -46,7 +47,9 @@ loop-next-preserved g c =
         work-less start.places now.self.met.items c.read.new.self.met.items now.reading.entries.items c.read.new.reading.entries.items c.args.reading.now.key now.next c.read.new.unit
             now.invariant.table.size below new.2 read.met inside,
       );
-      within = λ first. read.within start.places below (now.invariant.within first);
+      within = λ first.
+          let before = subst (λ key. IsReadWithin start.places key now.reading.entries.items now.reading.free) (sym named) (now.invariant.within first) in
+          subst (λ key. IsReadWithin start.places key c.read.new.reading.entries.items c.read.new.reading.free) named (read.within start.places below before);
       key = read.key ∙ named;
       following = λ honest before following.
           let still = subst IsTrue (sym now.invariant.device.same.honest) honest in

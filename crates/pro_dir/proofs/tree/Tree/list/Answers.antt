@@ -4,8 +4,8 @@ use Rattle.pro_dir.specs.declared.entry.Entry.{Entry}
 use Rattle.pro_dir.specs.declared.reading.FreeSlot.{FreeSlot}
 use Rattle.pro_dir.specs.Entry.{is_directory, key_of}
 use Rattle.pro_dir.specs.Walk.{IsReadOut, IsTable, kept_slots}
-use Rattle.pro_dir.specs.Within.{IsInSlot}
-use Rattle.pro_dir.proofs.Within.{waits_within}
+use Rattle.pro_dir.specs.Within.{IsInSlot, IsKeptWithin}
+use Rattle.pro_dir.proofs.Within.{kept_within, waits_within}
 use Rattle.pro_dir.proofs.Listing.{file_listed, directory_listed}
 use Rattle.pro_dir.proofs.tree.Tree.list.Goals as goal
 
@@ -58,4 +58,16 @@ returns-clause-within g c = λ old.
     let opened = c.in_ok-reading.ensures in
     let pending : c.wait.new.self.pending.items ≡ c.args.self.now.pending.items ++ reverse reading.entries.items =
     c.in_ok-wait.ensures.pending ∙ ap (λ (v : Vec Entry _). v.items ++ reverse reading.entries.items) (opened.same.1 ∙ c.in_ok-add.ensures.same.2) in
-    waits_within (g.D.Device.state c.args.device.now).places c.args.self.now.pending.items c.wait.new.self.pending.items reading.entries.items pending old opened.within
+    waits_within (g.D.Device.state c.args.device.now).places c.args.self.now.pending.items c.wait.new.self.pending.items reading.entries.items pending old opened.within.entries
+
+pub returns-then-not-is_directory-clause-kept : goal.returns-then-not-is_directory-clause-kept
+returns-then-not-is_directory-clause-kept g c = λ old.
+    subst (λ (v : Vec FreeSlot _). All (IsKeptWithin (g.D.Device.state c.args.device.now).places) v.items) (sym c.in_ok-add.ensures.same.3) old
+
+pub returns-clause-kept : goal.returns-clause-kept
+returns-clause-kept g c = λ old.
+    let reading = c.in_ok-reading.reading in
+    let opened = c.in_ok-reading.ensures in
+    let free : c.wait.new.self.free.items ≡ c.args.self.now.free.items ++ kept_slots reading.key reading.free =
+    c.in_ok-wait.ensures.free ∙ ap (λ (v : Vec FreeSlot _). v.items ++ kept_slots reading.key reading.free) (opened.same.2 ∙ c.in_ok-add.ensures.same.3) in
+    kept_within (g.D.Device.state c.args.device.now).places reading.key c.args.self.now.free.items c.wait.new.self.free.items reading.free free opened.within.free old

@@ -7,7 +7,7 @@ use Rattle.vol_parts.specs.declared.fault.Fault.{Fault}
 use Rattle.vol_parts.specs.declared.fault.WalkError.TheVariants.{Fault as AFault}
 use Rattle.pro_dir.specs.Tree.{IsCutOff}
 use Rattle.pro_dir.specs.Walk.{IsTable, IsListing}
-use Rattle.pro_dir.specs.Within.{IsInSlot}
+use Rattle.pro_dir.specs.Within.{IsInSlot, IsKeptWithin}
 use Rattle.pro_dir.proofs.Within.{last_within, listed_within, one_listed}
 use Rattle.pro_dir.proofs.Listing.{next_listed}
 use Rattle.pro_dir.proofs.Following.{refused_so}
@@ -30,6 +30,9 @@ loop-entry-preserved g c =
             listed_within start.places now.entries.items c.list.new.self.entries.items c.in-Some.entry next.entries old.0 split.1,
             subst (λ n. All (IsInSlot n) c.list.new.self.pending.items) before.device.same.places more,
           );
+      kept = λ first.
+          let old = subst (λ n. All (IsKeptWithin n) now.free.items) (sym before.device.same.places) (before.kept first) in
+          subst (λ n. All (IsKeptWithin n) c.list.new.self.free.items) before.device.same.places (next.kept old);
       few = omega (
         arith,
         before.few,

@@ -1,7 +1,6 @@
 use Rattle.std.proofs.Common.{◌≡◌, ◌<◌, List, ℕ, refl, sym, ◌∙◌, ap, subst, arith, length, inr}
-use Rattle.std.specs.Prelude.{All, IsTrue}
+use Rattle.std.specs.Prelude.{IsTrue}
 use Rattle.a2_device.specs.Reading.{then_reads}
-use Rattle.std.proofs.lemmas.List.Elements.{All-nil}
 use Rattle.std.proofs.lemmas.Result.{err_from_is_err_and}
 use Rattle.a2_device.specs.Device.{DeviceState, unit_at}
 use Rattle.vol_parts.specs.declared.fault.Fault.{Fault}
@@ -9,8 +8,9 @@ use Rattle.vol_parts.specs.declared.fault.WalkError.TheVariants.{Fault as AFault
 use Rattle.pro_dir.specs.Entry.{key_of}
 use Rattle.pro_dir.specs.Tree.{CanLink, HasBadLink, HasKind, HasSizes, SubdirectoryFaultAt}
 use Rattle.pro_dir.specs.Walk.{IsTable, IsFollowing, IsReadOut}
-use Rattle.pro_dir.specs.Within.{IsInSlot}
+use Rattle.pro_dir.specs.Within.{IsReadWithin}
 use Rattle.pro_dir.proofs.Table.{tabled_on, work-less}
+use Rattle.pro_dir.proofs.Within.{none_read}
 use Rattle.pro_dir.proofs.Following.{opened, refused_so}
 use Rattle.pro_dir.proofs.tree.Tree.open.Goals as goal
 use Rattle.pro_dir.proofs.tree.Tree.open.Goals.{Else-not-has_sizes}
@@ -102,9 +102,12 @@ pub returns-clause-within : goal.returns-clause-within
 returns-clause-within g c =
     let start = g.D.Device.state c.args.device.now in
     let read = c.in_ok-read.ensures in
+    let follow = c.in_ok-follow.ensures in
+    let fresh = c.new-reading.ensures in
     let new = c.if-not-is_new.ensures.0 refl in
     let below : c.key-key.result < start.places = omega (arith, new.1, c.places.ensures) in
-    let none : All (IsInSlot start.places) c.new-reading.result.entries.items =
-    subst (All (IsInSlot start.places)) (sym c.new-reading.ensures.entries) (All-nil (IsInSlot start.places)) in
-    subst (λ n. All (IsInSlot n) c.follow.new.reading.entries.items) read.device.same.places
-    (c.in_ok-follow.ensures.within (subst (λ n. All (IsInSlot n) c.read.new.reading.entries.items) (sym read.device.same.places) (read.within start.places below none)))
+    let none = none_read start.places c.new-reading.result.key c.new-reading.result.entries.items c.new-reading.result.free (omega (arith, below, fresh.key)) fresh.entries fresh.free in
+    let first = subst (λ key. IsReadWithin start.places key c.read.new.reading.entries.items c.read.new.reading.free) (sym read.key) (read.within start.places below none) in
+    let rest = follow.within (subst (λ n. IsReadWithin n c.read.new.reading.key c.read.new.reading.entries.items c.read.new.reading.free) (sym read.device.same.places) first) in
+    subst (λ n. IsReadWithin n c.follow.new.reading.key c.follow.new.reading.entries.items c.follow.new.reading.free) read.device.same.places
+    (subst (λ key. IsReadWithin (g.D.Device.state c.read.new.device).places key c.follow.new.reading.entries.items c.follow.new.reading.free) (sym follow.key) rest)

@@ -1,5 +1,5 @@
 use Rattle.std.proofs.Common.{◌≡◌, ◌++◌, ◌+◌, ◌*◌, ◌≤◌, Bool, List, [], ℕ, refl, sym, ◌∙◌, ap, subst, arith, Vec, length, replicate, false}
-use Rattle.std.specs.Prelude.{All}
+use Rattle.std.specs.Prelude.{All, IfSome}
 use Rattle.std.proofs.lemmas.List.Elements.{All-nil}
 use Rattle.a2_device.specs.Device.{unit_at}
 use Rattle.vol_parts.specs.declared.fault.Fault.{Fault}
@@ -9,8 +9,8 @@ use Rattle.pro_dir.specs.declared.entry.Entry.{Entry}
 use Rattle.pro_dir.specs.declared.reading.FreeSlot.{FreeSlot}
 use Rattle.pro_dir.specs.Tree.{HasBadLink, HasKind, HasSizes}
 use Rattle.pro_dir.specs.Walk.{IsReadOut, kept_slots, work}
-use Rattle.pro_dir.specs.Within.{IsInSlot}
-use Rattle.pro_dir.proofs.Within.{first_work, waits_within}
+use Rattle.pro_dir.specs.Within.{IsFreeWithin, IsInSlot, IsKeptWithin, IsReadWithin}
+use Rattle.pro_dir.proofs.Within.{first_work, kept_within, none_read, waits_within}
 use Rattle.pro_dir.proofs.Table.{tabled_none, tabled_on, unmet_none}
 use Rattle.pro_dir.proofs.Following.{volume_opened, refused_so}
 use Rattle.pro_dir.proofs.Listing.{volume_listed}
@@ -78,7 +78,10 @@ returns-clause-within g c =
     let entries : new.entries.items ≡ [] =
     ap (λ (v : Vec Entry _). v.items) wait.same.2 ∙ ap (λ (v : Vec Entry _). v.items) follow.same.0 ∙ ap (λ (v : Vec Entry _). v.items) take.same.0 ∙ lists.1 in
     let pending : c.follow.new.self.pending.items ≡ [] = ap (λ (v : Vec Entry _). v.items) follow.same.1 ∙ ap (λ (v : Vec Entry _). v.items) take.same.1 ∙ lists.2 in
-    let inside = follow.within (take.within places c.requires.places (subst (All (IsInSlot places)) (sym c.new-reading.ensures.entries) none)) in (
+    let fresh = c.new-reading.ensures in
+    let none_yet = none_read places c.new-reading.result.key c.new-reading.result.entries.items c.new-reading.result.free (omega (arith, c.requires.places, fresh.key)) fresh.entries fresh.free in
+    let first = subst (λ key. IsReadWithin places key c.take.new.reading.entries.items c.take.new.reading.free) (sym take.key) (take.within places c.requires.places none_yet) in
+    let inside = (follow.within first).entries in (
       subst (All (IsInSlot places)) (sym entries) none,
       waits_within places c.follow.new.self.pending.items new.pending.items c.follow.new.reading.entries.items wait.pending (subst (All (IsInSlot places)) (sym pending) none) inside,
     )
@@ -100,3 +103,18 @@ returns-clause-few g c =
     subst (λ ms. length new.entries.items + work ms new.pending.items ≤ 14 * places) (sym marks)
     (first_work places tree.met.items c.take.new.self.met.items c.follow.new.self.met.items c.new-reading.result.entries.items c.take.new.reading.entries.items c.follow.new.reading.entries.items
     c.follow.new.self.pending.items new.pending.items new.entries.items c.new-reading.result.key c.args.unit.now met c.requires.places c.new-reading.ensures.entries take.met take.inside follow.work pending wait.pending entries)
+
+pub returns-clause-kept : goal.returns-clause-kept
+returns-clause-kept g c =
+    let places = (g.D.Device.state c.args.device.now).places in
+    let reading = c.follow.new.reading in
+    let lists = c.in_ok-tree.ensures.lists in
+    let take = c.in_ok-take.ensures in
+    let follow = c.in_ok-follow.ensures in
+    let free : c.follow.new.self.free.items ≡ [] = ap (λ (v : Vec FreeSlot _). v.items) follow.same.2 ∙ ap (λ (v : Vec FreeSlot _). v.items) take.same.2 ∙ lists.3 in
+    let fresh = c.new-reading.ensures in
+    let none_yet = none_read places c.new-reading.result.key c.new-reading.result.entries.items c.new-reading.result.free (omega (arith, c.requires.places, fresh.key)) fresh.entries fresh.free in
+    let first = subst (λ key. IsReadWithin places key c.take.new.reading.entries.items c.take.new.reading.free) (sym take.key) (take.within places c.requires.places none_yet) in
+    let slot = subst (λ key. IfSome reading.free (IsFreeWithin places key)) (sym follow.key) (follow.within first).free in
+    kept_within places reading.key c.follow.new.self.free.items c.wait.new.self.free.items reading.free c.in_ok-wait.ensures.free slot
+    (subst (All (IsKeptWithin places)) (sym free) (All-nil (IsKeptWithin places)))

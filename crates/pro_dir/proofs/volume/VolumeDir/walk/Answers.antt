@@ -11,10 +11,10 @@ use Rattle.pro_dir.specs.Tree.{TreeFaultAt}
 use Rattle.pro_dir.specs.Volume.{Directory, Describes, VolumeFaultAt}
 use Rattle.pro_dir.specs.lemmas.VolumeLaws.{no_directory}
 use Rattle.pro_dir.specs.Walk.{IsListing, IsTable, IsVolumeKey}
-use Rattle.pro_dir.specs.Within.{IsInSlot, IsWithin}
+use Rattle.pro_dir.specs.Within.{IsInSlot, IsKeptWithin, IsWithin}
 use Rattle.pro_dir.proofs.Described.{volume_key, has_geometry, no_geometry, bad_map, described}
 use Rattle.pro_dir.proofs.Following.{refused_so}
-use Rattle.pro_dir.proofs.Within.{volume_within}
+use Rattle.pro_dir.proofs.Within.{kept_for_within, volume_within}
 use Rattle.pro_dir.proofs.volume.VolumeDir.walk.Goals as goal
 
 pub returns-in_err-tree-clause-refused : goal.returns-in_err-tree-clause-refused
@@ -126,3 +126,8 @@ returns-clause-within g c =
     (volume_within c.places-places.result c.bitmap.result c.of-header.result.bytes tree.met.items tree.blocks.items tree.entries.items c.of-header.ensures.size has.2
     (c.if-not-has_geometry.ensures.low refl) (subst (λ n. IsTable n tree.met.items tree.blocks.items) back told.table) (subst (λ n. All (IsInSlot n) tree.entries.items) back told.within)
     (subst (λ n. length tree.entries.items ≤ 14 * n) back told.few) c.bitmap.ensures.value (c.if-not-has_map.ensures.0 refl))
+
+pub returns-clause-slots : goal.returns-clause-slots
+returns-clause-slots g c =
+    let tree = c.in_ok-tree.tree in
+    kept_for_within (g.D.Device.state c.args.device.now).places tree.free.items (subst (λ n. All (IsKeptWithin n) tree.free.items) c.read.ensures.device.same.places c.in_ok-tree.ensures.kept)
