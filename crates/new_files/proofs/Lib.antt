@@ -1,0 +1,5 @@
+mod Ranges
+mod Pushed
+mod Membership
+mod DosOrder
+mod ProOrder

@@ -1,0 +1,9 @@
+// A part that has no place yet.
+use vol_parts::PartKind;
+
+/// A part of a new file: its kind, and its number among the parts of that kind.
+#[derive(Clone, Copy, Debug, PartialEq, Eq)]
+pub struct NewPart {
+    pub kind: PartKind,
+    pub number: u32,
+}
