@@ -24,14 +24,14 @@ cases_le (suc a) (suc b) = elim (cases_le a b) [
   | inr high ↦ inr (omega (arith, high))
 ]
 
-named_at : (file : ℕ) (kind : PartKind) (number : ℕ) (unit : List ℕ) (at place : ℕ) → NamesAt unit at place → CanNameDos place
+pub named_at : (file : ℕ) (kind : PartKind) (number : ℕ) (unit : List ℕ) (at place : ℕ) → NamesAt unit at place → CanNameDos place
     → link_to file kind number (pointer_of unit at) ≡ To (record { file = file; kind = kind; number = number; place = place })
 named_at file kind number unit at place names named =
     ap (λ t. link_to file kind number (stored t (slice_index unit (at + 1)))) names.0
     ∙ ap (λ s. link_to file kind number (stored (place / 16) s)) names.1
     ∙ link_to-place file kind number place named
 
-null_at : (file : ℕ) (kind : PartKind) (number : ℕ) (unit : List ℕ) (at : ℕ) → slice_index unit at ≡ 0 → link_to file kind number (pointer_of unit at) ≡ Null
+pub null_at : (file : ℕ) (kind : PartKind) (number : ℕ) (unit : List ℕ) (at : ℕ) → slice_index unit at ≡ 0 → link_to file kind number (pointer_of unit at) ≡ Null
 null_at file kind number unit at none = ap (λ t. link_to file kind number (stored t (slice_index unit (at + 1)))) none
 
 pub part_eta : (part : Part) (file : ℕ) (kind : PartKind) (number : ℕ) → part.file ≡ file → part.kind ≡ kind → part.number ≡ number
@@ -41,12 +41,12 @@ part_eta part file kind number of_file of_kind numbered =
     ∙ ap (λ k. record { file = part.file; kind = k; number = number; place = part.place }) (sym of_kind)
     ∙ ap (λ n. record { file = part.file; kind = part.kind; number = n; place = part.place }) (sym numbered)
 
-pair_link : (file n : ℕ) (unit : List ℕ) (i : ℕ) → i < 122 → list_link file n unit i ≡ link_to file Body (122 * n + i) (pair_of unit i)
+pub pair_link : (file n : ℕ) (unit : List ℕ) (i : ℕ) → i < 122 → list_link file n unit i ≡ link_to file Body (122 * n + i) (pair_of unit i)
 pair_link file n unit i below =
     let test : nat_lt i 122 ≡ true = grind (arith, nat_tests, below) in
     ap (λ b. if b then link_to file Body (122 * n + i) (pair_of unit i) else (if i == 122 then link_to file AList (n + 1) (link_of unit) else Null)) test
 
-next_link : (file n : ℕ) (unit : List ℕ) → list_link file n unit 122 ≡ link_to file AList (n + 1) (pointer_of unit 1)
+pub next_link : (file n : ℕ) (unit : List ℕ) → list_link file n unit 122 ≡ link_to file AList (n + 1) (pointer_of unit 1)
 next_link file n unit = refl
 
 module _ (data_disk : Bool) (reserved : List Bool) (places file count : ℕ) (planned : List Planned) (plan : IsDosPlan file count planned) where

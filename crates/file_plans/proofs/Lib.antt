@@ -1,0 +1,6 @@
+mod Parts
+mod ListWrites
+mod TableWrites
+mod DosBuilt
+mod ProPlanned
+mod Bodies

@@ -1,0 +1,4 @@
+pub mod Placed
+pub mod ListUnit
+pub mod TableUnit
+pub mod Filling
