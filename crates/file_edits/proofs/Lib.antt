@@ -6,10 +6,11 @@ pub mod Locked
 pub mod EntryWrites
 pub mod Making
 pub mod MadeDeletion
-pub mod DosErased
 pub mod Nearest
 pub mod ReleasedUnits
 pub mod WholeDelete
 pub mod NameWrites
 pub mod NamedEntries
 pub mod Renamed
+pub mod ErasedEntries
+pub mod Deletions

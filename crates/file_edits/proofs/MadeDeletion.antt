@@ -14,7 +14,10 @@ use Rattle.delete_laws.proofs.WholeDeletion as whole
 use Rattle.file_cmds.specs.Files.{FileMeaning}
 use Rattle.file_edits.specs.declared.error.EditError.{EditError}
 use Rattle.file_edits.specs.declared.error.EditError.TheVariants.{Device}
-use Rattle.file_edits.specs.Deleted.{HasWholeUnits, IsDeleteEdit, IsOldOrErased}
+use Rattle.file_edits.specs.Deleted.{IsDeleteEdit, IsOldOrErased}
+use Rattle.file_edits.specs.Edited.{HasChanged}
+use Rattle.file_edits.specs.Erasing.{EraseMeaning, HasWholeUnits}
+use Rattle.file_edits.specs.Lists.{without_named}
 use Rattle.file_edits.specs.Writes.{HasEdited, StopsIn, device_after, no_write}
 use Rattle.file_edits.proofs.Changed.{read_keeps, write_leaves}
 
@@ -24,9 +27,9 @@ store_of [] device = refl
 store_of (write ∷ writes) device = store_of writes (written write.place write.unit device)
 
 module _ (format : Meaning) (laws : IsReadable format) (movable : IsMovable format) (writable : IsWritable format) (free : IsFileFree format)
-    (files : FileMeaning) (path : List ℕ) (old new : DeviceState) (full : HasWholeUnits format old.store) where
+    (files : FileMeaning) (erasures : EraseMeaning) (path : List ℕ) (old new : DeviceState) (full : HasWholeUnits format old.store) where
   abbrev IsEdit : List Write → Type 0
-  IsEdit writes = IsDeleteEdit format files old.store path writes
+  IsEdit writes = IsDeleteEdit format files erasures old.store path writes
 
   first_of : (writes : List Write) (edit : IsEdit writes) → IsFirst (files.matches path) edit.directory edit.file
   first_of writes edit = record { inside = edit.first.inside; named = edit.first.named; first = edit.first.first }
@@ -43,6 +46,14 @@ module _ (format : Meaning) (laws : IsReadable format) (movable : IsMovable form
           (whole.done format laws movable writable free (files.matches path) done.1.directory done.1.file old.store done.0 done.1.accepted full
           (first_of done.0 done.1) done.1.deletion)
       by_result (Err e) done = tt
+
+  pub deletion_changed : {T : Type 0} (result : Result T EditError) → IsTrue old.honest → HasEdited IsEdit result old new
+      → OnOk result (HasChanged format (without_named files path) old.store new.store)
+  deletion_changed {T} result honest edited = by_result result (deletion_done result honest edited)
+    where
+      by_result : (r : Result T EditError) → OnOk r (HasFileDeleted format (files.matches path) old.store new.store) → OnOk r (HasChanged format (without_named files path) old.store new.store)
+      by_result (Ok x) deleted = record { files = deleted.files; lost = deleted.lost }
+      by_result (Err e) deleted = tt
 
   -- the store is that after a front of the writes
   front : (writes : List Write) → IsEdit writes → (n : ℕ) → n ≤ length writes → new.store ≡ store_after (take n writes) old.store

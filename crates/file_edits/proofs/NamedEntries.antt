@@ -19,7 +19,7 @@ use Rattle.pro_dir.specs.lemmas.VolumeLaws.{one_directory}
 use Rattle.vol_format.specs.Directory.{Listed, entries, entry_of}
 use Rattle.dos_format.specs.Dos.{dos_directory, numbered}
 use Rattle.pro_format.specs.Pro.{no_slot, directory_with}
-use Rattle.pro_entries.specs.Rewritten.{with_name}
+use Rattle.pro_entries.specs.Rewritten.{access_at, with_name}
 use Rattle.file_cmds.specs.DosFiles.{dos_name}
 use Rattle.file_cmds.specs.ProListing.{behind_key}
 use Rattle.file_cmds.proofs.DosEntries.{entry_read}
@@ -74,13 +74,14 @@ module _ (system : List Bool) (tree : Tree) (units : List (List ℕ)) (file : �
   same_entry : get_or shown file e ≡ stored_entry
   same_entry = get_or_default shown file e no_slot (in_shown system tree units file inside shown is) ∙ ap (λ es. slice_index_or es file no_slot) is
 
-  pub keeps-pro : (access : ℕ) (can : Bool) → access ≡ slice_index (get_or shown file e).bytes 0x1e → can ≡ (bit_and access 0x40 == 0x40)
-      → not can ≡ pro_names.keeps (entry_of (directory_with system tree units) file).bytes
-  keeps-pro access can access_is can_is =
+  -- whether its access bits have one
+  pub access-pro : (bit access : ℕ) (can : Bool) → access ≡ slice_index (get_or shown file e).bytes 0x1e → can ≡ (bit_and access bit == bit)
+      → not can ≡ not (bit_and (slice_index (entry_of (directory_with system tree units) file).bytes access_at) bit == bit)
+  access-pro bit access can access_is can_is =
       ap not can_is
-      ∙ ap (λ a. not (bit_and a 0x40 == 0x40)) (access_is ∙ ap (λ (entry : Entry). slice_index entry.bytes 0x1e) same_entry
+      ∙ ap (λ a. not (bit_and a bit == bit)) (access_is ∙ ap (λ (entry : Entry). slice_index entry.bytes 0x1e) same_entry
       ∙ sym (behind_key 0x1c 0x1e stored_entry.bytes (omega arith) (omega arith)))
-      ∙ ap (λ (entry : Listed). pro_names.keeps entry.bytes) (sym (listed system tree units file inside))
+      ∙ ap (λ (entry : Listed). not (bit_and (slice_index entry.bytes access_at) bit == bit)) (sym (listed system tree units file inside))
 
   pub name-pro : (name stored unit new : List ℕ) (len : ℕ) → stored ≡ pro_name name → len ≡ length name
       → new ≡ with_name (slot_offset (get_or shown file e).slot) len stored unit

@@ -1,5 +1,5 @@
 -- The writes of a deletion, from those that erase the entry and those that mark the places of the file free.
-use Rattle.std.specs.Prelude.{◌≡◌, ◌≢◌, ◌<◌, ◌==◌, ℕ, zero, suc, true, List, [], ◌∷◌, ◌++◌, length, map, slice_index_or, All, AllPairs, Contains, IsTrue}
+use Rattle.std.specs.Prelude.{◌≡◌, ◌≢◌, ◌<◌, ◌==◌, ℕ, zero, suc, true, false, List, [], ◌∷◌, ◌++◌, length, map, slice_index_or, All, AllPairs, Contains, IsTrue}
 use Rattle.std.proofs.Common.{refl, sym, ◌∙◌, ap, subst, arith, inl, inr}
 use Rattle.std.proofs.lemmas.Bool.{cases_Bool, eqb-true, eqb-false}
 use Rattle.std.proofs.lemmas.List.{map-append, length-map, get_or-map}
@@ -16,6 +16,18 @@ use Rattle.file_edits.specs.Prepared.{write_of}
 use Rattle.file_edits.specs.Deleted.{HasPlacesOf}
 use Rattle.file_edits.specs.Erasing.{IsErasing}
 use Rattle.file_edits.specs.Releases.{marked_in, HasMarkOf, IsReleasing, IsReleased}
+
+pub same_number : (a b : ℕ) → a ≡ b → (a == b) ≡ true
+same_number a b same = elim (cases_Bool (a == b)) [
+  | inl is ↦ is
+  | inr is ↦ absurd (eqb-false a b is same)
+]
+
+pub other_number : (a b : ℕ) → a ≢ b → (a == b) ≡ false
+other_number a b apart = elim (cases_Bool (a == b)) [
+  | inl is ↦ absurd (apart (eqb-true a b is))
+  | inr is ↦ is
+]
 
 module _ {A : Type 0} (format : Meaning) (laws : IsReadable format) (directory : Directory) (file : ℕ) (places : List ℕ) (old : DeviceState) (start writes : List (Prepared A))
     (honest : IsTrue old.honest) (erasing : IsErasing format directory file old.store (map write_of start))
@@ -46,12 +58,6 @@ module _ {A : Type 0} (format : Meaning) (laws : IsReadable format) (directory :
       k no_release (omega (arith, inside))
   rising_releases (write ∷ those) rising (suc j) (suc k) less inside =
       rising_releases those (λ i i' d less' within. rising (suc i) (suc i') d (omega (arith, less')) (omega (arith, within))) j k (omega (arith, less)) (omega (arith, inside))
-
-  same_number : (a b : ℕ) → a ≡ b → (a == b) ≡ true
-  same_number a b same = elim (cases_Bool (a == b)) [
-    | inl is ↦ is
-    | inr is ↦ absurd (eqb-false a b is same)
-  ]
 
   -- what is true of each write is true of each release
   of_releases : (P : Release → Type 0) → All (λ (write : Prepared A). P (release write)) was.released → (k : ℕ) → k < length releases → P (release_of releases k)
@@ -90,25 +96,29 @@ module _ {A : Type 0} (format : Meaning) (laws : IsReadable format) (directory :
             (in_filter (λ p. map_place directory p == write.place) places place has (same_number (map_place directory place) write.place (sym found.2))),
       )
 
-  pub whole_delete : IsDeletion format directory file old.store (map write_of writes)
-  whole_delete = record {
-    few = erasing.few;
-    takes = erasing.takes;
-    within = erasing.within;
-    is = erasing.is;
-    system = map write_of start;
-    erases = erasing.erases;
-    described = erasing.described;
-    rest = erasing.rest;
-    releases = releases;
-    are = ap (λ (l : List (Prepared A)). map write_of l) was.are ∙ map-append write_of start was.released
-        ∙ ap (λ (l : List Write). map write_of start ++ l) (same_writes was.released (was.prepared honest));
-    inside = of_releases (λ (r : Release). r.at < erasing.few.places)
-        (λ i d within. subst (λ n. (slice_index_or was.released i d).place < n) same_places (was.inside i d within));
-    rising = rising_releases was.released was.rising;
-    apart = of_releases (λ (r : Release). All (λ (write : Write). write.place ≢ r.at) (map write_of start))
-        (λ i d within. apart_of (slice_index_or was.released i d).place (was.own i d within));
-    own = of_releases (λ (r : Release). All (IsOwnPlace format directory erasing.few file old.store r.at) r.places)
-        (λ i d within. own_places (slice_index_or was.released i d).place);
-    each = λ part mine. each_of part.place ((own.are part.place).1 (part, mine, refl));
-  }
+  -- those to the directory are the ones that erase the entry
+  pub whole_delete : (deletion : IsDeletion format directory file old.store (map write_of writes)) × (deletion.system ≡ map write_of start)
+  whole_delete = (
+    record {
+      few = erasing.few;
+      takes = erasing.takes;
+      within = erasing.within;
+      is = erasing.is;
+      system = map write_of start;
+      erases = erasing.erases;
+      described = erasing.described;
+      rest = erasing.rest;
+      releases = releases;
+      are = ap (λ (l : List (Prepared A)). map write_of l) was.are ∙ map-append write_of start was.released
+          ∙ ap (λ (l : List Write). map write_of start ++ l) (same_writes was.released (was.prepared honest));
+      inside = of_releases (λ (r : Release). r.at < erasing.few.places)
+          (λ i d within. subst (λ n. (slice_index_or was.released i d).place < n) same_places (was.inside i d within));
+      rising = rising_releases was.released was.rising;
+      apart = of_releases (λ (r : Release). All (λ (write : Write). write.place ≢ r.at) (map write_of start))
+          (λ i d within. apart_of (slice_index_or was.released i d).place (was.own i d within));
+      own = of_releases (λ (r : Release). All (IsOwnPlace format directory erasing.few file old.store r.at) r.places)
+          (λ i d within. own_places (slice_index_or was.released i d).place);
+      each = λ part mine. each_of part.place ((own.are part.place).1 (part, mine, refl));
+    },
+    refl,
+  )

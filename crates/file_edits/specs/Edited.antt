@@ -5,9 +5,9 @@ use Rattle.vol_files.specs.Files.{File, HasFiles}
 use Rattle.vol_format.specs.Accepted.{IsAccepted}
 use Rattle.vol_format.specs.Directory.{Directory, entry_of}
 use Rattle.vol_format.specs.Meaning.{Meaning}
-use Rattle.vol_format.specs.Standing.{IsLost}
 use Rattle.file_cmds.specs.Files.{FileMeaning, IsFirstNamed, NamesNone}
 use Rattle.file_edits.specs.Edits.{EditMeaning}
+use Rattle.delete_laws.specs.Deleted.{IsLostOn}
 use Rattle.delete_laws.specs.Writes.{Write}
 
 -- The one write that locks or unlocks the first file that a path names, of an accepted volume: into the entry of that file.
@@ -26,10 +26,6 @@ pub record HasNoSuchFile (format : Meaning) (files : FileMeaning) (store : List 
   pub directory : Directory
   pub accepted : IsAccepted format directory store
   pub none : NamesNone files directory path
-
--- a place that is lost on an accepted volume
-abbrev pub IsLostOn : Meaning → List (List ℕ) → ℕ → Type 0
-IsLostOn format store place = (directory : Directory) × IsAccepted format directory store × IsLost format directory store place
 
 -- The files of a store are those of another after a change of their list, and the same places are lost.
 pub record HasChanged (format : Meaning) (change : List File → List File) (old new : List (List ℕ)) : Type 0 where

@@ -4,14 +4,15 @@ pub mod Prepared
 pub mod Edits
 pub mod Lists
 pub mod Edited
-pub mod Deleted
 pub mod Erasing
 pub mod Releases
 pub mod DosEdits
 pub mod DosErasing
 pub mod ProEdits
+pub mod ProErasing
 pub mod Names
 pub mod DosNames
 pub mod ProNames
 pub mod Renamed
+pub mod Deleted
 pub mod lemmas

@@ -1,6 +1,7 @@
 -- What an edit does to the list of the files of a volume.
 use Rattle.std.specs.Prelude.{ℕ, Bool, if◌then◌else◌, List, [], ◌∷◌}
 use Rattle.vol_files.specs.Files.{File}
+use Rattle.delete_laws.specs.Lists.{without_first}
 use Rattle.file_cmds.specs.Files.{FileMeaning}
 use Rattle.file_edits.specs.Edits.{EditMeaning}
 
@@ -13,3 +14,7 @@ with_first meaning path change (file ∷ files) =
 -- the list with the first file that the path names locked or unlocked: bytes of its entry alone are others
 abbrev pub with_lock_on : FileMeaning → EditMeaning → List ℕ → Bool → List File → List File
 with_lock_on meaning edits path on = with_first meaning path (λ (file : File). record file { bytes = edits.locked on file.bytes })
+
+-- the list without the first file that the path names
+abbrev pub without_named : FileMeaning → List ℕ → List File → List File
+without_named meaning path = without_first (meaning.matches path)

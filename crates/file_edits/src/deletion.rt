@@ -6,12 +6,12 @@ ghost use Rattle.dos_format.specs.Dos.{DescribesDos, dos_meaning};
 ghost use Rattle.dos_entries.specs.Rewriting.{sector_of_entry};
 ghost use Rattle.delete_laws.specs.Deleted.{HasFileDeleted};
 ghost use Rattle.file_edits.specs.DosErasing.{dos_erasing};
-ghost use Rattle.file_edits.specs.Erasing.{IsErasing};
+ghost use Rattle.file_edits.specs.Erasing.{HasWholeUnits, IsErasing};
 ghost use Rattle.delete_laws.specs.Deletion.{IsDeletion};
 ghost use Rattle.file_edits.specs.declared.writes.Prepared.{Prepared};
 ghost use Rattle.file_edits.specs.Prepared.{write_of};
 ghost use Rattle.file_edits.specs.Releases.{IsReleased};
-ghost use Rattle.file_edits.specs.Deleted.{HasPlacesOf, HasWholeUnits, IsDeleteEdit, IsOldOrErased};
+ghost use Rattle.file_edits.specs.Deleted.{HasPlacesOf, IsDeleteEdit, IsOldOrErased};
 ghost use Rattle.file_edits.specs.Writes.{HasEdited};
 
 use crate::{EditError, EditableFormat, Prepared};
@@ -22,11 +22,11 @@ use std::alloc::Allocator;
 pub fn a_deletion_made_takes_out_one_file<F: EditableFormat>(format: &F)
     ensures done { (path : List ℕ) (result : Result (Unit {0}) EditError) (old new : DeviceState)
         → IsTrue old.honest → HasWholeUnits (F.meaning format.now) old.store
-        → HasEdited (IsDeleteEdit (F.meaning format.now) (F.files format.now) old.store path) result old new
+        → HasEdited (IsDeleteEdit (F.meaning format.now) (F.files format.now) (F.erasures format.now) old.store path) result old new
         → OnOk result (HasFileDeleted (F.meaning format.now) ((F.files format.now).matches path) old.store new.store) }
     ensures stopped { (path : List ℕ) (result : Result (Unit {0}) EditError) (old new : DeviceState)
         → IsTrue old.honest → HasWholeUnits (F.meaning format.now) old.store
-        → HasEdited (IsDeleteEdit (F.meaning format.now) (F.files format.now) old.store path) result old new
+        → HasEdited (IsDeleteEdit (F.meaning format.now) (F.files format.now) (F.erasures format.now) old.store path) result old new
         → result ≡ Err EditError.Device
         → IsOldOrErased (F.meaning format.now) (F.files format.now) path old.store new.store }
 {}

@@ -1,11 +1,14 @@
 // DOS 3.3 as a format whose files are changed.
-ghost use Rattle.std.specs.Prelude.{◌≡◌};
+ghost use Rattle.std.specs.Prelude.{◌≡◌, ◌<◌, length};
+ghost use Rattle.dos_catalog.specs.Writes.{erased};
 ghost use Rattle.file_edits.specs.DosEdits.{dos_locked};
 
 use crate::dos_naming::{dos_name, has_name, is_dos_name, is_locked};
-use crate::{EditError, EditableFormat};
+use crate::units::copy_unit;
+use crate::writes::alone;
+use crate::{EditError, EditableFormat, Prepared};
 use a2_device::Device;
-use dos_catalog::{set_kind, set_name};
+use dos_catalog::{erase, set_kind, set_name};
 use dos_format::{Dos33, DosVolume};
 use std::alloc::Allocator;
 
@@ -22,10 +25,23 @@ fn locked_kind(kind: u8, on: bool) -> u8
     if on { kind | LOCKED } else { kind % LOCKED }
 }
 
+// A sector of the catalog whose entry in a slot is deleted.
+fn erased<A: Allocator>(mut sector: Vec<u8, A>, slot: u32) -> Vec<u8, A>
+    requires sector { length sector.items ≡ 256 }
+    requires slot { slot < 7 }
+    ensures value { result.items ≡ erased slot sector.items }
+    ensures size { length result.items ≡ 256 }
+{
+    erase(&mut sector, slot);
+    sector
+}
+
 impl<A: Allocator + Copy> EditableFormat for Dos33<A> {
     ghost use Rattle.dos_entries.specs.lemmas.FileFree.{dos_is_file_free};
     ghost use Rattle.file_edits.specs.DosEdits.{dos_edits};
+    ghost use Rattle.file_edits.specs.DosErasing.{dos_erasures};
     ghost use Rattle.file_edits.specs.DosNames.{dos_names};
+    ghost use Rattle.file_edits.specs.lemmas.DosErasable.{dos_is_erasable};
     ghost use Rattle.file_edits.specs.lemmas.DosLocking.{dos_is_lockable};
     ghost use Rattle.file_edits.specs.lemmas.DosNaming.{dos_is_namable};
 
@@ -67,4 +83,26 @@ impl<A: Allocator + Copy> EditableFormat for Dos33<A> {
     }
 
     ghost namable = { λ f. dos_is_namable f.data_disk f.reserved };
+
+    ghost erasures = { λ f. dos_erasures };
+
+    fn protects_file(&self, volume: &DosVolume<A>, file: u32) -> bool {
+        is_locked(&volume.catalog().entries()[file as usize])
+    }
+
+    fn erase<D: Device, B: Allocator + Copy>(
+        &self,
+        alloc: B,
+        device: &mut D,
+        volume: &DosVolume<A>,
+        file: u32,
+    ) -> Result<Vec<Prepared<B>, B>, EditError> {
+        let entry = &volume.catalog().entries()[file as usize];
+        let sector = copy_unit(alloc, device, entry.place)?;
+        let unit = erased(sector, entry.slot);
+        let place = entry.place;
+        Ok(alone(alloc, Prepared { place, unit })?)
+    }
+
+    ghost erasable = { λ f. dos_is_erasable f.data_disk f.reserved };
 }

@@ -1,5 +1,5 @@
 // The trait of formats whose files can be changed.
-use crate::EditError;
+use crate::{EditError, Prepared};
 use a2_device::Device;
 use file_cmds::FileFormat;
 use std::alloc::Allocator;
@@ -7,12 +7,15 @@ use vol_format::WritableFormat;
 
 /// A format of volumes whose entries can be changed one by one.
 pub trait EditableFormat: WritableFormat + FileFormat {
-    ghost use Rattle.std.specs.Prelude.{◌≡◌, ◌<◌, true, length, IfErr, IsTrue};
+    ghost use Rattle.std.specs.Prelude.{◌≡◌, ◌≢◌, ◌<◌, true, length, map, All, Err, IfErr, IfOk, IsTrue};
     ghost use Rattle.a2_device.specs.Device.{OnlyReads};
     ghost use Rattle.vol_format.specs.Directory.{entries, entry_of};
     ghost use Rattle.entry_laws.specs.EditLaws.{IsFileFree};
+    ghost use Rattle.file_edits.specs.declared.writes.Prepared.{Prepared};
     ghost use Rattle.file_edits.specs.Edits.{EditMeaning, IsLockable};
+    ghost use Rattle.file_edits.specs.Erasing.{EraseMeaning, IsErasable};
     ghost use Rattle.file_edits.specs.Names.{NameMeaning, IsNamable};
+    ghost use Rattle.file_edits.specs.Prepared.{write_of};
     ghost use Rattle.file_edits.specs.Refusal.{told_device};
     ghost use Rattle.file_edits.specs.Renamed.{IsAnswer, IsReadRefusal};
 
@@ -67,9 +70,49 @@ pub trait EditableFormat: WritableFormat + FileFormat {
         requires name { (names self.now).may_have name.now ≡ true }
         ensures { unit.new ≡ (names self.now).with_name name.now (entry_of (Self.directory self.now volume.now) file) unit.old };
 
+    // erasing
+
+    ghost erasures: { Self → EraseMeaning };
+
+    /// Whether an entry does not let its file be deleted.
+    fn protects_file(&self, volume: &Self::Volume, file: u32) -> bool
+        requires { file < entries (Self.directory self.now volume.now) }
+        ensures { result ≡ (erasures self.now).protects (entry_of (Self.directory self.now volume.now) file).bytes };
+
+    /// The writes that erase the entry of a file; none of them is made.
+    ///
+    /// # Errors
+    /// `Device` where a read fails; `Memory`; `Check` where a device tells of directories that are none.
+    fn erase<D: Device, A: Allocator + Copy>(
+        &self,
+        alloc: A,
+        device: &mut D,
+        volume: &Self::Volume,
+        file: u32,
+    ) -> Result<Vec<Prepared<A>, A>, EditError>
+        requires unit { (D.state device.old).unit_size ≡ (Self.meaning self.now).unit_size }
+        requires places { (Self.meaning self.now).Takes (D.state device.old).places }
+        requires file { file < entries (Self.directory self.now volume.now) }
+        requires place { (entry_of (Self.directory self.now volume.now) file).place < (D.state device.old).places }
+        requires slot { (Self.meaning self.now).HasSlot true (entry_of (Self.directory self.now volume.now) file).slot }
+
+        // every device
+        ensures device { OnlyReads (told_device result) (D.state device.old) (D.state device.new) }
+        ensures refused { IfErr result IsReadRefusal }
+        ensures inside { IfOk result (λ writes. All (λ (write : Prepared A). write.place < (D.state device.old).places) writes.items) }
+        ensures sizes { IfOk result (λ writes. All (λ (write : Prepared A). length write.unit.items ≡ (D.state device.old).unit_size) writes.items) }
+
+        // an honest device that has the directory
+        ensures erases { IsTrue (D.state device.old).honest → (Self.meaning self.now).Describes (D.state device.old).store (Self.directory self.now volume.now)
+            → IfOk result (λ writes. (erasures self.now).Erases (D.state device.old).store (Self.directory self.now volume.now) file (map write_of writes.items)) }
+        ensures described { IsTrue (D.state device.old).honest → (Self.meaning self.now).Describes (D.state device.old).store (Self.directory self.now volume.now)
+            → result ≢ Err EditError.Check };
+
     ghost file_free: { (format : Self) → IsFileFree (Self.meaning format) };
 
     ghost lockable: { (format : Self) → IsLockable (Self.meaning format) (edits format) };
 
     ghost namable: { (format : Self) → IsNamable (Self.meaning format) (names format) };
+
+    ghost erasable: { (format : Self) → IsErasable (Self.meaning format) (erasures format) };
 }

@@ -9,11 +9,13 @@
 //! Which names a file may get, whether an entry of its directory has one, and how it is stored, is the record `NameMeaning`
 //! (`specs/Names.antt`, `specs/DosNames.antt`, `specs/ProNames.antt`); what renaming leaves and why it is refused, `specs/Renamed.antt`.
 //!
-//! What deleting a file is made of stands here too, without the command: units that are prepared and then written one after another (`writes`), the units of
-//! the map in which places are marked free, each once and in rising order (`releasing`, `specs/Releases.antt`), the write that erases an entry in DOS 3.3
-//! (`specs/Erasing.antt`, `specs/DosErasing.antt`), and laws that these together delete the file (`deletion`, `specs/Deleted.antt`).
+//! A deletion is more than one write. First the entry is erased, by one write in DOS 3.3 and by one or two in ProDOS; the record `EraseMeaning` has the
+//! bytes of these writes and says which files are protected (`specs/Erasing.antt`, `specs/DosErasing.antt`, `specs/ProErasing.antt`). Then come the units of
+//! the map in which its places are marked free, each once and in rising order (`specs/Releases.antt`, `releasing`). Laws say that these together delete the
+//! file (`deletion`, `specs/Deleted.antt`).
 #![tactic(auto)]
 
+mod deleting;
 mod deletion;
 mod dos;
 mod dos_naming;
@@ -22,11 +24,13 @@ mod format;
 mod locking;
 mod naming;
 mod pro;
+mod pro_erasing;
 mod pro_naming;
 mod releasing;
 mod units;
 mod writes;
 
+pub use deleting::delete;
 pub use deletion::{
     a_deletion_made_takes_out_one_file, a_dos_entry_is_erased_by_one_write,
     an_erased_entry_and_released_places_are_a_deletion,

@@ -2,8 +2,9 @@
 ghost use Rattle.std.specs.Prelude.{◌≡◌};
 ghost use Rattle.file_edits.specs.ProEdits.{pro_locked};
 
+use crate::pro_erasing::{entry_of, erase_entry};
 use crate::pro_naming::{has_name_beside, is_pro_name, pro_name, refusal};
-use crate::{EditError, EditableFormat};
+use crate::{EditError, EditableFormat, Prepared};
 use a2_device::Device;
 use bitflags::Flags;
 use pro_dir::{Access, VolumeDir, set_access, set_name};
@@ -24,7 +25,9 @@ fn locked_access(access: Access, on: bool) -> u8
 impl<A: Allocator + Copy> EditableFormat for Prodos<A> {
     ghost use Rattle.pro_entries.proofs.FileFree.{pro_is_file_free};
     ghost use Rattle.file_edits.specs.ProEdits.{pro_edits};
+    ghost use Rattle.file_edits.specs.ProErasing.{pro_erasures};
     ghost use Rattle.file_edits.specs.ProNames.{pro_names};
+    ghost use Rattle.file_edits.specs.lemmas.ProErasable.{pro_is_erasable};
     ghost use Rattle.file_edits.specs.lemmas.ProLocking.{pro_is_lockable};
     ghost use Rattle.file_edits.specs.lemmas.ProNaming.{pro_is_namable};
 
@@ -71,4 +74,30 @@ impl<A: Allocator + Copy> EditableFormat for Prodos<A> {
     }
 
     ghost namable = { λ f. pro_is_namable f };
+
+    ghost erasures = { λ f. pro_erasures };
+
+    fn protects_file(&self, volume: &ProVolume<A>, file: u32) -> bool {
+        let entry = &volume.directory().entries()[file as usize];
+        !entry.access().can_destroy()
+    }
+
+    fn erase<D: Device, B: Allocator + Copy>(
+        &self,
+        alloc: B,
+        device: &mut D,
+        _: &ProVolume<A>,
+        file: u32,
+    ) -> Result<Vec<Prepared<B>, B>, EditError> {
+        let walked = match VolumeDir::walk(alloc, device) {
+            Ok(walked) => walked,
+            Err(error) => return Err(refusal(error)),
+        };
+        match entry_of(walked.entries(), file) {
+            Some(entry) => erase_entry(alloc, device, &entry),
+            None => Err(EditError::Check),
+        }
+    }
+
+    ghost erasable = { λ f. pro_is_erasable f };
 }

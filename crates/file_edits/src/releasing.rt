@@ -11,10 +11,10 @@ ghost use Rattle.file_edits.specs.Refusal.{told_device, IsPrepareRefusal};
 ghost use Rattle.file_edits.specs.Releases.{marked_in, nearest, nearer, IsReleased};
 
 use crate::units::read_unit;
-use crate::writes::Prepared;
+use crate::writes::{Prepared, behind};
 use crate::{EditError, EditableFormat};
 use a2_device::Device;
-use std::alloc::{AllocError, Allocator};
+use std::alloc::Allocator;
 
 // The nearer of two units of the map from a number on.
 fn nearer(from: u64, best: Option<u32>, at: u32) -> Option<u32>
@@ -92,19 +92,6 @@ pub fn release_unit<D: Device, F: EditableFormat, A: Allocator>(
     read_unit(device, at, &mut unit)?;
     release_in(format, volume, places, at, &mut unit);
     Ok(Prepared { place: at, unit })
-}
-
-// A write behind others.
-fn behind<A: Allocator>(
-    mut writes: Vec<Prepared<A>, A>,
-    write: Prepared<A>,
-) -> Result<Vec<Prepared<A>, A>, AllocError>
-    ensures { IfOk result (λ all. all.items ≡ writes.items ++ write ∷ []) }
-{
-    match writes.push(write) {
-        Ok(()) => Ok(writes),
-        Err(error) => Err(AllocError::from(error)),
-    }
 }
 
 /// The writes that mark places free, behind others: one for each unit of the map that has marks of them, in rising order.

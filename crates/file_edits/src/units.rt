@@ -1,10 +1,12 @@
 // Units of the device that are read and written.
-ghost use Rattle.std.specs.Prelude.{◌≡◌, ◌<◌, length, OnOk, IsErr, IsTrue, Err, is_err};
+ghost use Rattle.std.specs.Prelude.{◌≡◌, ◌<◌, length, OnOk, IfOk, IfErr, IsErr, IsTrue, Err, is_err};
 ghost use Rattle.a2_device.specs.Device.{IsSameDevice, OnlyReads, faults_after, unit_at, written};
+ghost use Rattle.file_edits.specs.Refusal.{told_device, IsPrepareRefusal};
 ghost use Rattle.file_edits.specs.Writes.{RefusesWrite};
 
 use crate::EditError;
 use a2_device::Device;
+use std::alloc::Allocator;
 
 // Reads a unit.
 pub(crate) fn read_unit<D: Device>(
@@ -19,6 +21,23 @@ pub(crate) fn read_unit<D: Device>(
     ensures read { IsTrue (D.state device.old).honest → OnOk result (unit.new ≡ unit_at (D.state device.old).store place) }
 {
     device.read(place, unit).map_err(|_| EditError::Device)
+}
+
+// A copy of a unit.
+pub(crate) fn copy_unit<D: Device, A: Allocator>(
+    alloc: A,
+    device: &mut D,
+    place: u32,
+) -> Result<Vec<u8, A>, EditError>
+    requires { place < (D.state device.old).places }
+    ensures device { OnlyReads (told_device result) (D.state device.old) (D.state device.new) }
+    ensures refused { IfErr result IsPrepareRefusal }
+    ensures size { IfOk result (λ unit. length unit.items ≡ (D.state device.old).unit_size) }
+    ensures read { IsTrue (D.state device.old).honest → IfOk result (λ unit. unit.items ≡ unit_at (D.state device.old).store place) }
+{
+    let mut unit = vec![in alloc; 0; device.unit()]?;
+    read_unit(device, place, &mut unit)?;
+    Ok(unit)
 }
 
 // Writes a unit.

@@ -1,5 +1,5 @@
 // A list of writes that is made whole before the first of them, and its writing.
-ghost use Rattle.std.specs.Prelude.{◌≡◌, ◌<◌, List, length, map, All, IfErr};
+ghost use Rattle.std.specs.Prelude.{◌≡◌, ◌<◌, List, [], ◌∷◌, ◌++◌, length, map, All, IfErr, IfOk};
 ghost use Rattle.file_edits.specs.declared.writes.Prepared.{Prepared};
 ghost use Rattle.delete_laws.specs.Writes.{Write};
 ghost use Rattle.file_edits.specs.Prepared.{write_of};
@@ -8,13 +8,36 @@ ghost use Rattle.file_edits.specs.Writes.{HasEdited};
 use crate::EditError;
 use crate::units::write_unit;
 use a2_device::Device;
-use std::alloc::{Allocator, Global};
+use std::alloc::{AllocError, Allocator, Global};
 
 /// A unit that is made, and the place that it is for.
 #[derive(Drop)]
 pub struct Prepared<A: Allocator = Global> {
     pub place: u32,
     pub unit: Vec<u8, A>,
+}
+
+// One write alone.
+pub(crate) fn alone<A: Allocator + Copy>(
+    alloc: A,
+    write: Prepared<A>,
+) -> Result<Vec<Prepared<A>, A>, AllocError>
+    ensures { IfOk result (λ all. all.items ≡ write ∷ []) }
+{
+    behind(Vec::new(alloc), write)
+}
+
+// A write behind others.
+pub(crate) fn behind<A: Allocator>(
+    mut writes: Vec<Prepared<A>, A>,
+    write: Prepared<A>,
+) -> Result<Vec<Prepared<A>, A>, AllocError>
+    ensures { IfOk result (λ all. all.items ≡ writes.items ++ write ∷ []) }
+{
+    match writes.push(write) {
+        Ok(()) => Ok(writes),
+        Err(error) => Err(AllocError::from(error)),
+    }
 }
 
 /// Writes units one after another, up to the first that is refused.

@@ -32,7 +32,7 @@ enum Call {
 
 /// A failure that comes after so many calls of its kind.
 #[derive(Clone, Copy, Debug)]
-enum Failure {
+pub enum Failure {
     Read,
     Write { took: bool },
 }
@@ -130,7 +130,7 @@ fn is_image(
 }
 
 /// The device with this failure after so many calls.
-fn late(device: ImageDevice, failure: Failure, before: u64) -> LateFailure<ImageDevice>
+pub fn late(device: ImageDevice, failure: Failure, before: u64) -> LateFailure<ImageDevice>
     ensures unit { (⟦<LateFailure<ImageDevice> as Device>⟧.state result).unit_size ≡ (⟦<ImageDevice as Device>⟧.state device).unit_size }
     ensures places { (⟦<LateFailure<ImageDevice> as Device>⟧.state result).places ≡ (⟦<ImageDevice as Device>⟧.state device).places }
 {

@@ -4,6 +4,8 @@
 #![tactic(auto)]
 
 #[cfg(test)]
+mod deletions;
+#[cfg(test)]
 mod dos_listings;
 #[cfg(test)]
 mod dos_reads;

@@ -6,11 +6,11 @@ returns-clause-done g c =
     let format = c.args.format.now in
     λ path result old new honest full edited.
     deletion_done (g.F.Format.meaning format) (g.met.F.Format.readable format) (g.met.F.WritableFormat.movable format) (g.met.F.WritableFormat.writable format)
-    (g.met.F.EditableFormat.file_free format) (g.F.FileFormat.files format) path old new full result honest edited
+    (g.met.F.EditableFormat.file_free format) (g.F.FileFormat.files format) (g.F.EditableFormat.erasures format) path old new full result honest edited
 
 pub returns-clause-stopped : goal.returns-clause-stopped
 returns-clause-stopped g c =
     let format = c.args.format.now in
     λ path result old new honest full edited is.
     deletion_stopped (g.F.Format.meaning format) (g.met.F.Format.readable format) (g.met.F.WritableFormat.movable format) (g.met.F.WritableFormat.writable format)
-    (g.met.F.EditableFormat.file_free format) (g.F.FileFormat.files format) path old new full result honest edited is
+    (g.met.F.EditableFormat.file_free format) (g.F.FileFormat.files format) (g.F.EditableFormat.erasures format) path old new full result honest edited is

@@ -5,4 +5,4 @@ pub returns : goal.returns
 returns g c =
     let format = c.args.format.now in
     λ directory file places old start honest described inside erasing all own.
-    whole_delete (g.F.Format.meaning format) (g.met.F.Format.readable format) directory file places old start c.args.writes.now honest erasing all own
+    (whole_delete (g.F.Format.meaning format) (g.met.F.Format.readable format) directory file places old start c.args.writes.now honest erasing all own).0

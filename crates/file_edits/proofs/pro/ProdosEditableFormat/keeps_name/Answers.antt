@@ -3,7 +3,7 @@ use Rattle.pro_dir.specs.Listed.{directory_of}
 use Rattle.pro_dir.specs.Volume.{Directory as Tree}
 use Rattle.pro_format.specs.ProVolume.{tree_of, map_in, system_of}
 use Rattle.file_cmds.proofs.ProEntries.{in_shown}
-use Rattle.file_edits.proofs.NamedEntries.{keeps-pro}
+use Rattle.file_edits.proofs.NamedEntries.{access-pro}
 use Rattle.file_edits.proofs.pro.ProdosEditableFormat.keeps_name.Goals as goal
 
 pub bounds-entries-file : goal.bounds-entries-file
@@ -13,6 +13,6 @@ bounds-entries-file g c =
 pub returns : goal.returns
 returns g c =
     let v = c.args.volume.now in
-    keeps-pro (system_of v) (tree_of v) (map_in v).units c.args.file c.requires c.entries.result.now _
+    access-pro (system_of v) (tree_of v) (map_in v).units c.args.file c.requires c.entries.result.now _
     (c.entries.ensures ∙ ap (λ (tree : Tree). tree.entries) (ap directory_of c.directory.ensures))
-    c.access.result.0 c.can_rename.result c.access.ensures c.can_rename.ensures
+    0x40 c.access.result.0 c.can_rename.result c.access.ensures c.can_rename.ensures

@@ -1,24 +1,20 @@
--- The write that erases an entry of the catalog.
-use Rattle.std.specs.Prelude.{◌≡◌, ◌≢◌, ◌<◌, ◌≤◌, ◌/◌, ℕ, zero, suc, Bool, List, [], ◌∷◌, length, take, slice_index}
+-- In DOS 3.3 the entry of a file is erased by one write to the catalog.
+use Rattle.std.specs.Prelude.{◌≡◌, ◌≢◌, ◌<◌, ◌/◌, ℕ, Bool, List, [], ◌∷◌, length, slice_index}
 use Rattle.std.proofs.Common.{sym, ap, subst, arith}
 use Rattle.std.proofs.lemmas.List.Elements.{All-nil, All-cons}
-use Rattle.vol_format.specs.Directory.{Directory, entries, map_place}
+use Rattle.vol_format.specs.Directory.{Directory, entries, entry_of, map_place}
 use Rattle.dos_format.specs.Dos.{DescribesDos, dos_meaning}
+use Rattle.dos_format.specs.lemmas.DosLaws.{dos_is_readable}
+use Rattle.dos_format.specs.lemmas.DosMovable.{dos_is_movable}
 use Rattle.dos_format.specs.lemmas.DosWritable.{entry_on_track}
 use Rattle.entry_laws.specs.Entered.{HasSameRest}
 use Rattle.dos_entries.specs.Erasing.{HasErased}
 use Rattle.dos_entries.specs.Rewriting.{sector_of_entry}
 use Rattle.dos_entries.proofs.Erased.{file_erased}
 use Rattle.delete_laws.specs.Writes.{Write, store_after}
-use Rattle.file_edits.specs.DosErasing.{dos_erasing}
-use Rattle.file_edits.specs.Erasing.{IsErasing}
-
--- the only front of one write that is not empty is this write
-one_front : (P : List (List ℕ) → Type 0) (write : Write) (store : List (List ℕ)) → P (store_after (write ∷ []) store)
-    → (n : ℕ) → 0 < n → n ≤ 1 → P (store_after (take n (write ∷ [])) store)
-one_front P write store stands zero some below = absurd (omega (arith, some))
-one_front P write store stands (suc zero) some below = stands
-one_front P write store stands (suc (suc n)) some below = absurd (omega (arith, below))
+use Rattle.file_edits.specs.DosErasing.{dos_erasing, dos_erasures}
+use Rattle.file_edits.specs.Erasing.{IsErasing, IsErasable}
+use Rattle.file_edits.specs.lemmas.Fronts.{one_front}
 
 module _ (data_disk : Bool) (reserved : List Bool) (store : List (List ℕ)) (directory : Directory) (file : ℕ)
     (described : DescribesDos data_disk reserved store directory) (inside : file < entries directory) where
@@ -41,8 +37,8 @@ module _ (data_disk : Bool) (reserved : List Bool) (store : List (List ℕ)) (di
         within = erased.within;
         is = erased.is;
         erases = omega arith;
-        described = one_front (λ (s : List (List ℕ)). DescribesDos data_disk reserved s erased.few) (get_write (dos_erasing directory file store)) store erased.described;
-        rest = one_front (HasSameRest erased.few store) (get_write (dos_erasing directory file store)) store erased.rest;
+        described = one_front (λ (s : List (List ℕ)). DescribesDos data_disk reserved s erased.few) store (get_write (dos_erasing directory file store)) erased.described;
+        rest = one_front (HasSameRest erased.few store) store (get_write (dos_erasing directory file store)) erased.rest;
         apart = λ place below. All-cons (λ (write : Write). write.place ≢ map_place directory place) (get_write (dos_erasing directory file store)) []
             (λ same. omega (arith, track.0, same, one_map place below)) (All-nil (λ (write : Write). write.place ≢ map_place directory place));
       }
@@ -50,3 +46,12 @@ module _ (data_disk : Bool) (reserved : List Bool) (store : List (List ℕ)) (di
       get_write : List Write → Write
       get_write (write ∷ writes) = write
       get_write [] = record { place = 0; unit = [] }
+
+pub dos_is_erasable : (data_disk : Bool) (reserved : List Bool) → IsErasable (dos_meaning data_disk reserved) dos_erasures
+dos_is_erasable data_disk reserved = record {
+  erasing = λ store directory file writes described inside is_file whole erases.
+      let below = ((dos_is_movable data_disk reserved).described store directory described).entry_below file inside in
+      let all = (dos_is_readable data_disk reserved).all_places store directory described in
+      subst (IsErasing (dos_meaning data_disk reserved) directory file store) (sym erases)
+      (entry_erased data_disk reserved store directory file described inside (whole (entry_of directory file).place (omega (arith, below, all))));
+}

@@ -1,0 +1,84 @@
+// The entry of a file that is erased from a ProDOS directory.
+ghost use Rattle.std.specs.Prelude.{◌≡◌, ◌≢◌, ◌<◌, length, map, slice_get, All, Err, IfOk, IfErr, IsTrue};
+ghost use Rattle.a2_device.specs.Device.{OnlyReads};
+ghost use Rattle.file_edits.specs.declared.writes.Prepared.{Prepared};
+ghost use Rattle.file_edits.specs.Prepared.{write_of};
+ghost use Rattle.file_edits.specs.ProErasing.{counting_less, pro_erasing, without_entry};
+ghost use Rattle.file_edits.specs.Refusal.{told_device};
+ghost use Rattle.file_edits.specs.Renamed.{IsReadRefusal};
+
+use crate::units::copy_unit;
+use crate::writes::{alone, behind};
+use crate::{EditError, Prepared};
+use a2_device::Device;
+use pro_dir::{Entry, count, erase, set_count};
+use std::alloc::Allocator;
+
+// The entry of a number.
+pub(crate) fn entry_of(entries: &[Entry], file: u32) -> Option<Entry>
+    ensures { result ≡ slice_get entries.now file }
+{
+    entries.get(file as usize).copied()
+}
+
+// A block of a directory whose entry in a slot is made inactive.
+fn without_entry<A: Allocator>(mut block: Vec<u8, A>, slot: u32) -> Vec<u8, A>
+    requires block { length block.items ≡ 512 }
+    requires slot { slot < 13 }
+    ensures { result.items ≡ without_entry slot block.items }
+{
+    erase(&mut block, slot);
+    block
+}
+
+// The key block of a directory that counts one file less.
+fn counting_less<A: Allocator>(mut block: Vec<u8, A>) -> Vec<u8, A>
+    requires { length block.items ≡ 512 }
+    ensures value { result.items ≡ counting_less block.items }
+    ensures size { length result.items ≡ 512 }
+{
+    let files = count(&block);
+    set_count(&mut block, files.saturating_sub(1));
+    block
+}
+
+// The writes that erase an entry. `Check` where it names a directory past the last place.
+pub(crate) fn erase_entry<D: Device, A: Allocator + Copy>(
+    alloc: A,
+    device: &mut D,
+    entry: &Entry,
+) -> Result<Vec<Prepared<A>, A>, EditError>
+    requires unit { (D.state device.old).unit_size ≡ 512 }
+    requires place { entry.now.place < (D.state device.old).places }
+    requires slot { entry.now.slot < 13 }
+
+    ensures device { OnlyReads (told_device result) (D.state device.old) (D.state device.new) }
+    ensures refused { IfErr result IsReadRefusal }
+    ensures inside { IfOk result (λ writes. All (λ (write : Prepared A). write.place < (D.state device.old).places) writes.items) }
+    ensures sizes { IfOk result (λ writes. All (λ (write : Prepared A). length write.unit.items ≡ (D.state device.old).unit_size) writes.items) }
+    ensures erases { IsTrue (D.state device.old).honest → IfOk result (λ writes. map write_of writes.items ≡ pro_erasing entry.now (D.state device.old).store) }
+    ensures known { entry.now.directory < (D.state device.old).places → result ≢ Err EditError.Check }
+{
+    if entry.directory >= device.places() {
+        return Err(EditError::Check);
+    }
+    let block = copy_unit(alloc, device, entry.place)?;
+    let unit = without_entry(block, entry.slot);
+    if entry.place == entry.directory {
+        let unit = counting_less(unit);
+        let place = entry.place;
+        return Ok(alone(alloc, Prepared { place, unit })?);
+    }
+    let key = copy_unit(alloc, device, entry.directory)?;
+    let counted = counting_less(key);
+    let place = entry.place;
+    let first = alone(alloc, Prepared { place, unit })?;
+    let place = entry.directory;
+    Ok(behind(
+        first,
+        Prepared {
+            place,
+            unit: counted,
+        },
+    )?)
+}
