@@ -1,6 +1,6 @@
 # make            builds the proved program to ./a2shop
-# make demo       builds it; lists, checks, plans and optimizes a DOS sample, and lists it again, unlocked and from disk bytes;
-#                 checks, plans and optimizes a ProDOS sample, lists it before and after, and verifies the plan
+# make demo       builds it; lists, checks, plans and optimizes a DOS sample, and lists it again, from disk bytes too;
+#                 unlocks, renames and deletes its file; checks, plans and optimizes a ProDOS sample, lists it before and after, and verifies the plan
 # make test       runs the gate (every proof from nothing, the must-fail edits, all tests) and the end-to-end tests
 # make assure     tries the further edits, crates/*/assure, that the prover must refuse; each run of the gate tries a share
 # make install    copies the program that was built, its manual page and the completions of the shells to $(PREFIX), and proves nothing
@@ -30,6 +30,10 @@ demo: a2shop
 	./a2shop read samples/hello.dsk HELLO --fs dos --order dos | od -A n -t x1
 	./a2shop unlock samples/hello.dsk HELLO --fs dos --order dos --out demo.dsk
 	./a2shop catalog demo.dsk --fs dos --order dos
+	./a2shop rename demo.dsk HELLO GREETING --fs dos --order dos --out demo.dsk
+	./a2shop catalog demo.dsk --fs dos --order dos
+	./a2shop delete demo.dsk GREETING --fs dos --order dos --out demo.dsk
+	./a2shop check demo.dsk --fs dos --order dos
 	./a2shop plan samples/hello.dsk --fs dos --order dos
 	./a2shop optimize samples/hello.dsk --fs dos --order dos --out demo.dsk
 	./a2shop catalog demo.dsk --fs dos --order dos

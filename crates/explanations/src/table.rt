@@ -12,7 +12,7 @@ pub struct Explanation {
 }
 
 /// The explanations, by what is told: refusals, failures, faults of a volume, faults of a certificate, and verdicts.
-pub static TABLE: [Explanation; 36] = [
+pub static TABLE: [Explanation; 39] = [
     Explanation {
         front: "REFUSED Length",
         meaning: "The image has another length than an image in this order. A disk in DOS order or in ProDOS order has 143,360 bytes, \
@@ -37,6 +37,25 @@ pub static TABLE: [Explanation; 36] = [
         meaning: "The volume has no file of this name.",
         advice: "Run `a2shop catalog` to see the names. Names of DOS 3.3 are matched letter by letter; a file in a directory of \
             ProDOS is named by its whole path, as `LETTERS/JUNE`.",
+    },
+    Explanation {
+        front: "REFUSED Name",
+        meaning: "No file may have the new name. Nothing was written.",
+        advice: "A name of DOS 3.3 has 1 to 30 characters from the space to the tilde and no comma, begins with a capital letter and \
+            does not end with a space. A name of ProDOS has 1 to 15 letters, digits and periods and begins with a letter; it is the \
+            last of the file's path, without a slash.",
+    },
+    Explanation {
+        front: "REFUSED Exists",
+        meaning: "The directory of the file has an entry with the new name: a file, a directory, or this file itself. Letters of \
+            either case are the same to ProDOS. Nothing was written.",
+        advice: "Choose another name, or first rename or delete the entry that has it: `a2shop catalog` shows them.",
+    },
+    Explanation {
+        front: "REFUSED Locked",
+        meaning: "The file is locked, so it is not deleted or renamed. A file of ProDOS counts as locked where its access bits do not \
+            let it be deleted, or renamed. Nothing was written.",
+        advice: "Run `a2shop unlock` first, and this command on the image that it writes.",
     },
     Explanation {
         front: "REFUSED NoFreePlace",

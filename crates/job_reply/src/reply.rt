@@ -16,6 +16,12 @@ pub enum Refusal {
     Check,
     /// The volume has no file of that name.
     NotFound,
+    /// No file may get the new name.
+    Name,
+    /// An entry of the directory has the new name.
+    Exists,
+    /// The file is locked.
+    Locked,
     /// Some part is misplaced, and each place has a part.
     NoFreePlace,
     /// The file that is read beside the image is too long.
@@ -64,6 +70,9 @@ impl Refusal {
             Refusal::Length => b"REFUSED Length\n",
             Refusal::Check => b"REFUSED Check\n",
             Refusal::NotFound => b"REFUSED NotFound\n",
+            Refusal::Name => b"REFUSED Name\n",
+            Refusal::Exists => b"REFUSED Exists\n",
+            Refusal::Locked => b"REFUSED Locked\n",
             Refusal::NoFreePlace => b"REFUSED NoFreePlace\n",
             Refusal::InputTooLong => b"REFUSED InputTooLong\n",
             Refusal::NoSector => b"REFUSED NoSector\n",

@@ -3,12 +3,11 @@ use Rattle.std.proofs.Common.{◌≡◌, ◌≢◌, ℕ, ◌+◌, Bool, List, ta
 use Rattle.std.specs.Io.KnownBytes.{Appends, Keeps}
 use Rattle.std.specs.Prelude.{◌⊎◌, Option, Some, None, IfSome, codes}
 use Rattle.a2_image.specs.declared.order.Order.{Order}
-use Rattle.shop_words.specs.Job.{JobView, catalog, check, read, convert, plan, optimize, edit, verify, identify, asked_job, IsTaken}
+use Rattle.shop_words.specs.Job.{EditView, JobView, catalog, check, read, convert, plan, optimize, edit, verify, identify, asked_job, IsTaken}
 use Rattle.shop_words.specs.Fault.{IsFaultOf}
 use Rattle.shop_words.specs.declared.fault.WordsFault.{WordsFault}
 use Rattle.shop_words.specs.declared.fault.WordsFault.TheVariants as words
 use Rattle.shop_words.specs.declared.job.VolumeOptions.{VolumeOptions}
-use Rattle.shop_words.specs.declared.job.Edit.{Edit}
 use Rattle.job_reply.specs.declared.reply.Failure.{Failure}
 use Rattle.job_reply.specs.declared.reply.Reply.{Reply}
 use Rattle.job_reply.specs.declared.reply.Reply.TheVariants.{Done, Faulty, Bytes, Made, Optimized, Interrupted, Refused, Unopened, Failed}
@@ -100,7 +99,7 @@ makes_image (convert words) image more reply is made = tt
 makes_image (identify path) image more reply is made = absurd (identify_not_made image reply is made)
 
 -- an edit that makes an image answers with it, and hands it out with `OK`
-edit_makes_image : (volume : VolumeOptions) (reserve : Option (List ℕ)) (image : List ℕ) (change : Edit) (name : List ℕ) (reply : Reply)
+edit_makes_image : (volume : VolumeOptions) (reserve : Option (List ℕ)) (image : List ℕ) (change : EditView) (name : List ℕ) (reply : Reply)
     → IsToldOf volume reserve image (Change change name) reply → IsMade reply → IsImageReply reply
 edit_makes_image volume reserve image change name reply is made =
     volume_made volume.file_system (order_of volume.order) volume.data_disk reserve image

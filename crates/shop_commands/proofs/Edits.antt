@@ -1,7 +1,7 @@
 -- The reply to an edit, by what its words say.
 use Rattle.std.proofs.Common.{◌≡◌, ℕ, List, Option, subst}
 use Rattle.a2_image.specs.declared.order.Order.{Order}
-use Rattle.shop_words.specs.declared.job.Edit.{Edit}
+use Rattle.shop_words.specs.Job.{EditView}
 use Rattle.shop_words.specs.declared.job.VolumeOptions.{VolumeOptions}
 use Rattle.job_reply.specs.declared.reply.Reply.{Reply}
 use Rattle.volume_jobs.specs.Volume.{edits_of, files_of, form_of}
@@ -9,7 +9,7 @@ use Rattle.volume_jobs.specs.VolumeReply.{IsVolumeReply}
 use Rattle.volume_jobs.specs.Work.{IsWorkReply, Change}
 use Rattle.shop_commands.specs.Answer.{IsToldOf, order_of}
 
-pub edit_told : (volume : VolumeOptions) (reserve said : Option (List ℕ)) (image name word : List ℕ) (change : Edit) (order : Order) (reply : Reply)
+pub edit_told : (volume : VolumeOptions) (reserve said : Option (List ℕ)) (image name word : List ℕ) (change : EditView) (order : Order) (reply : Reply)
     → order ≡ order_of volume.order → said ≡ reserve → word ≡ name
     → IsVolumeReply volume.file_system order volume.data_disk said image
     (IsWorkReply (Change change word) (form_of volume.file_system) (files_of volume.file_system) (edits_of volume.file_system)) reply

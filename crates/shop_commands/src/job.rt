@@ -130,7 +130,7 @@ fn change_reply(alloc: Global, job: &Job, image: Vec<u8>) -> Reply
             ..
         } => {
             let work = Work::Edit {
-                edit: *edit,
+                edit,
                 name: name.as_bytes(),
             };
             volume_reply(alloc, work, image, order, *volume, reserve.as_deref())

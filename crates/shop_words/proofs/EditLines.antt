@@ -1,20 +1,64 @@
 -- The plain lists of the commands that change a file.
-use Rattle.std.proofs.Common.{◌≡◌, refl, true, List, [], ◌∷◌, Option, Some, None, codes, is_some, arith}
+use Rattle.std.proofs.Common.{◌≡◌, ◌∙◌, ap, refl, true, List, [], ◌∷◌, Option, Some, None, codes, find, is_some, arith}
 use Rattle.clap.proofs.OnLiterals.{clap_on_literals}
-use Rattle.shop_words.specs.Table.{Text, FormView, lock_form, unlock_form, file_system, order, out, data_disk, reserve}
+use Rattle.clap.specs.Simple.{Shape, built, label_of}
+use Rattle.clap.specs.Takes.{turn_passes}
+use Rattle.clap.specs.Walk.{answers_to, walk_from, walked, nothing_held}
+use Rattle.shop_words.specs.Table.{Text, edit_form, lock_form, unlock_form, delete_form, rename_form, file_system, order, out, data_disk, reserve}
 use Rattle.shop_words.specs.Plain.{Use, IsPlainLine}
-use Rattle.shop_words.specs.Job.{change_of, line_job, line_said, volume_by}
-use Rattle.shop_words.specs.declared.job.Edit.{Edit}
-use Rattle.shop_words.specs.declared.job.Edit.TheVariants.{Lock, Unlock}
+use Rattle.shop_words.specs.Job.{EditView, Rename, JobView, Said, change_of, edit_by, job_by, line_job, line_said, volume_by}
 use Rattle.shop_words.specs.declared.job.VolumeOptions.{VolumeOptions}
-use Rattle.shop_words.proofs.PlainForms.{IsKnown, Knows, shape_named}
+use Rattle.shop_words.proofs.PlainForms.{IsKnown, Knows, shape_named, stopped_at, top_names, top_rules, whole}
 use Rattle.shop_words.proofs.PlainJobs.{HasPlainDefaults, HasVolume, volume_by-line}
 use Rattle.shop_words.proofs.PlainUsed.{needed_said}
 
+-- what is built of such a command: the name alone is its own
+abbrev edit_shape : Text → Shape
+edit_shape command = record (shape_named (codes "lock")) { name = command }
+
+-- what is computed of its name: the command is found by it, and the walk of the program's own words meets it
+record IsMet (command : Text) : Type 0 where
+  named : find (λ x. answers_to command (label_of x)) (built whole).subs ≡ Some (edit_shape command)
+  met : walked top_rules top_names (walk_from nothing_held) command ≡ stopped_at command []
+  first : turn_passes (built whole).top top_names (walk_from nothing_held) command ≡ true
+
+edit_known : (command : Text) → IsMet command → IsKnown (edit_form command) (edit_shape command)
+unfolding clap_on_literals
+edit_known command is =
+    let s = edit_shape command in
+    let knows_file_system : Knows s file_system = record { by_long = refl; by_id = refl; same = refl; long = refl; dashes = refl } in
+    let knows_order : Knows s order = record { by_long = refl; by_id = refl; same = refl; long = refl; dashes = refl } in
+    let knows_out : Knows s out = record { by_long = refl; by_id = refl; same = refl; long = refl; dashes = refl } in
+    let knows_data_disk : Knows s data_disk = record { by_long = refl; long = refl; dashes = refl } in
+    let knows_reserve : Knows s reserve = record { by_long = refl; by_id = refl; same = refl; long = refl; dashes = refl } in
+    record {
+      named = is.named;
+      met = is.met;
+      first = is.first;
+      parameters = (tt, (tt, (knows_file_system, (knows_order, (knows_out, (knows_data_disk, (knows_reserve, tt)))))));
+      positionals = (refl, refl, refl, (refl, refl, refl, tt));
+      positional_parameters = refl;
+      apart = refl;
+      defaults = refl;
+      valid = λ rows e. e;
+    }
+
 pub lock_known : IsKnown lock_form (shape_named (codes "lock"))
 unfolding clap_on_literals
-lock_known =
-    let s = shape_named (codes "lock") in
+lock_known = edit_known (codes "lock") (record { named = refl; met = refl; first = refl })
+
+pub unlock_known : IsKnown unlock_form (shape_named (codes "unlock"))
+unfolding clap_on_literals
+unlock_known = edit_known (codes "unlock") (record { named = refl; met = refl; first = refl })
+
+pub delete_known : IsKnown delete_form (shape_named (codes "delete"))
+unfolding clap_on_literals
+delete_known = edit_known (codes "delete") (record { named = refl; met = refl; first = refl })
+
+pub rename_known : IsKnown rename_form (shape_named (codes "rename"))
+unfolding clap_on_literals
+rename_known =
+    let s = shape_named (codes "rename") in
     let knows_file_system : Knows s file_system = record { by_long = refl; by_id = refl; same = refl; long = refl; dashes = refl } in
     let knows_order : Knows s order = record { by_long = refl; by_id = refl; same = refl; long = refl; dashes = refl } in
     let knows_out : Knows s out = record { by_long = refl; by_id = refl; same = refl; long = refl; dashes = refl } in
@@ -24,8 +68,8 @@ lock_known =
       named = refl;
       met = refl;
       first = refl;
-      parameters = (tt, (tt, (knows_file_system, (knows_order, (knows_out, (knows_data_disk, (knows_reserve, tt)))))));
-      positionals = (refl, refl, refl, (refl, refl, refl, tt));
+      parameters = (tt, (tt, (tt, (knows_file_system, (knows_order, (knows_out, (knows_data_disk, (knows_reserve, tt))))))));
+      positionals = (refl, refl, refl, (refl, refl, refl, (refl, refl, refl, tt)));
       positional_parameters = refl;
       apart = refl;
       defaults = refl;
@@ -35,67 +79,60 @@ lock_known =
 pub lock_defaults : HasPlainDefaults lock_form
 lock_defaults = record { name = refl; options = refl; flags = refl }
 
-pub unlock_known : IsKnown unlock_form (shape_named (codes "unlock"))
-unfolding clap_on_literals
-unlock_known =
-    let s = shape_named (codes "unlock") in
-    let knows_file_system : Knows s file_system = record { by_long = refl; by_id = refl; same = refl; long = refl; dashes = refl } in
-    let knows_order : Knows s order = record { by_long = refl; by_id = refl; same = refl; long = refl; dashes = refl } in
-    let knows_out : Knows s out = record { by_long = refl; by_id = refl; same = refl; long = refl; dashes = refl } in
-    let knows_data_disk : Knows s data_disk = record { by_long = refl; long = refl; dashes = refl } in
-    let knows_reserve : Knows s reserve = record { by_long = refl; by_id = refl; same = refl; long = refl; dashes = refl } in
-    record {
-      named = refl;
-      met = refl;
-      first = refl;
-      parameters = (tt, (tt, (knows_file_system, (knows_order, (knows_out, (knows_data_disk, (knows_reserve, tt)))))));
-      positionals = (refl, refl, refl, (refl, refl, refl, tt));
-      positional_parameters = refl;
-      apart = refl;
-      defaults = refl;
-      valid = λ rows e. e;
-    }
-
 pub unlock_defaults : HasPlainDefaults unlock_form
 unlock_defaults = record { name = refl; options = refl; flags = refl }
 
-change_there : (change : Edit) (image name file : Text) (volume : Option VolumeOptions) (places : Option Text) → is_some volume ≡ true
+pub delete_defaults : HasPlainDefaults delete_form
+delete_defaults = record { name = refl; options = refl; flags = refl }
+
+pub rename_defaults : HasPlainDefaults rename_form
+rename_defaults = record { name = refl; options = refl; flags = refl }
+
+-- ---- the jobs
+
+change_there : (change : EditView) (image name file : Text) (volume : Option VolumeOptions) (places : Option Text) → is_some volume ≡ true
     → is_some (change_of change (Some image) (Some name) volume (Some file) places) ≡ true
 change_there change image name file None places there = cc
 change_there change image name file (Some v) places there = refl
 
-lock_volume : HasVolume lock_form
-lock_volume = record {
+edit_volume : (command : Text) → HasVolume (edit_form command)
+edit_volume command = record {
   fs = record { at = (2, omega arith, refl); is = refl };
   order = record { at = (3, omega arith, refl); is = refl };
   fs_values = refl;
   order_values = refl;
 }
 
-pub is_some-line_job-lock : (positionals : List Text) (uses : List Use) → IsPlainLine lock_form positionals uses → is_some (line_job lock_form positionals uses) ≡ true
-is_some-line_job-lock [] uses plain = let same = plain.as_many in absurd (omega (arith, same))
-is_some-line_job-lock (image ∷ []) uses plain = let same = plain.as_many in absurd (omega (arith, same))
-is_some-line_job-lock (image ∷ name ∷ []) uses plain =
-    let said = line_said lock_form (image ∷ name ∷ []) uses in
-    let file = needed_said lock_form (image ∷ name ∷ []) uses out (record { at = (4, omega arith, refl); is = refl }) plain in
-    rw file.1 (change_there Lock image name file.0 (volume_by said) (said (codes "reserve"))
-    (volume_by-line lock_form (image ∷ name ∷ []) uses said lock_volume plain refl refl))
-is_some-line_job-lock (a ∷ b ∷ c ∷ rest) uses plain = let same = plain.as_many in absurd (omega (arith, same))
+-- a command whose job is an edit
+pub is_some-line_job-edit : (command : Text) (change : EditView) → ((said : Said) → job_by command said ≡ edit_by change said) → (positionals : List Text) (uses : List Use)
+    → IsPlainLine (edit_form command) positionals uses → is_some (line_job (edit_form command) positionals uses) ≡ true
+is_some-line_job-edit command change is [] uses plain = let same = plain.as_many in absurd (omega (arith, same))
+is_some-line_job-edit command change is (image ∷ []) uses plain = let same = plain.as_many in absurd (omega (arith, same))
+is_some-line_job-edit command change is (image ∷ name ∷ []) uses plain =
+    let f = edit_form command in
+    let said = line_said f (image ∷ name ∷ []) uses in
+    let file = needed_said f (image ∷ name ∷ []) uses out (record { at = (4, omega arith, refl); is = refl }) plain in
+    let there : is_some (edit_by change said) ≡ true =
+    rw file.1 (change_there change image name file.0 (volume_by said) (said (codes "reserve"))
+    (volume_by-line f (image ∷ name ∷ []) uses said (edit_volume command) plain refl refl)) in
+    ap (λ (job : Option JobView). is_some job) (is said) ∙ there
+is_some-line_job-edit command change is (a ∷ b ∷ c ∷ rest) uses plain = let same = plain.as_many in absurd (omega (arith, same))
 
-unlock_volume : HasVolume unlock_form
-unlock_volume = record {
-  fs = record { at = (2, omega arith, refl); is = refl };
-  order = record { at = (3, omega arith, refl); is = refl };
+rename_volume : HasVolume rename_form
+rename_volume = record {
+  fs = record { at = (3, omega arith, refl); is = refl };
+  order = record { at = (4, omega arith, refl); is = refl };
   fs_values = refl;
   order_values = refl;
 }
 
-pub is_some-line_job-unlock : (positionals : List Text) (uses : List Use) → IsPlainLine unlock_form positionals uses → is_some (line_job unlock_form positionals uses) ≡ true
-is_some-line_job-unlock [] uses plain = let same = plain.as_many in absurd (omega (arith, same))
-is_some-line_job-unlock (image ∷ []) uses plain = let same = plain.as_many in absurd (omega (arith, same))
-is_some-line_job-unlock (image ∷ name ∷ []) uses plain =
-    let said = line_said unlock_form (image ∷ name ∷ []) uses in
-    let file = needed_said unlock_form (image ∷ name ∷ []) uses out (record { at = (4, omega arith, refl); is = refl }) plain in
-    rw file.1 (change_there Unlock image name file.0 (volume_by said) (said (codes "reserve"))
-    (volume_by-line unlock_form (image ∷ name ∷ []) uses said unlock_volume plain refl refl))
-is_some-line_job-unlock (a ∷ b ∷ c ∷ rest) uses plain = let same = plain.as_many in absurd (omega (arith, same))
+pub is_some-line_job-rename : (positionals : List Text) (uses : List Use) → IsPlainLine rename_form positionals uses → is_some (line_job rename_form positionals uses) ≡ true
+is_some-line_job-rename [] uses plain = let same = plain.as_many in absurd (omega (arith, same))
+is_some-line_job-rename (image ∷ []) uses plain = let same = plain.as_many in absurd (omega (arith, same))
+is_some-line_job-rename (image ∷ name ∷ []) uses plain = let same = plain.as_many in absurd (omega (arith, same))
+is_some-line_job-rename (image ∷ name ∷ new ∷ []) uses plain =
+    let said = line_said rename_form (image ∷ name ∷ new ∷ []) uses in
+    let file = needed_said rename_form (image ∷ name ∷ new ∷ []) uses out (record { at = (5, omega arith, refl); is = refl }) plain in
+    rw file.1 (change_there (Rename new) image name file.0 (volume_by said) (said (codes "reserve"))
+    (volume_by-line rename_form (image ∷ name ∷ new ∷ []) uses said rename_volume plain refl refl))
+is_some-line_job-rename (a ∷ b ∷ c ∷ d ∷ rest) uses plain = let same = plain.as_many in absurd (omega (arith, same))

@@ -20,7 +20,7 @@ use Rattle.shop_words.proofs.PlainValues.{Test, flag_same, leaves_off, option_sa
 
 -- the names by which a job is said, and those of its flags
 abbrev pub option_names : List Text
-option_names = codes "image" ∷ codes "fs" ∷ codes "order" ∷ codes "to" ∷ codes "out" ∷ codes "volume" ∷ codes "reserve" ∷ codes "name" ∷ codes "stop-after" ∷ codes "cert" ∷ codes "from" ∷ []
+option_names = codes "image" ∷ codes "fs" ∷ codes "order" ∷ codes "to" ∷ codes "out" ∷ codes "volume" ∷ codes "reserve" ∷ codes "name" ∷ codes "new" ∷ codes "stop-after" ∷ codes "cert" ∷ codes "from" ∷ []
 
 abbrev pub flag_names : List Text
 flag_names = codes "data-disk" ∷ codes "whole" ∷ codes "reclaim" ∷ codes "words" ∷ []
@@ -49,6 +49,7 @@ job_by-same command s t options flags =
       options (codes "volume") refl,
       options (codes "reserve") refl,
       options (codes "name") refl,
+      options (codes "new") refl,
       options (codes "stop-after") refl,
       options (codes "cert") refl,
       options (codes "from") refl,

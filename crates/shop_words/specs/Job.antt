@@ -14,7 +14,7 @@ use Rattle.shop_words.specs.declared.job.ImageOrder.{ImageOrder}
 use Rattle.shop_words.specs.declared.job.ImageOrder.TheVariants as orders
 use Rattle.shop_words.specs.declared.job.VolumeOptions.{VolumeOptions}
 use Rattle.shop_words.specs.declared.job.Edit.{Edit}
-use Rattle.shop_words.specs.declared.job.Edit.TheVariants.{Lock, Unlock}
+use Rattle.shop_words.specs.declared.job.Edit.TheVariants as edits
 use Rattle.shop_words.specs.declared.optimizing.Optimization.{Optimization}
 use Rattle.shop_words.specs.declared.reading.Conversion.{Conversion}
 use Rattle.shop_words.specs.declared.job.Job.{Job}
@@ -41,6 +41,19 @@ pub record OptimizationView : Type 0 where
 abbrev pub optimization_view : Optimization → OptimizationView
 optimization_view o = record { image = o.image.now; volume = o.volume; out = o.out.now; stop_after = o.stop_after }
 
+-- what is changed of a file, as contracts see it
+pub data EditView : Type 0 where
+  Lock : EditView
+  Unlock : EditView
+  Delete : EditView
+  Rename : Text → EditView
+
+abbrev pub edit_view : Edit → EditView
+edit_view edits.Lock = Lock
+edit_view edits.Unlock = Unlock
+edit_view edits.Delete = Delete
+edit_view (edits.Rename new) = Rename (string_bytes new)
+
 -- a job as contracts see it
 pub data JobView : Type 0 where
   catalog : Text → VolumeOptions → JobView
@@ -49,7 +62,7 @@ pub data JobView : Type 0 where
   convert : ConversionView → JobView
   plan : Text → VolumeOptions → Option Text → Bool → Bool → JobView
   optimize : OptimizationView → Option Text → Bool → Option Text → JobView
-  edit : Text → Text → VolumeOptions → Edit → Text → Option Text → JobView
+  edit : Text → Text → VolumeOptions → EditView → Text → Option Text → JobView
   verify : Text → VolumeOptions → Text → Option Text → Bool → JobView
   identify : Text → JobView
 
@@ -68,7 +81,7 @@ job_view (jobs.Plan image volume reserve reclaim in_words) = plan (string_bytes 
 job_view (jobs.Optimize image volume out reserve reclaim stop_after cert) =
     optimize (record { image = string_bytes image; volume = volume; out = string_bytes out; stop_after = stop_after })
     (option_map string_bytes reserve) reclaim (option_map string_bytes cert)
-job_view (jobs.Edit image name volume change out reserve) = edit (string_bytes image) (string_bytes name) volume change (string_bytes out) (option_map string_bytes reserve)
+job_view (jobs.Edit image name volume change out reserve) = edit (string_bytes image) (string_bytes name) volume (edit_view change) (string_bytes out) (option_map string_bytes reserve)
 job_view (jobs.Verify image volume from reserve reclaim) = verify (string_bytes image) volume (string_bytes from) (option_map string_bytes reserve) reclaim
 job_view (jobs.Identify image) = identify (string_bytes image)
 
@@ -153,12 +166,16 @@ abbrev pub optimize_by : Said → Option JobView
 optimize_by said = option_map (λ optimization. optimize optimization (said (codes "reserve")) (is_on (said (codes "reclaim"))) (said (codes "cert"))) (optimization_by said)
 
 -- a change of a file, where each part of it is there; places to reserve are said or not
-abbrev pub change_of : Edit → Option Text → Option Text → Option VolumeOptions → Option Text → Option Text → Option JobView
+abbrev pub change_of : EditView → Option Text → Option Text → Option VolumeOptions → Option Text → Option Text → Option JobView
 change_of change (Some image) (Some name) (Some volume) (Some out) reserve = Some (edit image name volume change out reserve)
 change_of change _ _ _ _ reserve = None
 
-abbrev pub edit_by : Edit → Said → Option JobView
+abbrev pub edit_by : EditView → Said → Option JobView
 edit_by change said = change_of change (said (codes "image")) (said (codes "name")) (volume_by said) (said (codes "out")) (said (codes "reserve"))
+
+-- a file gets the new name that is said
+abbrev pub rename_by : Said → Option JobView
+rename_by said = option_and_then (λ new. edit_by (Rename new) said) (said (codes "new"))
 
 abbrev pub verify_by : Said → Option JobView
 verify_by said = option_and_then (λ image. option_and_then (λ from. option_map (λ volume.
@@ -178,6 +195,8 @@ job_by command said =
     if bytes_eq command (codes "optimize") then optimize_by said else
     if bytes_eq command (codes "lock") then edit_by Lock said else
     if bytes_eq command (codes "unlock") then edit_by Unlock said else
+    if bytes_eq command (codes "delete") then edit_by Delete said else
+    if bytes_eq command (codes "rename") then rename_by said else
     if bytes_eq command (codes "verify") then verify_by said else
     if bytes_eq command (codes "identify") then identify_by said else None
 

@@ -100,6 +100,10 @@ read_form = record {
   parameters = image ∷ name_of_file ∷ file_system ∷ order ∷ whole ∷ data_disk ∷ [];
 }
 
+-- the new name of a file
+abbrev pub new_name : ParameterView
+new_name = parameter (codes "new") positional
+
 -- `--to ORDER`, `--out FILE` and `--volume V`
 abbrev pub to : ParameterView
 to = parameter (codes "to") (needed (one_of order_words))
@@ -144,19 +148,26 @@ optimize_form = record {
   parameters = image ∷ file_system ∷ order ∷ out ∷ data_disk ∷ reserve ∷ reclaim ∷ stop_after ∷ cert ∷ [];
 }
 
-abbrev pub edit_parameters : List ParameterView
-edit_parameters = image ∷ name_of_file ∷ file_system ∷ order ∷ out ∷ data_disk ∷ reserve ∷ []
-
-abbrev pub lock_form : FormView
-lock_form = record {
-  name = codes "lock";
-  parameters = edit_parameters;
+-- a command that changes a file
+abbrev pub edit_form : Text → FormView
+edit_form command = record {
+  name = command;
+  parameters = image ∷ name_of_file ∷ file_system ∷ order ∷ out ∷ data_disk ∷ reserve ∷ [];
 }
 
+abbrev pub lock_form : FormView
+lock_form = edit_form (codes "lock")
+
 abbrev pub unlock_form : FormView
-unlock_form = record {
-  name = codes "unlock";
-  parameters = edit_parameters;
+unlock_form = edit_form (codes "unlock")
+
+abbrev pub delete_form : FormView
+delete_form = edit_form (codes "delete")
+
+abbrev pub rename_form : FormView
+rename_form = record {
+  name = codes "rename";
+  parameters = image ∷ name_of_file ∷ new_name ∷ file_system ∷ order ∷ out ∷ data_disk ∷ reserve ∷ [];
 }
 
 abbrev pub verify_form : FormView
@@ -173,4 +184,4 @@ identify_form = record {
 
 -- the forms of all commands
 abbrev pub forms : List FormView
-forms = catalog_form ∷ check_form ∷ read_form ∷ convert_form ∷ plan_form ∷ optimize_form ∷ lock_form ∷ unlock_form ∷ verify_form ∷ identify_form ∷ []
+forms = catalog_form ∷ check_form ∷ read_form ∷ convert_form ∷ plan_form ∷ optimize_form ∷ lock_form ∷ unlock_form ∷ delete_form ∷ rename_form ∷ verify_form ∷ identify_form ∷ []

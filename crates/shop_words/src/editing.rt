@@ -2,7 +2,7 @@
 ghost use Rattle.std.specs.Prelude.{◌≡◌, IfOk, option_map};
 ghost use Rattle.clap.specs.Matches.{found_of};
 ghost use Rattle.clap.specs.Walk.{first_of, rows_of};
-ghost use Rattle.shop_words.specs.Job.{edit_by, job_view};
+ghost use Rattle.shop_words.specs.Job.{edit_by, edit_view, job_view, rename_by};
 
 use crate::job::{Edit, Job};
 use crate::reading::{said, text_said, volume_in};
@@ -16,7 +16,7 @@ pub fn edit_in(
     edit: Edit,
 ) -> Result<Option<Job>, AllocError>
     ensures { IfOk result (λ job. option_map job_view job
-        ≡ edit_by edit (λ name. first_of name (rows_of (found_of matches.now)))) }
+        ≡ edit_by (edit_view edit) (λ name. first_of name (rows_of (found_of matches.now)))) }
 {
     let (Some(image), Some(name)) = (said(matches, "image"), said(matches, "name")) else {
         return Ok(None);
@@ -32,4 +32,15 @@ pub fn edit_in(
         out: out.to_string(alloc)?,
         reserve: text_said(alloc, matches, "reserve")?,
     }))
+}
+
+/// The job of the command that renames a file.
+pub fn rename_in(alloc: Global, matches: &ArgMatches<'_>) -> Result<Option<Job>, AllocError>
+    ensures { IfOk result (λ job. option_map job_view job
+        ≡ rename_by (λ name. first_of name (rows_of (found_of matches.now)))) }
+{
+    match text_said(alloc, matches, "new")? {
+        Some(new) => edit_in(alloc, matches, Edit::Rename { new }),
+        None => Ok(None),
+    }
 }

@@ -30,12 +30,16 @@ pub struct VolumeOptions {
 }
 
 /// What is changed of a file.
-#[derive(Clone, Copy, Debug, PartialEq, Eq)]
+#[derive(Debug, PartialEq, Eq, Drop)]
 pub enum Edit {
     /// It is locked: the system then refuses to delete it, to rename it or to write it.
     Lock,
     /// It is unlocked.
     Unlock,
+    /// It is deleted.
+    Delete,
+    /// It gets another name, in the directory in which it stands.
+    Rename { new: String },
 }
 
 /// A command with its words.

@@ -110,6 +110,36 @@ Status:
      REFUSED NotFound  no file has the name
   4  FAILED Input, Device or Memory: a file, a sector of the image or memory failed";
 
+const DELETE: &str = "\
+Example:
+  a2shop delete disk.dsk HELLO --fs dos --order dos --out without.dsk
+
+Status:
+  0  the image is written, without the file
+  3  REFUSED Reserve   the word of --reserve is no list of places
+     REFUSED Length    the image has another length than one in its order
+     REFUSED Check     the volume has a fault; check tells which
+     REFUSED NotFound  no file has the name
+     REFUSED Locked    the file is locked; see unlock
+  4  FAILED Input, Device or Memory: a file, a sector of the image or memory failed";
+
+const RENAME: &str = "\
+Example:
+  a2shop rename disk.dsk HELLO GREETING --fs dos --order dos --out renamed.dsk
+
+A file stays in its directory: the new name of a ProDOS file is the last of its path.
+
+Status:
+  0  the image is written, with the file under its new name
+  3  REFUSED Reserve   the word of --reserve is no list of places
+     REFUSED Length    the image has another length than one in its order
+     REFUSED Check     the volume has a fault; check tells which
+     REFUSED NotFound  no file has the name
+     REFUSED Name      no file may have the new name
+     REFUSED Exists    an entry of the directory has the new name
+     REFUSED Locked    the file is locked; see unlock
+  4  FAILED Input, Device or Memory: a file, a sector of the image or memory failed";
+
 const VERIFY: &str = "\
 Example:
   a2shop verify disk.dsk --fs dos --order dos --from disk.cert
@@ -146,6 +176,8 @@ pub fn of(command: &str) -> &'static str {
         "optimize" => OPTIMIZE,
         "lock" => LOCK,
         "unlock" => UNLOCK,
+        "delete" => DELETE,
+        "rename" => RENAME,
         "verify" => VERIFY,
         "identify" => IDENTIFY,
         _ => "",

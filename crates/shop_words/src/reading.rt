@@ -8,7 +8,7 @@ ghost use Rattle.clap.specs.Walk.{first_of, rows_of};
 ghost use Rattle.shop_words.specs.Job.{conversion_by, conversion_view, file_system_named, found_job, is_on};
 ghost use Rattle.shop_words.specs.Job.{job_by, job_view, number_named, order_named, volume_by, volume_number};
 
-use crate::editing::edit_in;
+use crate::editing::{edit_in, rename_in};
 use crate::job::{Edit, FileSystem, ImageOrder, Job, VolumeOptions};
 use crate::optimizing::optimize_in;
 use clap::ArgMatches;
@@ -269,6 +269,8 @@ fn command_job(
         "optimize" => optimize_in(alloc, matches),
         "lock" => edit_in(alloc, matches, Edit::Lock),
         "unlock" => edit_in(alloc, matches, Edit::Unlock),
+        "delete" => edit_in(alloc, matches, Edit::Delete),
+        "rename" => rename_in(alloc, matches),
         "verify" => verify_in(alloc, matches),
         "identify" => identify_in(alloc, matches),
         _ => Ok(None),

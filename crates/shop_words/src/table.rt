@@ -55,6 +55,12 @@ const NAME: Parameter = Parameter {
     help: "Name of the file in the volume",
 };
 
+const NEW: Parameter = Parameter {
+    name: "new",
+    kind: Kind::Positional,
+    help: "New name of the file; in ProDOS the last of its path, without a slash",
+};
+
 const FILE_SYSTEM: Parameter = Parameter {
     name: "fs",
     kind: Kind::Needed(Values::OneOf(&["dos", "prodos"])),
@@ -193,6 +199,25 @@ const FORMS: &[Form] = &[
         name: "unlock",
         parameters: &[IMAGE, NAME, FILE_SYSTEM, ORDER, OUT, DATA_DISK, RESERVE],
         help: "Unlock a file of a volume",
+    },
+    Form {
+        name: "delete",
+        parameters: &[IMAGE, NAME, FILE_SYSTEM, ORDER, OUT, DATA_DISK, RESERVE],
+        help: "Delete a file of a volume",
+    },
+    Form {
+        name: "rename",
+        parameters: &[
+            IMAGE,
+            NAME,
+            NEW,
+            FILE_SYSTEM,
+            ORDER,
+            OUT,
+            DATA_DISK,
+            RESERVE,
+        ],
+        help: "Rename a file of a volume",
     },
     Form {
         name: "verify",

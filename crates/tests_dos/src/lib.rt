@@ -15,4 +15,6 @@ mod maps;
 #[cfg(test)]
 mod memory;
 #[cfg(test)]
+mod new_files;
+#[cfg(test)]
 mod reserved;

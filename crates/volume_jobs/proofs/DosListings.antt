@@ -16,7 +16,6 @@ use Rattle.shop_words.specs.declared.job.FileSystem.TheVariants.{Dos}
 use Rattle.job_reply.specs.declared.reply.Reply.{Reply}
 use Rattle.volume_jobs.specs.CatalogReply.{IsListed}
 use Rattle.volume_jobs.specs.DosCatalogReply.{IsDosCatalogReply, IsDosListed}
-use Rattle.file_edits.specs.DosEdits.{dos_edits}
 use Rattle.volume_jobs.specs.Volume.{device_of, edits_of, files_of, form_of}
 use Rattle.volume_jobs.specs.VolumeReply.{IsVolumeReply}
 use Rattle.volume_jobs.specs.Work.{IsWorkReply, Catalog}
@@ -39,7 +38,7 @@ listed-dos data_disk reserved device reply size is = elim is [
 ]
 
 reply-dos : (order : Order) (data_disk : Bool) (image : List ℕ) (reply : Reply)
-    → IsVolumeReply Dos order data_disk None image (IsWorkReply Catalog Sector dos_files dos_edits) reply → IsDosCatalogReply order image reply
+    → IsVolumeReply Dos order data_disk None image (IsWorkReply Catalog Sector dos_files (edits_of Dos)) reply → IsDosCatalogReply order image reply
 reply-dos order data_disk image reply is = elim is [
   | inl refused ↦ absurd (refused.1 tt)
   | inr (inl long) ↦ inl (long.0, long.2)

@@ -12,11 +12,11 @@ use Rattle.job_reply.specs.declared.reply.Refusal.TheVariants as refusals
 use Rattle.job_reply.specs.declared.reply.Failure.TheVariants as failures
 use Rattle.job_reply.specs.declared.reply.Reply.{Reply}
 use Rattle.file_cmds.specs.Files.{FileMeaning}
-use Rattle.file_edits.specs.Edits.{EditMeaning}
 use Rattle.volume_jobs.specs.CatalogReply.{IsListed}
 use Rattle.volume_jobs.specs.ReadReply.{IsRead}
 use Rattle.volume_jobs.specs.EditReply.{IsEdited, IsImageReply}
-use Rattle.shop_words.specs.declared.job.Edit.{Edit}
+use Rattle.volume_jobs.specs.EditRules.{EditRules}
+use Rattle.shop_words.specs.Job.{EditView}
 use Rattle.volume_jobs.specs.Work.{IsWorkReply, WorkView, Catalog, Read, Check, Plan, Optimize, Change, Verify}
 use Rattle.volume_jobs.specs.CheckReply.{IsChecked}
 use Rattle.volume_jobs.specs.PlanReply.{IsPlanned, TellsOpening}
@@ -115,14 +115,13 @@ read_not_made name whole files format device reply is made = elim is [
 ]
 
 -- an edit that makes an image answers with it
-pub edited_image : (edit : Edit) (name : List ℕ) (files : FileMeaning) (edits : EditMeaning) (format : Meaning) (device : DeviceState) (reply : Reply)
+pub edited_image : (edit : EditView) (name : List ℕ) (files : FileMeaning) (edits : EditRules) (format : Meaning) (device : DeviceState) (reply : Reply)
     → IsEdited edit name files edits format device reply → IsMade reply → IsImageReply reply
 edited_image edit name files edits format device reply is made = elim is [
   | inl done ↦ done.image
-  | inr (inl refused) ↦ absurd (refused_not_made refusals.Check reply refused.0 made)
-  | inr (inr (inl refused)) ↦ absurd (refused_not_made refusals.NotFound reply refused.0 made)
-  | inr (inr (inr (inl failed))) ↦ absurd (failed_not_made failures.Device reply failed.0 made)
-  | inr (inr (inr (inr failed))) ↦ absurd (failed_not_made failures.Memory reply failed made)
+  | inr (inl refused) ↦ absurd (refused_not_made refused.0 reply refused.1 made)
+  | inr (inr (inl failed)) ↦ absurd (failed_not_made failures.Device reply failed.0 made)
+  | inr (inr (inr failed)) ↦ absurd (failed_not_made failures.Memory reply failed made)
 ]
 
 pub volume_made : (file_system : FileSystem) (order : Order) (data_disk : Bool) (reserve : Option (List ℕ)) (image : List ℕ) (Tells : Meaning → DeviceState → Reply → Type 0) (reply : Reply)
@@ -141,7 +140,7 @@ MakesNone (Optimize reclaim limit) = ⊥
 MakesNone (Change edit name) = ⊥
 MakesNone work = Unit {0}
 
-pub work_not_made : (work : WorkView) → MakesNone work → (form : PlaceForm) (files : FileMeaning) (edits : EditMeaning) (format : Meaning) (device : DeviceState) (reply : Reply)
+pub work_not_made : (work : WorkView) → MakesNone work → (form : PlaceForm) (files : FileMeaning) (edits : EditRules) (format : Meaning) (device : DeviceState) (reply : Reply)
     → IsWorkReply work form files edits format device reply → ¬ IsMade reply
 work_not_made Catalog none form files edits format device reply is made = listed_not_made form files format device reply is made
 work_not_made (Read name whole) none form files edits format device reply is made = read_not_made name whole files format device reply is made

@@ -6,30 +6,47 @@ use Rattle.vol_format.specs.Meaning.{Meaning}
 use Rattle.vol_files.specs.Files.{File}
 use Rattle.file_cmds.specs.DosText.{Text}
 use Rattle.file_cmds.specs.Files.{FileMeaning}
+use Rattle.file_edits.specs.Deleted.{HasFirstProtected, IsDeleteEdit}
 use Rattle.file_edits.specs.Edited.{HasChanged, HasNoSuchFile, IsLockEdit}
-use Rattle.file_edits.specs.Edits.{EditMeaning}
-use Rattle.file_edits.specs.Lists.{with_lock_on}
+use Rattle.file_edits.specs.Lists.{with_lock_on, without_named}
+use Rattle.file_edits.specs.Renamed.{HasFirstBeside, HasFirstLocked, IsRenameEdit, with_new_name}
 use Rattle.delete_laws.specs.Writes.{Write}
 use Rattle.file_edits.specs.Writes.{device_after}
-use Rattle.shop_words.specs.declared.job.Edit.{Edit}
-use Rattle.shop_words.specs.declared.job.Edit.TheVariants as words
+use Rattle.shop_words.specs.Job.{EditView, Lock, Unlock, Delete, Rename}
+use Rattle.job_reply.specs.declared.reply.Refusal.{Refusal}
 use Rattle.job_reply.specs.declared.reply.Refusal.TheVariants as refusals
 use Rattle.job_reply.specs.declared.reply.Failure.TheVariants as failures
 use Rattle.job_reply.specs.declared.reply.Reply.{Reply}
 use Rattle.job_reply.specs.declared.reply.Reply.TheVariants.{Made, Refused, Failed}
 use Rattle.job_reply.specs.Reply.{made_of}
+use Rattle.volume_jobs.specs.EditRules.{EditRules}
 use Rattle.volume_jobs.specs.OptimizeReply.{AreBytesOf, KeepsBytes}
 use Rattle.volume_jobs.specs.Volume.{LacksUnit}
 
 -- the list of the files of a volume after an edit of the first file with a name
-abbrev pub edited_files : Edit → Text → FileMeaning → EditMeaning → List File → List File
-edited_files words.Lock name files edits = with_lock_on files edits name true
-edited_files words.Unlock name files edits = with_lock_on files edits name false
+abbrev pub edited_files : EditView → Text → FileMeaning → EditRules → List File → List File
+edited_files Lock name files rules = with_lock_on files rules.lock name true
+edited_files Unlock name files rules = with_lock_on files rules.lock name false
+edited_files Delete name files rules = without_named files name
+edited_files (Rename new) name files rules = with_new_name files rules.name name new
 
 -- these writes are the edit
-abbrev pub AreWritesOf : Edit → Text → FileMeaning → EditMeaning → Meaning → List (List ℕ) → List Write → Type 0
-AreWritesOf words.Lock name files edits format store writes = IsLockEdit format files edits store name true writes
-AreWritesOf words.Unlock name files edits format store writes = IsLockEdit format files edits store name false writes
+abbrev pub AreWritesOf : EditView → Text → FileMeaning → EditRules → Meaning → List (List ℕ) → List Write → Type 0
+AreWritesOf Lock name files rules format store writes = IsLockEdit format files rules.lock store name true writes
+AreWritesOf Unlock name files rules format store writes = IsLockEdit format files rules.lock store name false writes
+AreWritesOf Delete name files rules format store writes = IsDeleteEdit format files rules.erase store name writes
+AreWritesOf (Rename new) name files rules format store writes = IsRenameEdit format files rules.name store name new writes
+
+-- Why an edit is refused: the volume is not accepted; no file of it has the name; no file may get the new name, or an entry beside the file has it; the entry of
+-- the file does not let it be deleted or renamed. Nothing else is told as refused.
+abbrev pub IsCause : Refusal → EditView → Text → FileMeaning → EditRules → Meaning → List (List ℕ) → Type 0
+IsCause refusals.Check edit name files rules format store = ¬ IsVolume format store
+IsCause refusals.NotFound edit name files rules format store = HasNoSuchFile format files store name
+IsCause refusals.Name (Rename new) name files rules format store = rules.name.may_have new ≡ false
+IsCause refusals.Exists (Rename new) name files rules format store = HasFirstBeside format files rules.name store name new
+IsCause refusals.Locked (Rename new) name files rules format store = HasFirstLocked format files rules.name store name
+IsCause refusals.Locked Delete name files rules format store = HasFirstProtected format files rules.erase store name
+IsCause refusal edit name files rules format store = ⊥
 
 -- the reply is an image, for the output file
 abbrev pub IsImageReply : Reply → Type 0
@@ -38,20 +55,18 @@ IsImageReply reply = ⊥
 
 -- The edit is done: all its writes stand on the device and nothing else has changed, the files are those of before after the edit of their list, and the reply has the image under
 -- the device.
-pub record IsEditedReply (edit : Edit) (name : Text) (files : FileMeaning) (edits : EditMeaning) (format : Meaning) (device : DeviceState) (reply : Reply) : Type 0 where
+pub record IsEditedReply (edit : EditView) (name : Text) (files : FileMeaning) (rules : EditRules) (format : Meaning) (device : DeviceState) (reply : Reply) : Type 0 where
   pub writes : List Write
-  pub are_writes : AreWritesOf edit name files edits format device.store writes
-  pub changed : HasChanged format (edited_files edit name files edits) device.store (device_after writes device).store
+  pub are_writes : AreWritesOf edit name files rules format device.store writes
+  pub changed : HasChanged format (edited_files edit name files rules) device.store (device_after writes device).store
   pub image : IsImageReply reply
   pub made : AreBytesOf (device_after writes device) (made_of reply)
   pub kept : KeepsBytes device (made_of reply)
 
--- The reply to an edit: the image with the volume after it; `Check` for a volume that is not accepted; `NotFound` where no file of the volume has
--- the name; a failure where a unit can't be read or written; or want of memory.
-abbrev pub IsEdited : Edit → Text → FileMeaning → EditMeaning → Meaning → DeviceState → Reply → Type 0
-IsEdited edit name files edits format device reply =
-    IsEditedReply edit name files edits format device reply
-    ⊎ ((reply ≡ Refused refusals.Check) × ¬ IsVolume format device.store)
-    ⊎ ((reply ≡ Refused refusals.NotFound) × HasNoSuchFile format files device.store name)
+-- The reply to an edit: the image with the volume after it; a refusal with its cause; a failure where a unit can't be read or written; or want of memory.
+abbrev pub IsEdited : EditView → Text → FileMeaning → EditRules → Meaning → DeviceState → Reply → Type 0
+IsEdited edit name files rules format device reply =
+    IsEditedReply edit name files rules format device reply
+    ⊎ ((refusal : Refusal) × (reply ≡ Refused refusal) × IsCause refusal edit name files rules format device.store)
     ⊎ ((reply ≡ Failed failures.Device) × LacksUnit device)
     ⊎ (reply ≡ Failed failures.Memory)

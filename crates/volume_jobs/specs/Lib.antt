@@ -11,5 +11,6 @@ pub mod PlanWords
 pub mod OptimizeReply
 pub mod VerifyReply
 pub mod ReadReply
+pub mod EditRules
 pub mod EditReply
 pub mod Work

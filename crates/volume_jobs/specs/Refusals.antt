@@ -1,10 +1,12 @@
 -- The replies to what the layers below refuse.
+use Rattle.std.specs.Prelude.{Option, Some, None}
 use Rattle.file_cmds.specs.declared.error.CmdError.{CmdError}
 use Rattle.file_cmds.specs.declared.error.CmdError.TheVariants as commands
 use Rattle.file_edits.specs.declared.error.EditError.{EditError}
 use Rattle.file_edits.specs.declared.error.EditError.TheVariants as edits
 use Rattle.reserved_places.specs.declared.error.ReserveError.{ReserveError}
 use Rattle.reserved_places.specs.declared.error.ReserveError.TheVariants as reserves
+use Rattle.job_reply.specs.declared.reply.Refusal.{Refusal}
 use Rattle.job_reply.specs.declared.reply.Refusal.TheVariants as refusals
 use Rattle.job_reply.specs.declared.reply.Failure.TheVariants as failures
 use Rattle.job_reply.specs.declared.reply.Reply.{Reply}
@@ -22,9 +24,21 @@ abbrev pub reply_to_reserve : ReserveError → Reply
 reply_to_reserve reserves.Syntax = Refused refusals.Reserve
 reply_to_reserve reserves.Memory = Failed failures.Memory
 
--- the reply to the refusal of an edit: those of a lock
+-- the refusal that is told of an edit; none where the device or memory failed
+abbrev pub refusal_of_edit : EditError → Option Refusal
+refusal_of_edit edits.Check = Some refusals.Check
+refusal_of_edit edits.NotFound = Some refusals.NotFound
+refusal_of_edit edits.Name = Some refusals.Name
+refusal_of_edit edits.Exists = Some refusals.Exists
+refusal_of_edit edits.Locked = Some refusals.Locked
+refusal_of_edit error = None
+
+-- the reply to the refusal of an edit
 abbrev pub reply_to_edit_refusal : EditError → Reply
 reply_to_edit_refusal edits.Check = Refused refusals.Check
 reply_to_edit_refusal edits.NotFound = Refused refusals.NotFound
+reply_to_edit_refusal edits.Name = Refused refusals.Name
+reply_to_edit_refusal edits.Exists = Refused refusals.Exists
+reply_to_edit_refusal edits.Locked = Refused refusals.Locked
 reply_to_edit_refusal edits.Device = Failed failures.Device
 reply_to_edit_refusal error = Failed failures.Memory

@@ -19,11 +19,15 @@ use Rattle.file_cmds.specs.DosFiles.{dos_files}
 use Rattle.file_cmds.specs.Files.{FileMeaning}
 use Rattle.file_cmds.specs.ProFiles.{pro_files}
 use Rattle.file_edits.specs.DosEdits.{dos_edits}
-use Rattle.file_edits.specs.Edits.{EditMeaning}
+use Rattle.file_edits.specs.DosErasing.{dos_erasures}
+use Rattle.file_edits.specs.DosNames.{dos_names}
 use Rattle.file_edits.specs.ProEdits.{pro_edits}
+use Rattle.file_edits.specs.ProErasing.{pro_erasures}
+use Rattle.file_edits.specs.ProNames.{pro_names}
 use Rattle.shop_words.specs.declared.job.FileSystem.{FileSystem}
 use Rattle.shop_words.specs.declared.job.FileSystem.TheVariants.{Dos, Prodos}
 use Rattle.job_reply.specs.Disk.{disk_bytes}
+use Rattle.volume_jobs.specs.EditRules.{EditRules, edit_rules}
 
 -- DOS 3.3 has sectors and ProDOS blocks, and so are their places named
 abbrev pub kind_of : FileSystem → UnitKind
@@ -45,9 +49,9 @@ files_of Dos = dos_files
 files_of Prodos = pro_files
 
 -- how its entries are changed
-abbrev pub edits_of : FileSystem → EditMeaning
-edits_of Dos = dos_edits
-edits_of Prodos = pro_edits
+abbrev pub edits_of : FileSystem → EditRules
+edits_of Dos = edit_rules dos_edits dos_names dos_erasures
+edits_of Prodos = edit_rules pro_edits pro_names pro_erasures
 
 -- an image in this order may have so many bytes: those of a disk, or in ProDOS those of 16 to 65,535 blocks
 abbrev pub TakesBytes : FileSystem → Order → ℕ → Type 0

@@ -7,11 +7,11 @@ use Rattle.job_reply.specs.declared.reply.Reply.{Reply}
 use Rattle.volume_jobs.specs.declared.volume.Work.{Work}
 use Rattle.volume_jobs.specs.declared.volume.Work.TheVariants as works
 use Rattle.file_cmds.specs.Files.{FileMeaning}
-use Rattle.file_edits.specs.Edits.{EditMeaning}
-use Rattle.shop_words.specs.declared.job.Edit.{Edit}
+use Rattle.shop_words.specs.Job.{EditView, edit_view}
 use Rattle.volume_jobs.specs.CatalogReply.{IsListed}
 use Rattle.volume_jobs.specs.ReadReply.{IsRead}
 use Rattle.volume_jobs.specs.EditReply.{IsEdited}
+use Rattle.volume_jobs.specs.EditRules.{EditRules}
 use Rattle.volume_jobs.specs.CheckReply.{IsChecked}
 use Rattle.volume_jobs.specs.OptimizeReply.{IsOptimized}
 use Rattle.volume_jobs.specs.PlanReply.{IsPlanned}
@@ -25,7 +25,7 @@ pub data WorkView : Type 0 where
   Check : WorkView
   Plan : Bool → Bool → WorkView
   Optimize : Bool → ℕ → WorkView
-  Change : Edit → List ℕ → WorkView
+  Change : EditView → List ℕ → WorkView
   Verify : Bool → List ℕ → WorkView
 
 abbrev pub work_view : Work → WorkView
@@ -34,10 +34,10 @@ work_view (works.Read name whole) = Read name.now whole
 work_view works.Check = Check
 work_view (works.Plan reclaim in_words) = Plan reclaim in_words
 work_view (works.Optimize reclaim limit) = Optimize reclaim limit
-work_view (works.Edit edit name) = Change edit name.now
+work_view (works.Edit edit name) = Change (edit_view edit.now) name.now
 work_view (works.Verify reclaim certificate) = Verify reclaim certificate.now
 
-abbrev pub IsWorkReply : WorkView → PlaceForm → FileMeaning → EditMeaning → Meaning → DeviceState → Reply → Type 0
+abbrev pub IsWorkReply : WorkView → PlaceForm → FileMeaning → EditRules → Meaning → DeviceState → Reply → Type 0
 IsWorkReply Catalog form files edits format device reply = IsListed form files format device reply
 IsWorkReply (Read name whole) form files edits format device reply = IsRead name whole files format device reply
 IsWorkReply Check form files edits format device reply = IsChecked form format device reply

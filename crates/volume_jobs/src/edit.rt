@@ -1,30 +1,34 @@
 // The job that changes a file of a volume.
-ghost use Rattle.std.specs.Prelude.{◌≡◌, [], Err, IfErr, IsTrue, OnOk, None, Some};
-ghost use Rattle.vol_format.specs.Accepted.{IsVolume};
-ghost use Rattle.file_edits.specs.Edited.{HasChanged, HasNoSuchFile};
-ghost use Rattle.file_edits.specs.Refusal.{IsLockRefusal};
+ghost use Rattle.std.specs.Prelude.{◌≡◌, [], IfErr, IfSome, IsTrue, OnOk, None, Some};
+ghost use Rattle.file_edits.specs.Edited.{HasChanged};
+ghost use Rattle.file_edits.specs.Renamed.{IsRenameRefusal};
 ghost use Rattle.file_edits.specs.Writes.{HasEdited};
-ghost use Rattle.volume_jobs.specs.EditReply.{AreWritesOf, IsEdited, edited_files};
-ghost use Rattle.volume_jobs.specs.Refusals.{reply_to_edit_refusal};
+ghost use Rattle.shop_words.specs.Job.{edit_view};
+ghost use Rattle.volume_jobs.specs.EditReply.{AreWritesOf, IsCause, IsEdited, edited_files};
+ghost use Rattle.volume_jobs.specs.EditRules.{edit_rules};
+ghost use Rattle.volume_jobs.specs.Refusals.{refusal_of_edit, reply_to_edit_refusal};
 
 use crate::optimize::image_bytes;
 use a2_device::{Device, ImageDevice};
-use file_edits::{EditError, EditableFormat, lock, unlock};
+use file_edits::{EditError, EditableFormat, delete, lock, rename, unlock};
 use job_reply::{Failure, Refusal, Reply};
 use shop_words::Edit;
 use std::alloc::Global;
 
 // The reply to the refusal of an edit.
 fn edit_refusal_reply(error: EditError) -> Reply
-    requires { IsLockRefusal error }
+    requires { IsRenameRefusal error }
     ensures { result ≡ reply_to_edit_refusal error }
 {
     match error {
         EditError::Check => Reply::Refused(Refusal::Check),
         EditError::NotFound => Reply::Refused(Refusal::NotFound),
+        EditError::Name => Reply::Refused(Refusal::Name),
+        EditError::Exists => Reply::Refused(Refusal::Exists),
+        EditError::Locked => Reply::Refused(Refusal::Locked),
         EditError::Device => Reply::Failed(Failure::Device),
         EditError::Memory => Reply::Failed(Failure::Memory),
-        _ => unreachable!(),
+        EditError::TooLong | EditError::DirFull | EditError::VolumeFull => unreachable!(),
     }
 }
 
@@ -33,24 +37,28 @@ fn edited<D: Device, F: EditableFormat>(
     alloc: Global,
     device: &mut D,
     format: &F,
-    edit: Edit,
+    edit: &Edit,
     name: &[u8],
 ) -> Result<(), EditError>
     requires unit { (D.state device.old).unit_size ≡ (F.meaning format.now).unit_size }
     requires places { (F.meaning format.now).Takes (D.state device.old).places }
 
-    ensures edited { HasEdited (AreWritesOf edit name.now (F.files format.now) (F.edits format.now) (F.meaning format.now) (D.state device.old).store)
-        result (D.state device.old) (D.state device.new) }
-    ensures refusals { IfErr result IsLockRefusal }
+    ensures edited { HasEdited (AreWritesOf (edit_view edit.now) name.now (F.files format.now) (edit_rules (F.edits format.now) (F.names format.now) (F.erasures format.now))
+        (F.meaning format.now) (D.state device.old).store) result (D.state device.old) (D.state device.new) }
+    // those of a rename: a lock and a deletion have some of them
+    ensures refusals { IfErr result IsRenameRefusal }
     ensures files { IsTrue (D.state device.old).honest → OnOk result (HasChanged (F.meaning format.now)
-        (edited_files edit name.now (F.files format.now) (F.edits format.now)) (D.state device.old).store (D.state device.new).store) }
-    ensures check { IsTrue (D.state device.old).honest → result ≡ Err EditError.Check → IsVolume (F.meaning format.now) (D.state device.old).store → ⊥ }
-    ensures not_found { IsTrue (D.state device.old).honest → result ≡ Err EditError.NotFound
-        → HasNoSuchFile (F.meaning format.now) (F.files format.now) (D.state device.old).store name.now }
+        (edited_files (edit_view edit.now) name.now (F.files format.now) (edit_rules (F.edits format.now) (F.names format.now) (F.erasures format.now)))
+        (D.state device.old).store (D.state device.new).store) }
+    ensures caused { IsTrue (D.state device.old).honest → IfErr result (λ error. IfSome (refusal_of_edit error) (λ refusal.
+        IsCause refusal (edit_view edit.now) name.now (F.files format.now) (edit_rules (F.edits format.now) (F.names format.now) (F.erasures format.now))
+        (F.meaning format.now) (D.state device.old).store)) }
 {
     match edit {
         Edit::Lock => lock(alloc, device, format, name),
         Edit::Unlock => unlock(alloc, device, format, name),
+        Edit::Delete => delete(alloc, device, format, name),
+        Edit::Rename { new } => rename(alloc, device, format, name, new.as_bytes()),
     }
 }
 
@@ -59,14 +67,15 @@ pub fn edit_reply<F: EditableFormat>(
     alloc: Global,
     device: ImageDevice,
     format: &F,
-    edit: Edit,
+    edit: &Edit,
     name: &[u8],
 ) -> Reply
     requires unit { (⟦<ImageDevice as Device>⟧.state device).unit_size ≡ (F.meaning format.now).unit_size }
     requires places { (F.meaning format.now).Takes (⟦<ImageDevice as Device>⟧.state device).places }
     ensures { IsTrue (⟦<ImageDevice as Device>⟧.state device).honest → (⟦<ImageDevice as Device>⟧.state device).read_failures ≡ Some 0
         → (⟦<ImageDevice as Device>⟧.state device).write_failures ≡ Some [] → (⟦<ImageDevice as Device>⟧.state device).passes ≡ None → (⟦<ImageDevice as Device>⟧.state device).writes ≡ 0
-        → IsEdited edit name.now (F.files format.now) (F.edits format.now) (F.meaning format.now) (⟦<ImageDevice as Device>⟧.state device) result }
+        → IsEdited (edit_view edit.now) name.now (F.files format.now) (edit_rules (F.edits format.now) (F.names format.now) (F.erasures format.now)) (F.meaning format.now)
+        (⟦<ImageDevice as Device>⟧.state device) result }
 {
     let mut device = device;
     match edited(alloc, &mut device, format, edit, name) {

@@ -3,6 +3,7 @@ ghost use Rattle.std.specs.Prelude.{◌≡◌, ◌⊎◌, [], None, Some, IsTrue
 ghost use Rattle.a2_image.specs.Image.{IsOfDisk};
 ghost use Rattle.reserved_places.specs.declared.error.ReserveError.TheVariants.{Syntax};
 ghost use Rattle.shop_words.specs.declared.job.FileSystem.TheVariants.{Dos as OfDos, Prodos as OfProdos};
+ghost use Rattle.volume_jobs.specs.EditRules.{edit_rules};
 ghost use Rattle.volume_jobs.specs.Refusals.{reply_to_reserve};
 ghost use Rattle.volume_jobs.specs.Volume.{IsImageOf, RefusesBytes, TakesBytes, device_of, edits_of, files_of, form_of as form_by, meaning_of};
 ghost use Rattle.volume_jobs.specs.VolumeReply.{IsVolumeReply, NamesPlaces, ReservesNamed};
@@ -62,7 +63,7 @@ pub enum Work<'a> {
     },
     /// A change of a file.
     Edit {
-        edit: Edit,
+        edit: &'a Edit,
         name: &'a [u8],
     },
     /// Whether this text is a certificate that shows that no plan is shorter.
@@ -125,7 +126,7 @@ fn work_reply<F: EditableFormat>(
     requires places { (F.meaning format.now).Takes (⟦<ImageDevice as Device>⟧.state device).places }
     ensures { IsTrue (⟦<ImageDevice as Device>⟧.state device).honest → (⟦<ImageDevice as Device>⟧.state device).read_failures ≡ Some 0
         → (⟦<ImageDevice as Device>⟧.state device).write_failures ≡ Some [] → (⟦<ImageDevice as Device>⟧.state device).passes ≡ None → (⟦<ImageDevice as Device>⟧.state device).writes ≡ 0
-        → IsWorkReply (work_view work.entry) form (F.files format.now) (F.edits format.now) (F.meaning format.now) (⟦<ImageDevice as Device>⟧.state device) result }
+        → IsWorkReply (work_view work.entry) form (F.files format.now) (edit_rules (F.edits format.now) (F.names format.now) (F.erasures format.now)) (F.meaning format.now) (⟦<ImageDevice as Device>⟧.state device) result }
 {
     let mut device = device;
     match work {
