@@ -3,7 +3,7 @@ _a2shop() {
   local word=${COMP_WORDS[COMP_CWORD]} before=${COMP_WORDS[COMP_CWORD-1]}
   COMPREPLY=()
   if [ "$COMP_CWORD" -eq 1 ]; then
-    mapfile -t COMPREPLY < <(compgen -W "catalog check read convert plan optimize lock unlock verify identify help" -- "$word")
+    mapfile -t COMPREPLY < <(compgen -W "catalog check read convert plan optimize lock unlock delete rename verify identify help" -- "$word")
     return
   fi
   case "${COMP_WORDS[1]} $before" in
@@ -35,6 +35,14 @@ _a2shop() {
     'unlock --order') mapfile -t COMPREPLY < <(compgen -W "dos prodos nibble auto" -- "$word"); return ;;
     'unlock --out') mapfile -t COMPREPLY < <(compgen -f -- "$word"); return ;;
     'unlock --reserve') return ;;
+    'delete --fs') mapfile -t COMPREPLY < <(compgen -W "dos prodos auto" -- "$word"); return ;;
+    'delete --order') mapfile -t COMPREPLY < <(compgen -W "dos prodos nibble auto" -- "$word"); return ;;
+    'delete --out') mapfile -t COMPREPLY < <(compgen -f -- "$word"); return ;;
+    'delete --reserve') return ;;
+    'rename --fs') mapfile -t COMPREPLY < <(compgen -W "dos prodos auto" -- "$word"); return ;;
+    'rename --order') mapfile -t COMPREPLY < <(compgen -W "dos prodos nibble auto" -- "$word"); return ;;
+    'rename --out') mapfile -t COMPREPLY < <(compgen -f -- "$word"); return ;;
+    'rename --reserve') return ;;
     'verify --fs') mapfile -t COMPREPLY < <(compgen -W "dos prodos auto" -- "$word"); return ;;
     'verify --order') mapfile -t COMPREPLY < <(compgen -W "dos prodos nibble auto" -- "$word"); return ;;
     'verify --from') mapfile -t COMPREPLY < <(compgen -f -- "$word"); return ;;
@@ -53,6 +61,8 @@ _a2shop() {
     optimize) mapfile -t COMPREPLY < <(compgen -W "--fs --order --out --data-disk --reserve --reclaim --stop-after --cert --help" -- "$word") ;;
     lock) mapfile -t COMPREPLY < <(compgen -W "--fs --order --out --data-disk --reserve --help" -- "$word") ;;
     unlock) mapfile -t COMPREPLY < <(compgen -W "--fs --order --out --data-disk --reserve --help" -- "$word") ;;
+    delete) mapfile -t COMPREPLY < <(compgen -W "--fs --order --out --data-disk --reserve --help" -- "$word") ;;
+    rename) mapfile -t COMPREPLY < <(compgen -W "--fs --order --out --data-disk --reserve --help" -- "$word") ;;
     verify) mapfile -t COMPREPLY < <(compgen -W "--fs --order --from --data-disk --reserve --reclaim --help" -- "$word") ;;
     identify) mapfile -t COMPREPLY < <(compgen -W " --help" -- "$word") ;;
   esac

@@ -1,19 +1,19 @@
 -- A plan by its units, and its body.
-use Rattle.std.proofs.Common.{◌≡◌, ◌<◌, ◌≤◌, ◌+◌, ℕ, Bool, true, false, List, [], ◌∷◌, length, get_or, refl, sym, ◌∙◌, ap, subst, arith, inl, inr}
-use Rattle.std.specs.Prelude.{◌⊎◌, ◌↔◌, filter, map}
+use Rattle.std.proofs.Common.{◌≡◌, ◌<◌, ℕ, Bool, true, List, length, get_or, refl, sym, ◌∙◌, ap, subst, arith}
+use Rattle.std.specs.Prelude.{filter}
 use Rattle.std.specs.List.{AllPairs, Contains, range_with_len}
-use Rattle.std.proofs.lemmas.Bool.{cases_lt}
-use Rattle.std.proofs.lemmas.List.{get_or_default, get_or-map, get_or_past, length-map}
+use Rattle.std.proofs.lemmas.List.{get_or_default, get_or-map, length-map}
 use Rattle.std.proofs.lemmas.List.FromFn.{get_or-map-range_with_len, get_or-range_with_len, length-map-range_with_len, length-range_with_len}
 use Rattle.std.proofs.lemmas.List.Kept.{AllPairs-filter}
 use Rattle.a2_device.specs.Device.{unit_at}
 use Rattle.vol_parts.specs.declared.part.PartKind.TheVariants.{Body}
 use Rattle.vol_format.proofs.Filters.{in_filter, out_of_filter}
 use Rattle.vol_files.specs.Files.{Stored}
-use Rattle.entry_laws.specs.Built.{HasPlannedUnit, IsBodyOf, Planned, no_plan, part_of, unit_of}
+use Rattle.entry_laws.specs.Built.{HasPlannedUnit, IsBodyOf, Planned, no_plan, unit_of}
 use Rattle.new_files.specs.declared.part.NewPart.{NewPart}
 use Rattle.new_files.specs.Order.{HasStored, no_part, part_at}
 use Rattle.new_files.specs.Parts.{is_stored, new_part}
+use Rattle.new_files.proofs.Membership.{inside_file}
 use Rattle.file_plans.specs.Placed.{HasBodyUnits, HasPlaced, plan_with, placed, stored_units}
 use Rattle.file_plans.proofs.Parts.{part_is, plan_kind, plan_number}
 
@@ -34,12 +34,6 @@ module _ (file : ℕ) (parts : List NewPart) (places : List ℕ) (units : List (
 
   pub plan_unit : (k : ℕ) → k < length parts → unit_of (plan_with file parts places units) k ≡ unit_at units k
   plan_unit k within = ap (λ (plan : Planned). plan.unit) (plan_at k within)
-
-inside_file : (stored : List Bool) (number : ℕ) → is_stored stored number ≡ true → number < length stored
-inside_file stored number is = elim (cases_lt number (length stored)) [
-  | inl within ↦ within
-  | inr past ↦ absurd (let none = get_or_past stored number false past in cc)
-]
 
 module _ (stored : List Bool) (content : List (List ℕ)) where
   abbrev numbers : List ℕ

@@ -1,5 +1,5 @@
 mod Ranges
 mod Pushed
-mod Membership
+pub mod Membership
 mod DosOrder
 mod ProOrder

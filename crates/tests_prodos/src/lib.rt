@@ -1,5 +1,5 @@
-//! The tests of `pro_bitmap`, `pro_dir`, `pro_tree` and `pro_format`: the worked rows with literal values, printed text, each
-//! public call on its happy path, refused memory, and reads that fail.
+//! The tests of `pro_bitmap`, `pro_dir`, `pro_tree` and `pro_format`, and of `new_files` and `file_plans` for ProDOS: the worked
+//! rows with literal values, printed text, each public call on its happy path, refused memory, and reads that fail.
 #![tactic(auto)]
 
 #[cfg(test)]
@@ -16,6 +16,8 @@ mod formats;
 mod maps;
 #[cfg(test)]
 mod memory;
+#[cfg(test)]
+mod new_parts;
 #[cfg(test)]
 mod paths;
 #[cfg(test)]
