@@ -1,5 +1,5 @@
 pub mod Fronts
 pub mod Removing
-pub mod Releasing
+pub mod Marking
 pub mod Leaving
 pub mod WholeDeletion

@@ -18,12 +18,13 @@ use Rattle.write_laws.proofs.ReadBack.{reads_back}
 use Rattle.entry_laws.specs.EditLaws.{IsFileFree}
 use Rattle.entry_laws.specs.Entered.{HasSameRest, HasLeft, IsTaken}
 use Rattle.delete_laws.specs.Deleted.{HasEntryErased, HasFileDeleted}
-use Rattle.delete_laws.specs.Deletion.{Release, release_of, free_mark, release_write, IsOwnPlace, IsDeletion}
+use Rattle.delete_laws.specs.Deletion.{free_mark, release_write, IsOwnPlace, IsDeletion}
+use Rattle.delete_laws.specs.Markings.{Marking, marking_of, all_marks}
 use Rattle.delete_laws.specs.Lists.{IsFirst}
 use Rattle.delete_laws.specs.Writes.{Write, store_after}
 use Rattle.delete_laws.proofs.Fronts.{after_both, unit_after}
 use Rattle.delete_laws.proofs.Leaving.{erased, lost_after, entry_erased, file_deleted}
-use Rattle.delete_laws.proofs.Releasing.{all_marks, all_of_marks, mark_of_place, marked_or_not, CanRelease, releases_kept}
+use Rattle.delete_laws.proofs.Marking.{all_of_marks, mark_of_place, marked_or_not, CanMarkIn, markings_kept}
 
 module _ (format : Meaning) (laws : IsReadable format) (movable : IsMovable format) (writable : IsWritable format) (free : IsFileFree format)
     (is_named : List ℕ → Bool) (directory : Directory) (file : ℕ) (store : List (List ℕ)) (writes : List Write)
@@ -35,7 +36,7 @@ module _ (format : Meaning) (laws : IsReadable format) (movable : IsMovable form
   abbrev system : List Write
   system = deletion.system
 
-  abbrev releases : List Release
+  abbrev releases : List Marking
   releases = deletion.releases
 
   abbrev released : List Write
@@ -48,20 +49,20 @@ module _ (format : Meaning) (laws : IsReadable format) (movable : IsMovable form
   base = store_after system store
 
   -- which places are the file's
-  all_own : (m : ℕ) → All (λ (mark : Mark). Taken mark.place) (all_marks (take m releases))
-  all_own m = all_of_marks (λ (mark : Mark). Taken mark.place) releases m (λ k inside i d within. (deletion.own k inside i d within).own)
+  all_own : (m : ℕ) → All (λ (mark : Mark). Taken mark.place) (all_marks true (take m releases))
+  all_own m = all_of_marks true (λ (mark : Mark). Taken mark.place) releases m (λ k inside i d within. (deletion.own k inside i d within).own)
 
   whole_list : take (length releases) releases ≡ releases
   whole_list = take_all (length releases) releases (omega arith)
 
   either : (place : ℕ) → Taken place ⊎ ¬ Taken place
-  either place = elim (marked_or_not (all_marks releases) place) [
-    | inl has ↦ inl (subst Taken has.2 (All-contains (λ (mark : Mark). Taken mark.place) (all_marks releases) has.0
-        (subst (λ (l : List Release). All (λ (mark : Mark). Taken mark.place) (all_marks l)) whole_list (all_own (length releases))) has.1))
+  either place = elim (marked_or_not (all_marks true releases) place) [
+    | inl has ↦ inl (subst Taken has.2 (All-contains (λ (mark : Mark). Taken mark.place) (all_marks true releases) has.0
+        (subst (λ (l : List Marking). All (λ (mark : Mark). Taken mark.place) (all_marks true l)) whole_list (all_own (length releases))) has.1))
     | inr none ↦ inr (λ taken.
         let here = deletion.each taken.0 taken.1 in
-        All-contains (λ (mark : Mark). mark.place ≢ place) (all_marks releases) (free_mark taken.0.place) none
-        (mark_of_place releases here.0 taken.0.place here.1 here.2) taken.2)
+        All-contains (λ (mark : Mark). mark.place ≢ place) (all_marks true releases) (free_mark taken.0.place) none
+        (mark_of_place true releases here.0 taken.0.place here.1 here.2) taken.2)
   ]
 
   -- the entry is erased
@@ -96,24 +97,24 @@ module _ (format : Meaning) (laws : IsReadable format) (movable : IsMovable form
     unreached = λ freed part reach same. (has_left.lost_own own.own.0 own.own.1).unreached part reach (same ∙ sym own.own.2);
   }
 
-  can_release : (k : ℕ) → k < length releases → CanRelease format few store base (release_of releases k)
+  can_release : (k : ℕ) → k < length releases → CanMarkIn format true few store base (marking_of releases k)
   can_release k inside = record {
-    inside = subst (λ n. (release_of releases k).at < n) places_are (deletion.inside k inside);
-    same = unit_after system store (release_of releases k).at (deletion.apart k inside);
-    marks = All-map (CanMark format few base (release_of releases k).at) free_mark (release_of releases k).places
-        (λ i d within. can_mark (release_of releases k).at (get_place i d) (deletion.own k inside i d within));
+    inside = subst (λ n. (marking_of releases k).at < n) places_are (deletion.inside k inside);
+    same = unit_after system store (marking_of releases k).at (deletion.apart k inside);
+    marks = All-map (CanMark format few base (marking_of releases k).at) free_mark (marking_of releases k).places
+        (λ i d within. can_mark (marking_of releases k).at (get_place i d) (deletion.own k inside i d within));
   }
     where
       get_place : ℕ → ℕ → ℕ
-      get_place i d = slice_index_or (release_of releases k).places i d
+      get_place i d = slice_index_or (marking_of releases k).places i d
 
-  kept : (m : ℕ) → IsKept format few (marked few (all_marks (take m releases))) base (store_after (take m released) base)
-  kept m = releases_kept format laws movable writable store full releases m few base has_left.accepted can_release deletion.rising
+  kept : (m : ℕ) → IsKept format few (marked few (all_marks true (take m releases))) base (store_after (take m released) base)
+  kept m = markings_kept format laws movable writable true store full releases m few base has_left.accepted can_release deletion.rising
 
   pub front_marked : (m : ℕ) → HasEntryErased format is_named directory file store (store_after (take m released) base)
   front_marked m =
       entry_erased format laws movable free is_named directory few file store base accepted first deletion.takes deletion.within deletion.is described rest
-      (all_marks (take m releases)) (store_after (take m released) base) (kept m) (all_own m) either
+      (all_marks true (take m releases)) (store_after (take m released) base) (kept m) (all_own m) either
 
   pub stopped : (made : ℕ) → 0 < made → made ≤ length writes → HasEntryErased format is_named directory file store (store_after (take made writes) store)
   stopped made some below = elim (cases_lt (length system) made) [
@@ -130,28 +131,28 @@ module _ (format : Meaning) (laws : IsReadable format) (movable : IsMovable form
   ]
 
   -- all of them stand
-  marked_all : (place : ℕ) → Taken place → is_free (marked few (all_marks releases)) place ≡ true
+  marked_all : (place : ℕ) → Taken place → is_free (marked few (all_marks true releases)) place ≡ true
   marked_all place taken =
       let here = deletion.each taken.0 taken.1 in
-      let has = mark_of_place releases here.0 taken.0.place here.1 here.2 in
-      let own = All-contains (IsOwnPlace format directory few file store (release_of releases here.0).at) (release_of releases here.0).places taken.0.place (deletion.own here.0 here.1) here.2 in
+      let has = mark_of_place true releases here.0 taken.0.place here.1 here.2 in
+      let own = All-contains (IsOwnPlace format directory few file store (marking_of releases here.0).at) (marking_of releases here.0).places taken.0.place (deletion.own here.0 here.1) here.2 in
       let inside : taken.0.place < length few.free = omega (arith, own.inside, writable.marks base few described) in
-      ap (is_free (marked few (all_marks releases))) (sym taken.2)
-      ∙ reads_back (free_mark taken.0.place) (all_marks releases) few inside has
+      ap (is_free (marked few (all_marks true releases))) (sym taken.2)
+      ∙ reads_back (free_mark taken.0.place) (all_marks true releases) few inside has
       (λ i d below same. all_free i d below)
     where
-      all_free : All (λ (mark : Mark). mark.free ≡ true) (all_marks releases)
-      all_free = subst (λ (l : List Release). All (λ (mark : Mark). mark.free ≡ true) (all_marks l)) whole_list
-          (all_of_marks (λ (mark : Mark). mark.free ≡ true) releases (length releases) (λ k inside i d within. refl))
+      all_free : All (λ (mark : Mark). mark.free ≡ true) (all_marks true releases)
+      all_free = subst (λ (l : List Marking). All (λ (mark : Mark). mark.free ≡ true) (all_marks true l)) whole_list
+          (all_of_marks true (λ (mark : Mark). mark.free ≡ true) releases (length releases) (λ k inside i d within. refl))
 
-  kept_all : IsKept format few (marked few (all_marks releases)) base (store_after released base)
+  kept_all : IsKept format few (marked few (all_marks true releases)) base (store_after released base)
   kept_all =
-      subst (λ (l : List Write). IsKept format few (marked few (all_marks releases)) base (store_after l base))
+      subst (λ (l : List Write). IsKept format few (marked few (all_marks true releases)) base (store_after l base))
       (take_all (length releases) released (omega (arith, length-map releases (release_write format store))))
-      (subst (λ (l : List Release). IsKept format few (marked few (all_marks l)) base (store_after (take (length releases) released) base)) whole_list (kept (length releases)))
+      (subst (λ (l : List Marking). IsKept format few (marked few (all_marks true l)) base (store_after (take (length releases) released) base)) whole_list (kept (length releases)))
 
-  own_all : All (λ (mark : Mark). Taken mark.place) (all_marks releases)
-  own_all = subst (λ (l : List Release). All (λ (mark : Mark). Taken mark.place) (all_marks l)) whole_list (all_own (length releases))
+  own_all : All (λ (mark : Mark). Taken mark.place) (all_marks true releases)
+  own_all = subst (λ (l : List Marking). All (λ (mark : Mark). Taken mark.place) (all_marks true l)) whole_list (all_own (length releases))
 
   both : {b : Bool} → b ≡ false → b ≡ true → ⊥
   both e e' = cc
@@ -159,10 +160,10 @@ module _ (format : Meaning) (laws : IsReadable format) (movable : IsMovable form
   done_marked : HasFileDeleted format is_named store (store_after released base)
   done_marked =
       file_deleted format laws movable free is_named directory few file store base accepted first deletion.takes deletion.within deletion.is described rest
-      (all_marks releases) (store_after released base) kept_all own_all either
+      (all_marks true releases) (store_after released base) kept_all own_all either
       (λ place lost taken. both
       (lost_after format laws movable free is_named directory few file store base accepted first deletion.takes deletion.within deletion.is described rest
-      (all_marks releases) (store_after released base) kept_all own_all place lost).marked (marked_all place taken))
+      (all_marks true releases) (store_after released base) kept_all own_all place lost).marked (marked_all place taken))
 
   pub done : HasFileDeleted format is_named store (store_after writes store)
   done = subst (HasFileDeleted format is_named store)

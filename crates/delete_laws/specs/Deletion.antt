@@ -1,38 +1,23 @@
 -- The writes that delete a file: its entry is erased, then its places are marked free (Beneath Apple DOS, chapter 4; ProDOS 8 Technical Reference Manual,
 -- chapter 4 and appendix B).
-use Rattle.std.specs.Prelude.{◌≡◌, ◌≢◌, ◌<◌, ◌≤◌, ℕ, true, List, [], ◌++◌, length, map, take, All, Contains, slice_index_or}
-use Rattle.a2_device.specs.Device.{unit_at}
+use Rattle.std.specs.Prelude.{◌≡◌, ◌≢◌, ◌<◌, ◌≤◌, ℕ, true, List, ◌++◌, length, map, take, All, Contains}
 use Rattle.vol_parts.specs.declared.part.Part.{Part}
 use Rattle.vol_format.specs.Directory.{Directory, entries, entry_of, root_of, map_place}
 use Rattle.vol_format.specs.Meaning.{Meaning}
 use Rattle.entry_laws.specs.Entered.{HasSameRest, IsTaken}
 use Rattle.entry_laws.specs.Inserted.{inserted}
 use Rattle.entry_laws.specs.PartsOf.{PartOf}
-use Rattle.write_laws.specs.Marked.{with_marks}
 use Rattle.write_laws.specs.declared.mark.Mark.{Mark}
+use Rattle.delete_laws.specs.Markings.{Marking, marking_of, mark_as, marking_write}
 use Rattle.delete_laws.specs.Writes.{Write, store_after}
-
--- places that are marked free in the unit of the map at a place
-pub record Release : Type 0 where
-  pub at : ℕ
-  pub places : List ℕ
-
-abbrev pub no_release : Release
-no_release = record { at = 0; places = [] }
-
-abbrev pub release_of : List Release → ℕ → Release
-release_of releases k = slice_index_or releases k no_release
 
 -- a mark that says that a place is free
 abbrev pub free_mark : ℕ → Mark
-free_mark place = record { place = place; free = true }
+free_mark = mark_as true
 
--- the one write that marks them
-abbrev pub release_write : Meaning → List (List ℕ) → Release → Write
-release_write format store release = record {
-  place = release.at;
-  unit = with_marks format (unit_at store release.at) (map free_mark release.places);
-}
+-- the one write of a unit of the map that marks places of it free
+abbrev pub release_write : Meaning → List (List ℕ) → Marking → Write
+release_write format = marking_write format true
 
 -- The mark of a place of the file that a link leads to stands in this unit of the map.
 pub record IsOwnPlace (format : Meaning) (directory few : Directory) (file : ℕ) (store : List (List ℕ)) (at place : ℕ) : Type 0 where
@@ -52,12 +37,12 @@ pub record IsDeletion (format : Meaning) (directory : Directory) (file : ℕ) (s
   pub erases : 0 < length system
   pub described : (n : ℕ) → 0 < n → n ≤ length system → format.Describes (store_after (take n system) store) few
   pub rest : (n : ℕ) → 0 < n → n ≤ length system → HasSameRest few store (store_after (take n system) store)
-  pub releases : List Release
+  pub releases : List Marking
   pub are : writes ≡ system ++ map (release_write format store) releases
-  pub inside : (k : ℕ) → k < length releases → (release_of releases k).at < few.places
-  pub rising : (j k : ℕ) → j < k → k < length releases → (release_of releases j).at < (release_of releases k).at
-  pub apart : (k : ℕ) → k < length releases → All (λ (write : Write). write.place ≢ (release_of releases k).at) system
+  pub inside : (k : ℕ) → k < length releases → (marking_of releases k).at < few.places
+  pub rising : (j k : ℕ) → j < k → k < length releases → (marking_of releases j).at < (marking_of releases k).at
+  pub apart : (k : ℕ) → k < length releases → All (λ (write : Write). write.place ≢ (marking_of releases k).at) system
   pub own : (k : ℕ) → k < length releases
-      → All (IsOwnPlace format directory few file store (release_of releases k).at) (release_of releases k).places
+      → All (IsOwnPlace format directory few file store (marking_of releases k).at) (marking_of releases k).places
   pub each : (part : Part) → PartOf format store (root_of directory file) part
-      → (k : ℕ) × (k < length releases) × Contains (release_of releases k).places part.place
+      → (k : ℕ) × (k < length releases) × Contains (marking_of releases k).places part.place

@@ -1,4 +1,5 @@
 pub mod Writes
 pub mod Lists
+pub mod Markings
 pub mod Deletion
 pub mod Deleted

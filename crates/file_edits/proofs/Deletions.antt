@@ -1,5 +1,5 @@
 -- The writes that delete the file of an entry, as they are prepared.
-use Rattle.std.specs.Prelude.{◌≡◌, ◌<◌, ◌==◌, ℕ, false, List, length, map, filter, slice_index_or, All, Contains, Result, Ok, Err, IfOk, IfErr, IsTrue}
+use Rattle.std.specs.Prelude.{◌≡◌, ◌<◌, ◌==◌, ℕ, true, false, List, length, map, filter, slice_index_or, All, Contains, Result, Ok, Err, IfOk, IfErr, IsTrue}
 use Rattle.std.proofs.Common.{sym, ◌∙◌, subst, arith}
 use Rattle.std.proofs.lemmas.Bool.{eqb-true}
 use Rattle.std.proofs.lemmas.List.Elements.{All-map, All-filter, All-append, All-contains_itself}
@@ -21,7 +21,7 @@ use Rattle.file_edits.specs.declared.error.EditError.{EditError}
 use Rattle.file_edits.specs.declared.error.EditError.TheVariants.{Device}
 use Rattle.file_edits.specs.Deleted.{HasFirstUnprotected, HasPlacesOf, IsDeleteRefusal, IsDeleteTold, places_of_file}
 use Rattle.file_edits.specs.Erasing.{EraseMeaning, HasWholeUnits, IsErasable}
-use Rattle.file_edits.specs.Releases.{IsReleased}
+use Rattle.file_edits.specs.Markings.{AreMarked}
 use Rattle.file_edits.proofs.WholeDelete.{same_number, whole_delete}
 
 -- what follows of a value that is told
@@ -79,14 +79,14 @@ module _ (directory : Directory) (file : ℕ) (parts : List Part) where
 
 -- what is true of all that erase and of all that release is true of both
 module _ {A : Type 0} (format : Meaning) (directory : Directory) (places : List ℕ) (old : DeviceState) (start writes : List (Prepared A))
-    (all : IsReleased format directory places old start writes) where
+    (all : AreMarked format true directory places old start writes) where
   pub all_inside : (n : ℕ) → directory.places ≡ n → All (λ (write : Prepared A). write.place < n) start → All (λ (write : Prepared A). write.place < n) writes
   all_inside n same below = subst (All (λ (write : Prepared A). write.place < n)) (sym all.1.are)
-      (All-append (λ (write : Prepared A). write.place < n) start all.1.released below (λ i d within. omega (arith, same, all.1.inside i d within)))
+      (All-append (λ (write : Prepared A). write.place < n) start all.1.marked below (λ i d within. omega (arith, same, all.1.inside i d within)))
 
   pub all_sizes : (n : ℕ) → old.unit_size ≡ n → All (λ (write : Prepared A). length write.unit.items ≡ n) start → All (λ (write : Prepared A). length write.unit.items ≡ n) writes
   all_sizes n same sizes = subst (All (λ (write : Prepared A). length write.unit.items ≡ n)) (sym all.1.are)
-      (All-append (λ (write : Prepared A). length write.unit.items ≡ n) start all.1.released sizes (λ i d within. all.1.sizes i d within ∙ same))
+      (All-append (λ (write : Prepared A). length write.unit.items ≡ n) start all.1.marked sizes (λ i d within. all.1.sizes i d within ∙ same))
 
 pub whole_units : (format : Meaning) (device : DeviceState) → IsWhole device → device.unit_size ≡ format.unit_size → HasWholeUnits format device.store
 whole_units format device whole size = λ place below. whole.units place (omega (arith, below, whole.all)) ∙ size
@@ -97,7 +97,7 @@ pub made_deletion : {A : Type 0} (format : Meaning) (laws : IsReadable format) (
     → IsTrue old.honest → IsWhole old → old.unit_size ≡ format.unit_size → IsAccepted format directory old.store
     → file < entries directory → is_directory (entry_of directory file) ≡ false
     → IsPartsOf format directory old.store parts → All (λ (part : Part). part.place < directory.places) parts
-    → erasures.Erases old.store directory file (map write_of start) → IsReleased format directory (places_of_file file parts) old start writes
+    → erasures.Erases old.store directory file (map write_of start) → AreMarked format true directory (places_of_file file parts) old start writes
     → (deletion : IsDeletion format directory file old.store (map write_of writes)) × erasures.Erases old.store directory file deletion.system
 made_deletion format laws movable erasures erasable directory file parts old start writes honest whole size accepted inside is_file are below erases all =
     let erasing = erasable.erasing old.store directory file (map write_of start) accepted.described inside is_file (whole_units format old whole size) erases in

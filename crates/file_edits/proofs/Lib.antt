@@ -7,7 +7,7 @@ pub mod EntryWrites
 pub mod Making
 pub mod MadeDeletion
 pub mod Nearest
-pub mod ReleasedUnits
+pub mod MarkedUnits
 pub mod WholeDelete
 pub mod NameWrites
 pub mod NamedEntries

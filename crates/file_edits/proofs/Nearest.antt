@@ -3,7 +3,7 @@ use Rattle.std.specs.Prelude.{◌≡◌, ◌⊎◌, ◌<◌, ◌≤◌, nat_lt, 
 use Rattle.std.proofs.Common.{refl, sym, ◌∙◌, ap, subst, arith, inl, inr}
 use Rattle.std.proofs.lemmas.Bool.{ltb-true, ltb-false}
 use Rattle.vol_format.specs.Directory.{Directory, map_place}
-use Rattle.file_edits.specs.Releases.{nearer, nearest, HasMarkOf}
+use Rattle.file_edits.specs.Markings.{nearer, nearest, HasMarkOf}
 
 -- what is known of the nearest of some units, where `Known` are those that came up
 record IsNearest (from : ℕ) (Known : ℕ → Type 0) (at : ℕ) : Type 0 where

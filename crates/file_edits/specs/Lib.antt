@@ -5,7 +5,7 @@ pub mod Edits
 pub mod Lists
 pub mod Edited
 pub mod Erasing
-pub mod Releases
+pub mod Markings
 pub mod DosEdits
 pub mod DosErasing
 pub mod ProEdits

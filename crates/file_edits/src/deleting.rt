@@ -15,7 +15,7 @@ ghost use Rattle.file_edits.specs.Refusal.{told_device};
 ghost use Rattle.file_edits.specs.Renamed.{IsReadRefusal};
 ghost use Rattle.file_edits.specs.Writes.{HasEdited};
 
-use crate::releasing::release_all;
+use crate::marking::mark_all;
 use crate::writes::{Prepared, write_all};
 use crate::{EditError, EditableFormat};
 use a2_device::Device;
@@ -74,7 +74,15 @@ fn deletion<D: Device, F: EditableFormat, A: Allocator + Copy>(
 {
     let places = places_of_file(alloc, parts, file)?;
     let erased = format.erase(alloc, device, volume, file)?;
-    release_all(alloc, device, format, volume, places.as_slice(), erased)
+    mark_all(
+        alloc,
+        device,
+        format,
+        volume,
+        places.as_slice(),
+        true,
+        erased,
+    )
 }
 
 // Deletes the first file that a path names.

@@ -1,5 +1,5 @@
 // What deleting a file leaves of an honest device.
-ghost use Rattle.std.specs.Prelude.{◌≡◌, ◌<◌, ℕ, Bool, List, All, Contains, Result, Err, IsTrue, OnOk, length, map, ◌++◌};
+ghost use Rattle.std.specs.Prelude.{◌≡◌, ◌<◌, ℕ, Bool, true, List, All, Contains, Result, Err, IsTrue, OnOk, length, map, ◌++◌};
 ghost use Rattle.a2_device.specs.Device.{DeviceState};
 ghost use Rattle.vol_format.specs.Directory.{Directory, entries};
 ghost use Rattle.dos_format.specs.Dos.{DescribesDos, dos_meaning};
@@ -10,7 +10,7 @@ ghost use Rattle.file_edits.specs.Erasing.{HasWholeUnits, IsErasing};
 ghost use Rattle.delete_laws.specs.Deletion.{IsDeletion};
 ghost use Rattle.file_edits.specs.declared.writes.Prepared.{Prepared};
 ghost use Rattle.file_edits.specs.Prepared.{write_of};
-ghost use Rattle.file_edits.specs.Releases.{IsReleased};
+ghost use Rattle.file_edits.specs.Markings.{AreMarked};
 ghost use Rattle.file_edits.specs.Deleted.{HasPlacesOf, IsDeleteEdit, IsOldOrErased};
 ghost use Rattle.file_edits.specs.Writes.{HasEdited};
 
@@ -47,7 +47,7 @@ pub fn an_erased_entry_and_released_places_are_a_deletion<F: EditableFormat, A: 
     ensures { (directory : Directory) (file : ℕ) (places : List ℕ) (old : DeviceState) (start : List (Prepared A))
         → IsTrue old.honest → (F.meaning format.now).Describes old.store directory → file < entries directory
         → IsErasing (F.meaning format.now) directory file old.store (map write_of start)
-        → IsReleased (F.meaning format.now) directory places old start writes.now
+        → AreMarked (F.meaning format.now) true directory places old start writes.now
         → HasPlacesOf (F.meaning format.now) directory file old.store places
         → IsDeletion (F.meaning format.now) directory file old.store (map write_of writes.now) }
 {}

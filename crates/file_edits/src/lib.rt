@@ -11,7 +11,7 @@
 //!
 //! A deletion is more than one write. First the entry is erased, by one write in DOS 3.3 and by one or two in ProDOS; the record `EraseMeaning` has the
 //! bytes of these writes and says which files are protected (`specs/Erasing.antt`, `specs/DosErasing.antt`, `specs/ProErasing.antt`). Then come the units of
-//! the map in which its places are marked free, each once and in rising order (`specs/Releases.antt`, `releasing`). Laws say that these together delete the
+//! the map in which its places are marked free, each once and in rising order (`specs/Markings.antt`, `marking`). Laws say that these together delete the
 //! file (`deletion`, `specs/Deleted.antt`).
 #![tactic(auto)]
 
@@ -22,11 +22,11 @@ mod dos_naming;
 mod error;
 mod format;
 mod locking;
+mod marking;
 mod naming;
 mod pro;
 mod pro_erasing;
 mod pro_naming;
-mod releasing;
 mod units;
 mod writes;
 
@@ -38,6 +38,6 @@ pub use deletion::{
 pub use error::EditError;
 pub use format::EditableFormat;
 pub use locking::{lock, unlock};
+pub use marking::{mark_all, mark_unit, next_unit};
 pub use naming::rename;
-pub use releasing::{next_unit, release_all, release_unit};
 pub use writes::{Prepared, write_all};

@@ -1,15 +1,15 @@
-use Rattle.std.proofs.Common.{◌≡◌, ◌<◌, ◌∙◌, sym, subst, refl, map, length}
+use Rattle.std.proofs.Common.{◌≡◌, ◌<◌, ◌∙◌, sym, subst, refl, map, length, true}
 use Rattle.std.specs.Prelude.{All}
 use Rattle.a2_device.specs.Device.{DeviceState}
 use Rattle.delete_laws.specs.Deletion.{IsDeletion}
 use Rattle.file_edits.specs.declared.writes.Prepared.{Prepared}
 use Rattle.file_edits.specs.Prepared.{write_of}
-use Rattle.file_edits.specs.Releases.{IsReleased}
+use Rattle.file_edits.specs.Markings.{AreMarked}
 use Rattle.file_edits.proofs.Deletions.{if_ok, own_below, all_inside, all_sizes, made_deletion}
 use Rattle.file_edits.proofs.deleting.deletion.Goals as goal
 
-pub release_all-requires-clause-places : goal.release_all-requires-clause-places
-release_all-requires-clause-places g c =
+pub mark_all-requires-clause-places : goal.mark_all-requires-clause-places
+mark_all-requires-clause-places g c =
     let directory = g.F.Format.directory c.args.format.now c.args.volume.now in
     subst (All (λ place. place < directory.places)) (sym (c.as_slice.ensures.value ∙ c.in_ok-places.ensures)) (own_below directory c.args.file c.args.parts.now c.requires.parts)
 
@@ -21,9 +21,9 @@ returns-clause-inside g c =
     let n = (g.D.Device.state c.args.device.now).places in
     let mid = g.D.Device.state c.erase.new.device in
     let start = c.in_ok-erased.erased.items in
-    if_ok c.release_all.result (λ writes. IsReleased meaning directory places mid start writes.items)
+    if_ok c.mark_all.result (λ writes. AreMarked meaning true directory places mid start writes.items)
     (λ writes. All (λ (write : Prepared g.row.A.Denot). write.place < n) writes.items)
-    (λ writes all. all_inside meaning directory places mid start writes.items all n c.requires.places c.in_ok-erased.ensures.inside) c.release_all.ensures.released
+    (λ writes all. all_inside meaning directory places mid start writes.items all n c.requires.places c.in_ok-erased.ensures.inside) c.mark_all.ensures.marked
 
 pub returns-clause-sizes : goal.returns-clause-sizes
 returns-clause-sizes g c =
@@ -33,10 +33,10 @@ returns-clause-sizes g c =
     let n = (g.D.Device.state c.args.device.now).unit_size in
     let mid = g.D.Device.state c.erase.new.device in
     let start = c.in_ok-erased.erased.items in
-    if_ok c.release_all.result (λ writes. IsReleased meaning directory places mid start writes.items)
+    if_ok c.mark_all.result (λ writes. AreMarked meaning true directory places mid start writes.items)
     (λ writes. All (λ (write : Prepared g.row.A.Denot). length write.unit.items ≡ n) writes.items)
     (λ writes all. all_sizes meaning directory places mid start writes.items all n c.in_ok-erased.ensures.device.same.unit_size c.in_ok-erased.ensures.sizes)
-    c.release_all.ensures.released
+    c.mark_all.ensures.marked
 
 pub returns-clause-deletes : goal.returns-clause-deletes
 returns-clause-deletes g c = λ honest accepted are.
@@ -50,12 +50,12 @@ returns-clause-deletes g c = λ honest accepted are.
     let old = g.D.Device.state c.args.device.now in
     let mid = g.D.Device.state c.erase.new.device in
     let start = c.in_ok-erased.erased.items in
-    if_ok c.release_all.result (λ writes. IsReleased meaning directory places mid start writes.items)
+    if_ok c.mark_all.result (λ writes. AreMarked meaning true directory places mid start writes.items)
     (λ writes. (deletion : IsDeletion meaning directory file old.store (map write_of writes.items)) × erasures.Erases old.store directory file deletion.system)
     (λ writes all.
     made_deletion meaning (g.met.F.Format.readable format) (g.met.F.WritableFormat.movable format) erasures (g.met.F.EditableFormat.erasable format)
     directory file parts old start writes.items honest (g.met.D.Device.whole c.args.device.now honest) c.requires.unit accepted c.requires.file c.requires.is_file are c.requires.parts
     (c.in_ok-erased.ensures.erases honest accepted.described)
-    (subst (λ of. IsReleased meaning directory of old start writes.items) (c.as_slice.ensures.value ∙ c.in_ok-places.ensures)
-    (subst (λ (d : DeviceState). IsReleased meaning directory places d start writes.items) (c.in_ok-erased.ensures.device.kept honest refl) all)))
-    c.release_all.ensures.released
+    (subst (λ of. AreMarked meaning true directory of old start writes.items) (c.as_slice.ensures.value ∙ c.in_ok-places.ensures)
+    (subst (λ (d : DeviceState). AreMarked meaning true directory places d start writes.items) (c.in_ok-erased.ensures.device.kept honest refl) all)))
+    c.mark_all.ensures.marked

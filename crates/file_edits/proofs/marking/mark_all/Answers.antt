@@ -1,20 +1,20 @@
 use Rattle.std.proofs.Common.{◌≡◌, ◌∙◌, None, Some, IsTrue, ap, sym, subst, refl, false, arith}
 use Rattle.a2_device.specs.Device.{DeviceState}
 use Rattle.a2_device.specs.Reading.{unread, then_reads}
-use Rattle.delete_laws.specs.Deletion.{release_write}
-use Rattle.file_edits.specs.Releases.{nearest, marked_in}
+use Rattle.delete_laws.specs.Markings.{marking_write}
+use Rattle.file_edits.specs.Markings.{nearest, marked_in}
 use Rattle.file_edits.proofs.Nearest.{nearest_none}
-use Rattle.file_edits.proofs.ReleasedUnits.{none_released, one_released, unit_inside, above_from, not_some}
-use Rattle.file_edits.proofs.releasing.release_all.Goals as goal
+use Rattle.file_edits.proofs.MarkedUnits.{none_marked, one_marked, unit_inside, above_from, not_some}
+use Rattle.file_edits.proofs.marking.mark_all.Goals as goal
 
 pub loop-at-init : goal.loop-at-init
 loop-at-init g c =
     let format = c.args.format.now in
     let old = g.D.Device.state c.args.device.now in
-    (unread old, none_released (g.F.Format.meaning format) (g.F.Format.directory format c.args.volume.now) c.args.places.now old c.args.writes.items)
+    (unread old, none_marked (g.F.Format.meaning format) c.args.free (g.F.Format.directory format c.args.volume.now) c.args.places.now old c.args.writes.items)
 
-pub release_unit-requires-clause-at : goal.release_unit-requires-clause-at
-release_unit-requires-clause-at g c =
+pub mark_unit-requires-clause-at : goal.mark_unit-requires-clause-at
+mark_unit-requires-clause-at g c =
     let format = c.args.format.now in
     let directory = g.F.Format.directory format c.args.volume.now in
     let next : nearest directory c.loop-at.from None c.args.places.now ≡ Some c.in-Some.at = cc (c.next_unit.ensures, c.in-Some.is) in
@@ -37,22 +37,22 @@ loop-at-preserved g c =
     let places = c.args.places.now in
     let old = g.D.Device.state c.args.device.now in
     let mid = g.D.Device.state c.loop-at.device in
-    let new = g.D.Device.state c.release_unit.new.device in
+    let new = g.D.Device.state c.mark_unit.new.device in
     let at = c.in-Some.at in
     let reads = c.loop-at.invariant.0 in
     let made = c.in_ok-write.ensures in
     let next : nearest directory c.loop-at.from None places ≡ Some at = cc (c.next_unit.ensures, c.in-Some.is) in
     let within = unit_inside meaning directory (g.met.F.Format.rooted format c.args.volume.now) places c.requires.places c.loop-at.from at next in
-    let more = one_released meaning directory places old c.args.writes.items c.loop-at.from at c.loop-at.writes.items c.loop-at.invariant.1 next within
+    let more = one_marked meaning c.args.free directory places old c.args.writes.items c.loop-at.from at c.loop-at.writes.items c.loop-at.invariant.1 next within
     c.in_ok-write.write made.place (made.size ∙ reads.same.unit_size)
     (λ honest. made.prepared (subst IsTrue (sym reads.same.honest) honest)
-    ∙ ap (λ (d : DeviceState). release_write meaning d.store (record { at = at; places = marked_in directory at places })) (reads.kept honest refl)) in (
+    ∙ ap (λ (d : DeviceState). marking_write meaning c.args.free d.store (record { at = at; places = marked_in directory at places })) (reads.kept honest refl)) in (
       then_reads false old mid new reads made.device,
       rw (c.in_ok-writes.ensures, c.from-from.ensures) more,
     )
 
-pub returns-clause-released : goal.returns-clause-released
-returns-clause-released g c =
+pub returns-clause-marked : goal.returns-clause-marked
+returns-clause-marked g c =
     let format = c.args.format.now in
     let directory = g.F.Format.directory format c.args.volume.now in
     let places = c.args.places.now in (

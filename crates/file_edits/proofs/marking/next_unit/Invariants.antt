@@ -1,6 +1,6 @@
 use Rattle.std.proofs.Common.{◌≡◌, None, drop}
-use Rattle.file_edits.specs.Releases.{nearest}
-use Rattle.file_edits.proofs.releasing.next_unit.Given as goal
+use Rattle.file_edits.specs.Markings.{nearest}
+use Rattle.file_edits.proofs.marking.next_unit.Given as goal
 
 abbrev pub invariant-loop-place : goal.invariant-loop-place
 invariant-loop-place g l =

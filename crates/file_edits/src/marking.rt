@@ -1,14 +1,14 @@
-// The writes that mark places free, one for each unit of the map that has marks of them.
+// The writes that mark places free, or used, one for each unit of the map that has marks of them.
 ghost use Rattle.std.specs.Prelude.{◌≡◌, ◌<◌, ◌≤◌, ℕ, List, All, None, OnOk, IfOk, IfErr, IsErr, IsTrue, length, is_err, map, Err, ◌++◌, ◌∷◌, []};
 ghost use Rattle.a2_device.specs.Device.{OnlyReads};
 ghost use Rattle.a2_device.specs.Device.{unit_at};
 ghost use Rattle.vol_format.specs.Directory.{map_place};
 ghost use Rattle.write_laws.specs.Marked.{with_marks};
-ghost use Rattle.delete_laws.specs.Deletion.{free_mark, release_write};
+ghost use Rattle.delete_laws.specs.Markings.{mark_as, marking_write};
 ghost use Rattle.file_edits.specs.declared.writes.Prepared.{Prepared};
 ghost use Rattle.file_edits.specs.Prepared.{write_of};
 ghost use Rattle.file_edits.specs.Refusal.{told_device, IsPrepareRefusal};
-ghost use Rattle.file_edits.specs.Releases.{marked_in, nearest, nearer, IsReleased};
+ghost use Rattle.file_edits.specs.Markings.{marked_in, nearest, nearer, AreMarked};
 
 use crate::units::read_unit;
 use crate::writes::{Prepared, behind};
@@ -44,37 +44,44 @@ pub fn next_unit<F: EditableFormat>(
     best
 }
 
-// Marks those of some places free that have their marks in a unit of the map.
-fn release_in<F: EditableFormat>(
+// Marks those of some places free, or used, that have their marks in a unit of the map.
+fn mark_in<F: EditableFormat>(
     format: &F,
     volume: &F::Volume,
     places: &[u32],
     at: u32,
+    free: bool,
     unit: &mut [u8],
 )
     requires takes { (F.meaning format.now).Takes (F.directory format.now volume.now).places }
     requires places { All (λ place. place < (F.directory format.now volume.now).places) places.now }
     requires unit { length unit.old ≡ (F.meaning format.now).unit_size }
-    ensures { unit.new ≡ with_marks (F.meaning format.now) unit.old (map free_mark (marked_in (F.directory format.now volume.now) at places.now)) }
+    ensures { unit.new ≡ with_marks (F.meaning format.now) unit.old (map (mark_as free) (marked_in (F.directory format.now volume.now) at places.now)) }
 {
     for place in places {
-        if format.map_unit(volume, *place) == at {
+        if format.map_unit(volume, *place) != at {
+            continue;
+        }
+        if free {
             format.release(unit, *place);
+        } else {
+            format.mark(unit, *place);
         }
     }
 }
 
-/// The write that marks those of some places free that have their marks in a unit of the map.
+/// The write that marks those of some places free, or used, that have their marks in a unit of the map.
 ///
 /// # Errors
 /// `Device` where the unit can't be read; `Memory`.
-pub fn release_unit<D: Device, F: EditableFormat, A: Allocator>(
+pub fn mark_unit<D: Device, F: EditableFormat, A: Allocator>(
     alloc: A,
     device: &mut D,
     format: &F,
     volume: &F::Volume,
     places: &[u32],
     at: u32,
+    free: bool,
 ) -> Result<Prepared<A>, EditError>
     requires size { (D.state device.old).unit_size ≡ (F.meaning format.now).unit_size }
     requires count { (F.directory format.now volume.now).places ≡ (D.state device.old).places }
@@ -85,25 +92,26 @@ pub fn release_unit<D: Device, F: EditableFormat, A: Allocator>(
     ensures refused { IfErr result IsPrepareRefusal }
     ensures place { IfOk result (λ write. write.place ≡ at) }
     ensures size { IfOk result (λ write. length write.unit.items ≡ (D.state device.old).unit_size) }
-    ensures prepared { IsTrue (D.state device.old).honest → IfOk result (λ write. write_of write ≡ release_write (F.meaning format.now) (D.state device.old).store
+    ensures prepared { IsTrue (D.state device.old).honest → IfOk result (λ write. write_of write ≡ marking_write (F.meaning format.now) free (D.state device.old).store
         (record { at = at; places = marked_in (F.directory format.now volume.now) at places.now })) }
 {
     let mut unit = vec![in alloc; 0; device.unit()]?;
     read_unit(device, at, &mut unit)?;
-    release_in(format, volume, places, at, &mut unit);
+    mark_in(format, volume, places, at, free, &mut unit);
     Ok(Prepared { place: at, unit })
 }
 
-/// The writes that mark places free, behind others: one for each unit of the map that has marks of them, in rising order.
+/// The writes that mark places free, or used, behind others: one for each unit of the map that has marks of them, in rising order.
 ///
 /// # Errors
 /// `Device` where a unit can't be read; `Memory`.
-pub fn release_all<D: Device, F: EditableFormat, A: Allocator + Copy>(
+pub fn mark_all<D: Device, F: EditableFormat, A: Allocator + Copy>(
     alloc: A,
     device: &mut D,
     format: &F,
     volume: &F::Volume,
     places: &[u32],
+    free: bool,
     mut writes: Vec<Prepared<A>, A>,
 ) -> Result<Vec<Prepared<A>, A>, EditError>
     requires size { (D.state device.old).unit_size ≡ (F.meaning format.now).unit_size }
@@ -112,11 +120,11 @@ pub fn release_all<D: Device, F: EditableFormat, A: Allocator + Copy>(
     requires places { All (λ place. place < (F.directory format.now volume.now).places) places.now }
     ensures device { OnlyReads (told_device result) (D.state device.old) (D.state device.new) }
     ensures refused { IfErr result IsPrepareRefusal }
-    ensures released { IfOk result (λ all. IsReleased (F.meaning format.now) (F.directory format.now volume.now) places.now (D.state device.old) writes.items all.items) }
+    ensures marked { IfOk result (λ all. AreMarked (F.meaning format.now) free (F.directory format.now volume.now) places.now (D.state device.old) writes.items all.items) }
 {
     let mut from = 0;
     while let Some(at) = next_unit(format, volume, places, from) {
-        let write = release_unit(alloc, device, format, volume, places, at)?;
+        let write = mark_unit(alloc, device, format, volume, places, at, free)?;
         writes = behind(writes, write)?;
         from = u64::from(at) + 1;
     }

@@ -1,0 +1,4 @@
+pub mod Units
+pub mod Marks
+pub mod Unsaved
+pub mod WholeSaving
