@@ -225,8 +225,11 @@ impl<A: Allocator + Copy> Format for Dos33<A> {
     }
 }
 
-// The VTOC of a volume.
-fn read_vtoc<D: Device>(device: &mut D) -> Result<Vtoc, WalkError>
+/// The VTOC of a volume, which leads to its catalog.
+///
+/// # Errors
+/// `Fault` with `Geometry` of place 272 where the VTOC tells another geometry; `Device` where it can't be read.
+pub fn read_vtoc<D: Device>(device: &mut D) -> Result<Vtoc, WalkError>
     requires unit { (D.state device.old).unit_size ≡ 256 }
     requires places { (D.state device.old).places ≡ 560 }
 

@@ -9,5 +9,5 @@ mod dos;
 mod dos_writes;
 mod walks;
 
-pub use dos::{Dos33, DosVolume};
+pub use dos::{Dos33, DosVolume, read_vtoc};
 pub use walks::a_walk_tells_the_parts_of_its_file;

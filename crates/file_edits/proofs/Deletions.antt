@@ -22,7 +22,8 @@ use Rattle.file_edits.specs.declared.error.EditError.TheVariants.{Device}
 use Rattle.file_edits.specs.Deleted.{HasFirstUnprotected, HasPlacesOf, IsDeleteRefusal, IsDeleteTold, places_of_file}
 use Rattle.file_edits.specs.Erasing.{EraseMeaning, HasWholeUnits, IsErasable}
 use Rattle.file_edits.specs.Markings.{AreMarked}
-use Rattle.file_edits.proofs.WholeDelete.{same_number, whole_delete}
+use Rattle.file_edits.proofs.MarkingWrites.{same_number}
+use Rattle.file_edits.proofs.WholeDelete.{whole_delete}
 
 -- what follows of a value that is told
 pub if_ok : {T E : Type 0} (result : Result T E) (P Q : T → Type 0) → ((value : T) → P value → Q value) → IfOk result P → IfOk result Q

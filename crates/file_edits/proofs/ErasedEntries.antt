@@ -1,6 +1,6 @@
 -- What is written where the entry that was read is erased.
-use Rattle.std.proofs.Common.{◌≡◌, ◌≢◌, ◌<◌, ◌∙◌, ℕ, Bool, List, [], ◌∷◌, ◌++◌, length, get_or, map, refl, sym, ap, subst}
-use Rattle.std.specs.Prelude.{if◌then◌else◌, All, Result, Ok, Err, IfOk, Some, None, slice_get}
+use Rattle.std.proofs.Common.{◌≡◌, ◌≢◌, ◌<◌, ◌∙◌, ℕ, Bool, List, [], ◌∷◌, ◌++◌, length, get_or, refl, sym, ap, subst}
+use Rattle.std.specs.Prelude.{All, Result, Ok, Err, IfOk, Some, None, slice_get}
 use Rattle.std.proofs.lemmas.List.Elements.{All-nil, All-cons, All-append}
 use Rattle.std.proofs.lemmas.Option.{slice_get_within, slice_get-get_or, get_or_from_slice_get}
 use Rattle.a2_device.specs.Device.{unit_at}
@@ -19,12 +19,9 @@ use Rattle.vol_parts.specs.declared.fault.WalkError.{WalkError}
 use Rattle.vol_parts.specs.declared.fault.WalkError.TheVariants as walk
 use Rattle.file_edits.specs.declared.error.EditError.{EditError}
 use Rattle.file_edits.specs.declared.error.EditError.TheVariants.{Check}
-use Rattle.file_edits.specs.declared.writes.Prepared.{Prepared}
 use Rattle.file_edits.specs.DosErasing.{dos_erasing}
-use Rattle.file_edits.specs.Prepared.{write_of}
-use Rattle.file_edits.specs.ProErasing.{ErasesEntry, counting_less, without_entry, pro_erasing}
+use Rattle.file_edits.specs.ProErasing.{ErasesEntry, pro_erasing}
 use Rattle.file_edits.specs.Renamed.{refusal_of_walk}
-use Rattle.file_edits.proofs.WholeDelete.{same_number, other_number}
 
 -- what is true of the one element of a list
 pub all_of_one : {X : Type 0} (P : X → Type 0) (xs : List X) (x : X) → xs ≡ x ∷ [] → P x → All P xs
@@ -32,10 +29,6 @@ all_of_one P xs x is holds = subst (All P) (sym is) (All-cons P x [] holds (All-
 
 pub all_of_two : {X : Type 0} (P : X → Type 0) (xs front : List X) (x y : X) → front ≡ x ∷ [] → xs ≡ front ++ y ∷ [] → P x → P y → All P xs
 all_of_two P xs front x y front_is is first second = subst (All P) (sym is) (All-append P front (y ∷ []) (all_of_one P front x front_is first) (All-cons P y [] second (All-nil P)))
-
-pub writes_of_two : {A : Type 0} (all front : List (Prepared A)) (first second : Prepared A) → front ≡ first ∷ [] → all ≡ front ++ second ∷ []
-    → map write_of all ≡ write_of first ∷ write_of second ∷ []
-writes_of_two {A} all front first second front_is is = ap (map write_of) (is ∙ ap (λ (l : List (Prepared A)). l ++ second ∷ []) front_is)
 
 abbrev write_at : ℕ → List ℕ → List Write
 write_at place unit = record { place = place; unit = unit } ∷ []
@@ -48,28 +41,6 @@ pub erasing-dos : (data_disk : Bool) (reserved : List Bool) (vtoc : List ℕ) (a
 erasing-dos data_disk reserved vtoc all shown is file e inside store unit new unit_is new_is =
     ap (λ (u : List ℕ). write_at (get_or shown file e).place u) (new_is ∙ ap (erased (get_or shown file e).slot) unit_is)
     ∙ ap (λ (entry : Listed). write_at entry.place (erased entry.slot (unit_at store entry.place))) (sym (entry_read data_disk reserved vtoc all shown file e is inside))
-
--- an entry of a directory
-module _ (entry : Entry) (store : List (List ℕ)) (unit emptied : List ℕ) (unit_is : unit ≡ unit_at store entry.place) (emptied_is : emptied ≡ without_entry entry.slot unit) where
-  emptied_there : emptied ≡ without_entry entry.slot (unit_at store entry.place)
-  emptied_there = emptied_is ∙ ap (without_entry entry.slot) unit_is
-
-  abbrev either : Bool → List Write
-  either here =
-      if here
-      then write_at entry.place (counting_less (without_entry entry.slot (unit_at store entry.place)))
-      else (write_at entry.place (without_entry entry.slot (unit_at store entry.place)) ++ write_at entry.directory (counting_less (unit_at store entry.directory)))
-
-  pub erasing-pro_one : (new : List ℕ) → entry.place ≡ entry.directory → new ≡ counting_less emptied → write_at entry.place new ≡ pro_erasing entry store
-  erasing-pro_one new same new_is =
-      ap (write_at entry.place) (new_is ∙ ap counting_less emptied_there) ∙ ap either (sym (same_number entry.place entry.directory same))
-
-  pub erasing-pro_two : (key new : List ℕ) → entry.place ≢ entry.directory → key ≡ unit_at store entry.directory → new ≡ counting_less key
-      → write_at entry.place emptied ++ write_at entry.directory new ≡ pro_erasing entry store
-  erasing-pro_two key new apart key_is new_is =
-      ap (λ (u : List ℕ). write_at entry.place u ++ write_at entry.directory new) emptied_there
-      ∙ ap (λ (u : List ℕ). write_at entry.place (without_entry entry.slot (unit_at store entry.place)) ++ write_at entry.directory u) (new_is ∙ ap counting_less key_is)
-      ∙ ap either (sym (other_number entry.place entry.directory apart))
 
 -- the key block of the directory in which an entry stands is a block of the volume
 pub own_directory : (store : List (List ℕ)) (tree : Tree) (file : ℕ) (entry : Entry) → Describes store tree → slice_get tree.entries file ≡ Some entry

@@ -8,6 +8,7 @@ pub mod Making
 pub mod MadeDeletion
 pub mod Nearest
 pub mod MarkedUnits
+pub mod MarkingWrites
 pub mod WholeDelete
 pub mod NameWrites
 pub mod NamedEntries

@@ -9,6 +9,7 @@ pub mod Markings
 pub mod DosEdits
 pub mod DosErasing
 pub mod ProEdits
+pub mod Counting
 pub mod ProErasing
 pub mod Names
 pub mod DosNames

@@ -32,8 +32,8 @@ fn has_name_bytes(name: &[u8]) -> bool
     name.iter().all(|byte| is_name_byte(*byte))
 }
 
-// Whether a file may get a name.
-pub(crate) fn is_dos_name(name: &[u8]) -> bool
+/// Whether a file may get a name, in DOS 3.3.
+pub fn is_dos_name(name: &[u8]) -> bool
     ensures { result ≡ is_dos_name name.now }
 {
     1 <= name.len()
@@ -43,8 +43,8 @@ pub(crate) fn is_dos_name(name: &[u8]) -> bool
         && has_name_bytes(name)
 }
 
-// A name as it is stored: high bits on, and spaces up to 30 bytes.
-pub(crate) fn dos_name(name: &[u8]) -> [u8; 30]
+/// A name as it is stored in a DOS 3.3 catalog: high bits on, and spaces up to 30 bytes.
+pub fn dos_name(name: &[u8]) -> [u8; 30]
     requires { length name.now ≤ 30 }
     ensures { result ≡ dos_name name.now }
 {
@@ -55,8 +55,8 @@ pub(crate) fn dos_name(name: &[u8]) -> [u8; 30]
     stored
 }
 
-// Whether some entry has a name, as it is stored.
-pub(crate) fn has_name(entries: &[Entry], name: &[u8; 30]) -> bool
+/// Whether some entry of a catalog has a name, as it is stored.
+pub fn has_name(entries: &[Entry], name: &[u8; 30]) -> bool
     ensures { result ≡ list_any (λ (entry : CatalogEntry). bytes_eq (slice_range entry.bytes 3 33) name.now) entries.now }
 {
     entries.iter().any(|entry| entry.name() == name.as_slice())

@@ -15,6 +15,7 @@
 //! file (`deletion`, `specs/Deleted.antt`).
 #![tactic(auto)]
 
+mod counting;
 mod deleting;
 mod deletion;
 mod dos;
@@ -30,14 +31,18 @@ mod pro_naming;
 mod units;
 mod writes;
 
+pub use counting::{FileCount, counted_writes};
 pub use deleting::delete;
 pub use deletion::{
     a_deletion_made_takes_out_one_file, a_dos_entry_is_erased_by_one_write,
     an_erased_entry_and_released_places_are_a_deletion,
 };
+pub use dos_naming::{dos_name, has_name, is_dos_name};
 pub use error::EditError;
 pub use format::EditableFormat;
 pub use locking::{lock, unlock};
 pub use marking::{mark_all, mark_unit, next_unit};
 pub use naming::rename;
-pub use writes::{Prepared, write_all};
+pub use pro_naming::{is_name_in, is_pro_name, pro_name, refusal};
+pub use units::copy_unit;
+pub use writes::{Prepared, alone, behind, write_all};

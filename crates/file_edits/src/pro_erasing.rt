@@ -3,15 +3,15 @@ ghost use Rattle.std.specs.Prelude.{◌≡◌, ◌≢◌, ◌<◌, length, map, 
 ghost use Rattle.a2_device.specs.Device.{OnlyReads};
 ghost use Rattle.file_edits.specs.declared.writes.Prepared.{Prepared};
 ghost use Rattle.file_edits.specs.Prepared.{write_of};
-ghost use Rattle.file_edits.specs.ProErasing.{counting_less, pro_erasing, without_entry};
+ghost use Rattle.file_edits.specs.ProErasing.{pro_erasing, without_entry};
 ghost use Rattle.file_edits.specs.Refusal.{told_device};
 ghost use Rattle.file_edits.specs.Renamed.{IsReadRefusal};
 
+use crate::counting::{FileCount, counted_writes};
 use crate::units::copy_unit;
-use crate::writes::{alone, behind};
 use crate::{EditError, Prepared};
 use a2_device::Device;
-use pro_dir::{Entry, count, erase, set_count};
+use pro_dir::{Entry, erase};
 use std::alloc::Allocator;
 
 // The entry of a number.
@@ -25,20 +25,10 @@ pub(crate) fn entry_of(entries: &[Entry], file: u32) -> Option<Entry>
 fn without_entry<A: Allocator>(mut block: Vec<u8, A>, slot: u32) -> Vec<u8, A>
     requires block { length block.items ≡ 512 }
     requires slot { slot < 13 }
-    ensures { result.items ≡ without_entry slot block.items }
-{
-    erase(&mut block, slot);
-    block
-}
-
-// The key block of a directory that counts one file less.
-fn counting_less<A: Allocator>(mut block: Vec<u8, A>) -> Vec<u8, A>
-    requires { length block.items ≡ 512 }
-    ensures value { result.items ≡ counting_less block.items }
+    ensures value { result.items ≡ without_entry slot block.items }
     ensures size { length result.items ≡ 512 }
 {
-    let files = count(&block);
-    set_count(&mut block, files.saturating_sub(1));
+    erase(&mut block, slot);
     block
 }
 
@@ -64,21 +54,7 @@ pub(crate) fn erase_entry<D: Device, A: Allocator + Copy>(
     }
     let block = copy_unit(alloc, device, entry.place)?;
     let unit = without_entry(block, entry.slot);
-    if entry.place == entry.directory {
-        let unit = counting_less(unit);
-        let place = entry.place;
-        return Ok(alone(alloc, Prepared { place, unit })?);
-    }
-    let key = copy_unit(alloc, device, entry.directory)?;
-    let counted = counting_less(key);
     let place = entry.place;
-    let first = alone(alloc, Prepared { place, unit })?;
-    let place = entry.directory;
-    Ok(behind(
-        first,
-        Prepared {
-            place,
-            unit: counted,
-        },
-    )?)
+    let erased = Prepared { place, unit };
+    counted_writes(alloc, device, FileCount::Less, erased, entry.directory)
 }

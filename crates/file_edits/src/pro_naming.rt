@@ -35,15 +35,15 @@ fn has_name_bytes(name: &[u8]) -> bool
     name.iter().all(|byte| is_name_byte(*byte))
 }
 
-// Whether a file may get a name.
-pub(crate) fn is_pro_name(name: &[u8]) -> bool
+/// Whether a file may get a name, in ProDOS.
+pub fn is_pro_name(name: &[u8]) -> bool
     ensures { result ≡ is_pro_name name.now }
 {
     1 <= name.len() && name.len() <= NAME_BYTES && is_letter(name[0]) && has_name_bytes(name)
 }
 
-// A name as it is stored: its letters as capitals, and 00 behind it up to 15 bytes.
-pub(crate) fn pro_name(name: &[u8]) -> [u8; 15]
+/// A name as it is stored in a ProDOS directory: its letters as capitals, and 00 behind it up to 15 bytes.
+pub fn pro_name(name: &[u8]) -> [u8; 15]
     requires { length name.now ≤ 15 }
     ensures { result ≡ pro_name name.now }
 {
@@ -54,8 +54,8 @@ pub(crate) fn pro_name(name: &[u8]) -> [u8; 15]
     stored
 }
 
-// Whether some entry that stands in a directory has a name.
-fn is_name_in(key: u32, name: &[u8], entries: &[Entry]) -> bool
+/// Whether some entry that stands in a directory, by its key block, has a name.
+pub fn is_name_in(key: u32, name: &[u8], entries: &[Entry]) -> bool
     ensures { result ≡ is_name_in key name.now entries.now }
 {
     entries
@@ -75,8 +75,8 @@ pub(crate) fn has_name_beside(entries: &[Entry], file: u32, name: &[u8]) -> bool
     is_name_in(own.directory, &stored[..name.len()], entries)
 }
 
-// The refusal of a command whose walk over the directories ended early.
-pub(crate) fn refusal(error: WalkError) -> EditError
+/// The refusal of a command whose walk over the directories ended early.
+pub fn refusal(error: WalkError) -> EditError
     ensures { result ≡ refusal_of_walk error }
 {
     match error {

@@ -23,8 +23,11 @@ pub(crate) fn read_unit<D: Device>(
     device.read(place, unit).map_err(|_| EditError::Device)
 }
 
-// A copy of a unit.
-pub(crate) fn copy_unit<D: Device, A: Allocator>(
+/// A copy of a unit.
+///
+/// # Errors
+/// `Device` where the unit can't be read; `Memory`.
+pub fn copy_unit<D: Device, A: Allocator>(
     alloc: A,
     device: &mut D,
     place: u32,

@@ -17,8 +17,11 @@ pub struct Prepared<A: Allocator = Global> {
     pub unit: Vec<u8, A>,
 }
 
-// One write alone.
-pub(crate) fn alone<A: Allocator + Copy>(
+/// One write alone.
+///
+/// # Errors
+/// Want of memory alone.
+pub fn alone<A: Allocator + Copy>(
     alloc: A,
     write: Prepared<A>,
 ) -> Result<Vec<Prepared<A>, A>, AllocError>
@@ -27,8 +30,11 @@ pub(crate) fn alone<A: Allocator + Copy>(
     behind(Vec::new(alloc), write)
 }
 
-// A write behind others.
-pub(crate) fn behind<A: Allocator>(
+/// A write behind others.
+///
+/// # Errors
+/// Want of memory alone.
+pub fn behind<A: Allocator>(
     mut writes: Vec<Prepared<A>, A>,
     write: Prepared<A>,
 ) -> Result<Vec<Prepared<A>, A>, AllocError>

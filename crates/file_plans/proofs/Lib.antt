@@ -1,6 +1,6 @@
-mod Parts
+pub mod Parts
 mod ListWrites
 mod TableWrites
-mod DosBuilt
-mod ProPlanned
-mod Bodies
+pub mod DosBuilt
+pub mod ProPlanned
+pub mod Bodies

@@ -1,5 +1,5 @@
 mod Ranges
 mod Pushed
 pub mod Membership
-mod DosOrder
-mod ProOrder
+pub mod DosOrder
+pub mod ProOrder

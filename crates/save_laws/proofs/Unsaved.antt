@@ -24,17 +24,14 @@ use Rattle.delete_laws.specs.Writes.{Write, store_after}
 use Rattle.delete_laws.proofs.Fronts.{unit_after}
 use Rattle.delete_laws.proofs.Marking.{all_of_marks, marked_or_not, CanMarkIn, markings_kept}
 use Rattle.save_laws.specs.Saved.{HasNothingSaved}
-use Rattle.save_laws.specs.Saving.{IsSaving, places_of, unit_write, with_units}
+use Rattle.save_laws.specs.Saving.{IsPlacing, places_of, unit_write, with_places, with_units}
 use Rattle.save_laws.proofs.Marks.{used_stays}
 use Rattle.save_laws.proofs.Units.{units_kept}
 
 module _ (format : Meaning) (laws : IsReadable format) (movable : IsMovable format) (writable : IsWritable format)
-    (few : Directory) (at : ℕ) (entry : Listed) (planned : List Planned) (store : List (List ℕ)) (writes : List Write)
+    (few : Directory) (planned : List Planned) (store : List (List ℕ)) (markings : List Marking)
     (accepted : IsAccepted format few store) (full : (place : ℕ) → place < length store → length (unit_at store place) ≡ format.unit_size)
-    (saving : IsSaving format few at entry planned store writes) where
-  abbrev markings : List Marking
-  markings = saving.markings
-
+    (placing : IsPlacing few planned markings) where
   abbrev marks : ℕ → List Mark
   marks m = all_marks false (take m markings)
 
@@ -50,10 +47,10 @@ module _ (format : Meaning) (laws : IsReadable format) (movable : IsMovable form
   -- a new place is no part's
   pub unreached : (k : ℕ) → k < length planned → IsUnreached format few store (place_of planned k)
   unreached k inside part reach same =
-      both (ap (is_free few) (sym same) ∙ (accepted.sound part reach).marked) (saving.new k inside).free
+      both (ap (is_free few) (sym same) ∙ (accepted.sound part reach).marked) (placing.new k inside).free
 
   pub units_stand : (m : ℕ) → IsKept format few few store (store_after (take m (map unit_write planned)) store)
-  units_stand m = units_kept format movable few planned m store accepted (λ k inside. ((saving.new k inside).available, unreached k inside))
+  units_stand m = units_kept format movable few planned m store accepted (λ k inside. ((placing.new k inside).available, unreached k inside))
 
   whole_units : take (length planned) (map unit_write planned) ≡ map unit_write planned
   whole_units = take_all (length planned) (map unit_write planned) (omega (arith, length-map planned unit_write))
@@ -62,12 +59,12 @@ module _ (format : Meaning) (laws : IsReadable format) (movable : IsMovable form
   all_units = subst (λ (l : List Write). IsKept format few few store (store_after l store)) whole_units (units_stand (length planned))
 
   outside : (k : ℕ) → k < length planned → is_system few (place_of planned k) ≡ false
-  outside k inside = (((movable.described store few accepted.described).available_of (place_of planned k)).0 (saving.new k inside).available).1
+  outside k inside = (((movable.described store few accepted.described).available_of (place_of planned k)).0 (placing.new k inside).available).1
 
   -- the units of the map that are written
   at_mark : (k : ℕ) → k < length markings → (place : ℕ) × (place < few.places) × (map_place few place ≡ (marking_of markings k).at)
   at_mark k inside =
-      let first = saving.own k inside 0 0 (saving.some k inside) in
+      let first = placing.own k inside 0 0 (placing.some k inside) in
       (_, first.inside, first.here)
 
   pub map_unit : (k : ℕ) → k < length markings → is_system few (marking_of markings k).at ≡ true
@@ -83,7 +80,7 @@ module _ (format : Meaning) (laws : IsReadable format) (movable : IsMovable form
         (subst (λ n. map_place few here.0 < n) (laws.all_places store few accepted.described) ((movable.described store few accepted.described).map_below here.0 here.1));
     same = unit_after (map unit_write planned) store (marking_of markings k).at (All-map (λ (write : Write). write.place ≢ (marking_of markings k).at) unit_write planned apart);
     marks = All-map (CanMark format few units (marking_of markings k).at) (mark_as false) (marking_of markings k).places
-        (λ i d within. let own = saving.own k inside i d within in record { inside = own.inside; here = own.here; unreached = λ freed. both refl freed });
+        (λ i d within. let own = placing.own k inside i d within in record { inside = own.inside; here = own.here; unreached = λ freed. both refl freed });
   }
     where
       apart : All (λ (plan : Planned). plan.part.place ≢ (marking_of markings k).at) planned
@@ -94,12 +91,12 @@ module _ (format : Meaning) (laws : IsReadable format) (movable : IsMovable form
   pub marks_stand : (m : ℕ) → IsKept format few (marked few (marks m)) store (store_after (take m marking_writes) units)
   marks_stand m =
       kept_then format few few (marked few (marks m)) store units (store_after (take m marking_writes) units) all_units
-      (markings_kept format laws movable writable false store full markings m few units all_units.accepted can_mark saving.rising)
+      (markings_kept format laws movable writable false store full markings m few units all_units.accepted can_mark placing.rising)
 
   -- the places that are marked are the plan's
   pub marks_planned : (m : ℕ) → All (λ (mark : Mark). Contains (places_of planned) mark.place) (marks m)
   marks_planned m = all_of_marks false (λ (mark : Mark). Contains (places_of planned) mark.place) markings m
-      (λ k inside i d within. in_plan (saving.own k inside i d within).own)
+      (λ k inside i d within. in_plan (placing.own k inside i d within).own)
     where
       in_plan : {place : ℕ} → (k : ℕ) × (k < length planned) × (place_of planned k ≡ place) → Contains (places_of planned) place
       in_plan has =
@@ -136,3 +133,10 @@ module _ (format : Meaning) (laws : IsReadable format) (movable : IsMovable form
     where
       after : Directory
       after = marked few (marks m)
+
+  pub all_stands : IsKept format few (marked few (all_marks false markings)) store (with_places format store planned markings)
+  all_stands =
+      subst (λ (l : List Write). IsKept format few (marked few (all_marks false markings)) store (store_after l units))
+      (take_all (length markings) marking_writes (omega (arith, length-map markings (marking_write format false store))))
+      (subst (λ (l : List Marking). IsKept format few (marked few (all_marks false l)) store (store_after (take (length markings) marking_writes) units))
+      (take_all (length markings) markings (omega arith)) (marks_stand (length markings)))

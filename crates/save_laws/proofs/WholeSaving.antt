@@ -30,10 +30,10 @@ use Rattle.delete_laws.specs.Writes.{Write, store_after}
 use Rattle.delete_laws.proofs.Fronts.{after_both, unit_after}
 use Rattle.delete_laws.proofs.Marking.{mark_of_place}
 use Rattle.save_laws.specs.Saved.{HasNothingSaved, HasFileSaved}
-use Rattle.save_laws.specs.Saving.{IsSaving, places_of, unit_write, with_places, with_units}
+use Rattle.save_laws.specs.Saving.{IsSaving, IsPlacing, places_of, unit_write, with_places, with_units}
 use Rattle.save_laws.proofs.Marks.{marked_listed, marked_system, used_stays}
 use Rattle.save_laws.proofs.Units.{units_held}
-use Rattle.save_laws.proofs.Unsaved.{unreached, units_stand, marks_stand, map_unit, marks_planned, marks_of_use, lost_here, nothing_saved}
+use Rattle.save_laws.proofs.Unsaved.{unreached, units_stand, marks_stand, map_unit, marks_planned, marks_of_use, lost_here, nothing_saved, all_stands}
 
 module _ (format : Meaning) (laws : IsReadable format) (movable : IsMovable format) (writable : IsWritable format)
     (few : Directory) (at : ℕ) (entry : Listed) (planned : List Planned) (store : List (List ℕ)) (writes : List Write)
@@ -41,6 +41,9 @@ module _ (format : Meaning) (laws : IsReadable format) (movable : IsMovable form
     (saving : IsSaving format few at entry planned store writes) where
   abbrev markings : List Marking
   markings = saving.markings
+
+  abbrev placing : IsPlacing few planned markings
+  placing = saving.placing
 
   abbrev system : List Write
   system = saving.system
@@ -76,13 +79,13 @@ module _ (format : Meaning) (laws : IsReadable format) (movable : IsMovable form
         ∙ ap (λ (l : List Write). unit_writes ++ l) (take-append-le m marking_writes system inside) in
         subst (HasNothingSaved format (places_of planned) store)
         (sym (ap (λ (l : List Write). store_after l store) same ∙ after_both unit_writes (take m marking_writes) store))
-        (nothing_saved format laws movable writable few at entry planned store writes accepted full saving m (store_after (take m marking_writes) units)
-        (marks_stand format laws movable writable few at entry planned store writes accepted full saving m))
+        (nothing_saved format laws movable writable few planned store markings accepted full placing m (store_after (take m marking_writes) units)
+        (marks_stand format laws movable writable few planned store markings accepted full placing m))
     | inr within ↦
         subst (λ (l : List Write). HasNothingSaved format (places_of planned) store (store_after l store))
         (sym (ap (take made) saving.are ∙ take-append-le made unit_writes (marking_writes ++ system) within))
-        (nothing_saved format laws movable writable few at entry planned store writes accepted full saving 0 (store_after (take made unit_writes) store)
-        (units_stand format laws movable writable few at entry planned store writes accepted full saving made))
+        (nothing_saved format laws movable writable few planned store markings accepted full placing 0 (store_after (take made unit_writes) store)
+        (units_stand format laws movable writable few planned store markings accepted full placing made))
   ]
 
   -- the units stand, and their places are marked used
@@ -90,29 +93,25 @@ module _ (format : Meaning) (laws : IsReadable format) (movable : IsMovable form
   whole_list = take_all (length markings) markings (omega arith)
 
   kept : IsKept format few now store base
-  kept =
-      subst (λ (l : List Write). IsKept format few now store (store_after l units))
-      (take_all (length markings) marking_writes (omega (arith, length-map markings (marking_write format false store))))
-      (subst (λ (l : List Marking). IsKept format few (marked few (all_marks false l)) store (store_after (take (length markings) marking_writes) units)) whole_list
-      (marks_stand format laws movable writable few at entry planned store writes accepted full saving (length markings)))
+  kept = all_stands format laws movable writable few planned store markings accepted full placing
 
   of_use : All (λ (mark : Mark). mark.free ≡ false) (all_marks false markings)
   of_use = subst (λ (l : List Marking). All (λ (mark : Mark). mark.free ≡ false) (all_marks false l)) whole_list
-      (marks_of_use format laws movable writable few at entry planned store writes accepted full saving (length markings))
+      (marks_of_use format laws movable writable few planned store markings accepted full placing (length markings))
 
   in_plan : All (λ (mark : Mark). Contains (places_of planned) mark.place) (all_marks false markings)
   in_plan = subst (λ (l : List Marking). All (λ (mark : Mark). Contains (places_of planned) mark.place) (all_marks false l)) whole_list
-      (marks_planned format laws movable writable few at entry planned store writes accepted full saving (length markings))
+      (marks_planned format laws movable writable few planned store markings accepted full placing (length markings))
 
   both : {X : Type 0} {b : Bool} → b ≡ false → b ≡ true → X
   both e e' = absurd (cc)
 
   inside_few : (k : ℕ) → k < length planned → (place_of planned k < few.places) × (is_system few (place_of planned k) ≡ false)
-  inside_few k inside = ((movable.described store few accepted.described).available_of (place_of planned k)).0 (saving.new k inside).available
+  inside_few k inside = ((movable.described store few accepted.described).available_of (place_of planned k)).0 (placing.new k inside).available
 
   marked_now : (k : ℕ) → k < length planned → is_free now (place_of planned k) ≡ false
   marked_now k inside =
-      let here = saving.each k inside in
+      let here = placing.each k inside in
       reads_back (mark_as false (place_of planned k)) (all_marks false markings) few
       (omega (arith, (inside_few k inside).0, writable.marks store few accepted.described))
       (mark_of_place false markings here.0 (place_of planned k) here.1 here.2)
@@ -120,9 +119,9 @@ module _ (format : Meaning) (laws : IsReadable format) (movable : IsMovable form
 
   lost : AreLost format now base planned
   lost k inside = (kept_lost format few now store base kept (place_of planned k)).1 (
-    (saving.new k inside).available,
+    (placing.new k inside).available,
     marked_now k inside,
-    unreached format laws movable writable few at entry planned store writes accepted full saving k inside,
+    unreached format laws movable writable few planned store markings accepted full placing k inside,
   )
 
   held : AreHeld base planned
@@ -141,7 +140,7 @@ module _ (format : Meaning) (laws : IsReadable format) (movable : IsMovable form
           system_here : is_system few (slice_index_or markings i d).at ≡ true
           system_here =
               ap (λ (marking : Marking). is_system few marking.at) (get_or_default markings i d no_marking below)
-              ∙ map_unit format laws movable writable few at entry planned store writes accepted full saving i below
+              ∙ map_unit format laws movable writable few planned store markings accepted full placing i below
 
   size : length base ≡ length store
   size = sym (laws.all_places base now kept.accepted.described) ∙ same_places few now kept.frame ∙ laws.all_places store few accepted.described
@@ -189,13 +188,13 @@ module _ (format : Meaning) (laws : IsReadable format) (movable : IsMovable form
 
     lost_still : (place : ℕ) → IsLostOn format store place → IsLostOn format new place
     lost_still place is =
-        let was = lost_here format laws movable writable few at entry planned store writes accepted full saving place is in
+        let was = lost_here format laws movable writable few planned store markings accepted full placing place is in
         let now_lost = (kept_lost format few now store base kept place).1
         (was.available, used_stays (all_marks false markings) few place of_use was.marked, was.unreached) in (
           after,
           has_entered.accepted,
           (planned_lost format laws movable free now at entry base new planned file within kept.accepted rest_now described planned_file place).1
-              (now_lost, λ k inside same. both was.marked (ap (is_free few) (sym same) ∙ (saving.new k inside).free)),
+              (now_lost, λ k inside same. both was.marked (ap (is_free few) (sym same) ∙ (placing.new k inside).free)),
         )
 
     file_saved : HasFileSaved format few at file store new

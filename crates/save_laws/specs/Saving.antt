@@ -36,20 +36,25 @@ with_units store planned = store_after (map unit_write planned) store
 abbrev pub with_places : Meaning → List (List ℕ) → List Planned → List Marking → List (List ℕ)
 with_places format store planned markings = store_after (map (marking_write format false store) markings) (with_units store planned)
 
--- The writes that save a file as entry number `at` of a directory. The units of the plan come first, each to a new place. Then come the units of the map, in rising
--- order and each once, in which the places of the plan are marked used: these places alone, and all of them. Then come those to the directory: from the
--- first of them on the store has the directory with the entry, which leads to the plan, and no unit outside the system is written.
-pub record IsSaving (format : Meaning) (few : Directory) (at : ℕ) (entry : Listed) (planned : List Planned) (store : List (List ℕ)) (writes : List Write) : Type 0 where
-  pub within : at ≤ entries few
-  pub markings : List Marking
-  pub system : List Write
-  pub are : writes ≡ map unit_write planned ++ (map (marking_write format false store) markings ++ system)
+-- What the units of a plan and the marks of its places need. The places are new. The units of the map come in rising order, each once and none without a place, and the places of the
+-- plan are marked in them: these places alone, and all of them.
+pub record IsPlacing (few : Directory) (planned : List Planned) (markings : List Marking) : Type 0 where
   pub new : (k : ℕ) → k < length planned → IsNewPlace few (place_of planned k)
-  pub built : IsBuilt format (length store) planned entry.root
   pub rising : (j k : ℕ) → j < k → k < length markings → (marking_of markings j).at < (marking_of markings k).at
   pub own : (k : ℕ) → k < length markings → All (IsPlannedPlace few planned (marking_of markings k).at) (marking_of markings k).places
   pub some : (k : ℕ) → k < length markings → 0 < length (marking_of markings k).places
   pub each : (j : ℕ) → j < length planned → (k : ℕ) × (k < length markings) × Contains (marking_of markings k).places (place_of planned j)
+
+-- The writes that save a file as entry number `at` of a directory. The units of the plan come first, each to its place, then the units of the map in which these places are marked
+-- used. Then come those to the directory: from the first of them on the store has the directory with the entry, which leads to the plan, and no unit outside the
+-- system is written.
+pub record IsSaving (format : Meaning) (few : Directory) (at : ℕ) (entry : Listed) (planned : List Planned) (store : List (List ℕ)) (writes : List Write) : Type 0 where
+  pub within : at ≤ entries few
+  pub built : IsBuilt format (length store) planned entry.root
+  pub markings : List Marking
+  pub placing : IsPlacing few planned markings
+  pub system : List Write
+  pub are : writes ≡ map unit_write planned ++ (map (marking_write format false store) markings ++ system)
   pub enters : 0 < length system
   pub described : (n : ℕ) → 0 < n → n ≤ length system
       → format.Describes (store_after (take n system) (with_places format store planned markings)) (inserted (marked few (all_marks false markings)) at entry)

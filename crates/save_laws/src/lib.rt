@@ -8,4 +8,7 @@
 
 mod saving;
 
-pub use saving::{a_saving_enters_one_file, a_saving_stopped_before_its_entry_keeps_the_files};
+pub use saving::{
+    a_saving_enters_one_file, a_saving_stopped_before_its_entry_keeps_the_files,
+    placed_units_keep_the_files,
+};

@@ -1,16 +1,28 @@
 // What the writes that save a file leave.
-ghost use Rattle.std.specs.Prelude.{◌≡◌, ◌<◌, ◌≤◌, ◌+◌, ℕ, List, length, map, take};
+ghost use Rattle.std.specs.Prelude.{◌≡◌, ◌<◌, ◌≤◌, ◌+◌, ℕ, false, List, length, map, take};
 ghost use Rattle.a2_device.specs.Device.{unit_at};
 ghost use Rattle.vol_format.specs.Accepted.{IsAccepted};
 ghost use Rattle.vol_format.specs.Directory.{Directory, Listed};
 ghost use Rattle.vol_files.specs.Files.{File};
 ghost use Rattle.entry_laws.specs.Built.{Planned, IsBodyOf};
 ghost use Rattle.entry_laws.specs.EditLaws.{IsFileFree};
+ghost use Rattle.write_laws.specs.Kept.{IsKept};
+ghost use Rattle.write_laws.specs.Marked.{marked};
+ghost use Rattle.delete_laws.specs.Markings.{Marking, all_marks};
 ghost use Rattle.delete_laws.specs.Writes.{Write, store_after};
 ghost use Rattle.save_laws.specs.Saved.{HasFileSaved, HasNothingSaved};
-ghost use Rattle.save_laws.specs.Saving.{IsSaving, places_of};
+ghost use Rattle.save_laws.specs.Saving.{IsPlacing, IsSaving, places_of, with_places};
 
 use vol_format::WritableFormat;
+
+/// A law: once the units of a plan stand at new places and these are marked used, the volume is accepted and has the files that it had.
+pub fn placed_units_keep_the_files<F: WritableFormat>(format: &F)
+    ensures { (few : Directory) (planned : List Planned) (store : List (List ℕ)) (markings : List Marking)
+        → IsAccepted (F.meaning format.now) few store
+        → ((place : ℕ) → place < length store → length (unit_at store place) ≡ (F.meaning format.now).unit_size)
+        → IsPlacing few planned markings
+        → IsKept (F.meaning format.now) few (marked few (all_marks false markings)) store (with_places (F.meaning format.now) store planned markings) }
+{}
 
 /// A law: as long as the entry of a file that is saved has not been written, the volume is accepted and has the files that it had, and a place that is lost then
 /// was lost before or is one of the new file's.

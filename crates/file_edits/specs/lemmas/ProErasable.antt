@@ -26,7 +26,9 @@ use Rattle.pro_entries.proofs.Owners.{own_key}
 use Rattle.pro_entries.proofs.SlotLaws.{slot_inside}
 use Rattle.delete_laws.specs.Writes.{Write, store_after}
 use Rattle.file_edits.specs.Erasing.{HasWholeUnits, IsErasing, IsErasable}
-use Rattle.file_edits.specs.ProErasing.{counting_less, without_entry, pro_erasing, pro_erasures}
+use Rattle.file_edits.specs.declared.counting.FileCount.TheVariants.{Less}
+use Rattle.file_edits.specs.Counting.{counting}
+use Rattle.file_edits.specs.ProErasing.{without_entry, pro_erasing, pro_erasures}
 use Rattle.file_edits.specs.lemmas.Fronts.{one_front, two_fronts}
 
 module _ (reserved : List Bool) (store : List (List ℕ)) (directory : Directory) (described : DescribesPro reserved store directory) (file : ℕ)
@@ -89,7 +91,7 @@ module _ (reserved : List Bool) (store : List (List ℕ)) (directory : Directory
   ]
 
   abbrev both : List (List ℕ)
-  both = slice_set one own.directory (counting_less (unit_at one own.directory))
+  both = slice_set one own.directory (counting Less (unit_at one own.directory))
 
   counted : HasSameDirectory reserved less.few one both
   counted = pro_counts reserved one less.few less.described own.directory (word (unit_at one own.directory) 0x25 - 1)
@@ -114,14 +116,14 @@ module _ (reserved : List Bool) (store : List (List ℕ)) (directory : Directory
       (map_block reserved store directory described (map_place directory place) (omega (arith, at)) (omega (arith, at, inside', total))).1 (subst (Contains tree.blocks) same has)
 
   -- in one write, where both stand in one block
-  one_write : own.place ≡ own.directory → IsErasing (pro_meaning reserved) directory file store (record { place = own.place; unit = counting_less emptied } ∷ [])
+  one_write : own.place ≡ own.directory → IsErasing (pro_meaning reserved) directory file store (record { place = own.place; unit = counting Less emptied } ∷ [])
   one_write same =
-      let write : Write = record { place = own.place; unit = counting_less emptied } in
+      let write : Write = record { place = own.place; unit = counting Less emptied } in
       let there : unit_at one own.directory ≡ emptied = ap (unit_at one) (sym same) ∙ get_or-set_same store own.place emptied [] (below own.place block_has) in
       let is : both ≡ store_after (write ∷ []) store =
-      ap (λ u. slice_set one own.directory (counting_less u)) there
-      ∙ ap (λ p. slice_set one p (counting_less emptied)) (sym same)
-      ∙ set-set store own.place emptied (counting_less emptied) in
+      ap (λ u. slice_set one own.directory (counting Less u)) there
+      ∙ ap (λ p. slice_set one p (counting Less emptied)) (sym same)
+      ∙ set-set store own.place emptied (counting Less emptied) in
       record {
         few = less.few;
         takes = takes;
@@ -137,12 +139,12 @@ module _ (reserved : List Bool) (store : List (List ℕ)) (directory : Directory
 
   -- in two, where they stand in two
   two_writes : own.place ≢ own.directory → IsErasing (pro_meaning reserved) directory file store
-      (record { place = own.place; unit = emptied } ∷ record { place = own.directory; unit = counting_less (unit_at store own.directory) } ∷ [])
+      (record { place = own.place; unit = emptied } ∷ record { place = own.directory; unit = counting Less (unit_at store own.directory) } ∷ [])
   two_writes apart =
       let first : Write = record { place = own.place; unit = emptied } in
-      let second : Write = record { place = own.directory; unit = counting_less (unit_at store own.directory) } in
+      let second : Write = record { place = own.directory; unit = counting Less (unit_at store own.directory) } in
       let is : both ≡ store_after (first ∷ second ∷ []) store =
-      ap (λ u. slice_set one own.directory (counting_less u)) (get_or-set_other store own.place own.directory emptied [] (λ same. apart (sym same))) in
+      ap (λ u. slice_set one own.directory (counting Less u)) (get_or-set_other store own.place own.directory emptied [] (λ same. apart (sym same))) in
       record {
         few = less.few;
         takes = takes;
@@ -161,8 +163,8 @@ module _ (reserved : List Bool) (store : List (List ℕ)) (directory : Directory
   erased_entry = by_test (own.place == own.directory) refl
     where
       by_test : (b : Bool) → (own.place == own.directory) ≡ b → IsErasing (pro_meaning reserved) directory file store
-          (if b then record { place = own.place; unit = counting_less emptied } ∷ []
-          else (record { place = own.place; unit = emptied } ∷ record { place = own.directory; unit = counting_less (unit_at store own.directory) } ∷ []))
+          (if b then record { place = own.place; unit = counting Less emptied } ∷ []
+          else (record { place = own.place; unit = emptied } ∷ record { place = own.directory; unit = counting Less (unit_at store own.directory) } ∷ []))
       by_test true same = one_write (eqb-true own.place own.directory same)
       by_test false apart = two_writes (eqb-false own.place own.directory apart)
 

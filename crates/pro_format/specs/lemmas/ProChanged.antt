@@ -43,7 +43,7 @@ module _ (change : Entry → Entry) (keeps : KeepsDirectories change) (store new
   last_among from (block ∷ rest) last has among way =
       last_among block rest last (among block (0, omega arith, refl)) (λ b has'. among b (Contains-cons block rest b has')) way.2
 
-  run_changed : (key : ℕ) (own : List ℕ) → AreAmong own all → IsRun store key own → IsRun new key own
+  pub run_changed : (key : ℕ) (own : List ℕ) → AreAmong own all → IsRun store key own → IsRun new key own
   run_changed key own among run =
       let among' : AreAmong (key ∷ run.rest) all = subst (λ bs. AreAmong bs all) run.is among in
       let first : Contains all key = among' key (0, omega arith, refl) in

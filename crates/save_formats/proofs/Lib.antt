@@ -1,0 +1,3 @@
+mod Walked
+mod ProTargets
+mod PathStarts

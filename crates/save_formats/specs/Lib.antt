@@ -1,0 +1,4 @@
+pub mod Saves
+pub mod DosSaves
+pub mod ProSaves
+pub mod lemmas

@@ -1,0 +1,2 @@
+pub mod DosSavable
+pub mod ProSavable
