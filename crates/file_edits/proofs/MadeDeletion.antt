@@ -22,7 +22,7 @@ use Rattle.file_edits.specs.Writes.{HasEdited, StopsIn, device_after, no_write}
 use Rattle.file_edits.proofs.Changed.{read_keeps, write_leaves}
 
 -- the store of a device after some writes
-store_of : (writes : List Write) (device : DeviceState) → (device_after writes device).store ≡ store_after writes device.store
+pub store_of : (writes : List Write) (device : DeviceState) → (device_after writes device).store ≡ store_after writes device.store
 store_of [] device = refl
 store_of (write ∷ writes) device = store_of writes (written write.place write.unit device)
 

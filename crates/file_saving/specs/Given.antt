@@ -1,0 +1,13 @@
+-- A new file as its owner gives it.
+use Rattle.std.specs.Prelude.{ℕ, ◌+◌, ◌*◌, Bool, if◌then◌else◌, List, map, replicate, slice_range}
+use Rattle.std.specs.List.{range_with_len}
+use Rattle.new_files.specs.Parts.{is_stored}
+
+-- Unit `number` of a file whose units, of a size, stand one after the other; a hole is zeros.
+abbrev pub given_unit : ℕ → List Bool → List ℕ → ℕ → List ℕ
+given_unit size stored text number =
+    if is_stored stored number then slice_range text (size * number) (size * number + size) else replicate size 0
+
+-- the first of them, so many; behind those that are given there are zeros
+abbrev pub given_units : ℕ → List Bool → List ℕ → ℕ → List (List ℕ)
+given_units size stored text count = map (given_unit size stored text) (range_with_len 0 count)
