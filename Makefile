@@ -1,6 +1,6 @@
 # make            builds the proved program to ./a2shop
 # make demo       builds it; lists, checks, plans and optimizes a DOS sample, and lists it again, from disk bytes too;
-#                 unlocks, renames and deletes its file; checks, plans and optimizes a ProDOS sample, lists it before and after, and verifies the plan
+#                 saves a file to it and reads it back; unlocks, renames and deletes files; checks, plans and optimizes a ProDOS sample, lists it before and after, and verifies the plan
 # make test       runs the gate (every proof from nothing, the must-fail edits, all tests) and the end-to-end tests
 # make assure     tries the further edits, crates/*/assure, that the prover must refuse; each run of the gate tries a share
 # make install    copies the program that was built, its manual page and the completions of the shells to $(PREFIX), and proves nothing
@@ -28,6 +28,11 @@ demo: a2shop
 	./a2shop catalog samples/hello.dsk --fs dos --order dos
 	./a2shop check samples/hello.dsk --fs dos --order dos
 	./a2shop read samples/hello.dsk HELLO --fs dos --order dos | od -A n -t x1
+	./a2shop save samples/hello.dsk NOTE --fs dos --order dos --from samples/README.md --type B --aux 768 --out demo.dsk
+	./a2shop catalog demo.dsk --fs dos --order dos
+	./a2shop read demo.dsk NOTE --fs dos --order dos | cmp - samples/README.md
+	./a2shop rename demo.dsk NOTE LETTER --fs dos --order dos --out demo.dsk
+	./a2shop delete demo.dsk LETTER --fs dos --order dos --out demo.dsk
 	./a2shop unlock samples/hello.dsk HELLO --fs dos --order dos --out demo.dsk
 	./a2shop catalog demo.dsk --fs dos --order dos
 	./a2shop rename demo.dsk HELLO GREETING --fs dos --order dos --out demo.dsk
@@ -42,6 +47,8 @@ demo: a2shop
 	./a2shop catalog demo.nib --fs dos --order nibble
 	./a2shop catalog samples/work.po --fs prodos --order prodos
 	./a2shop check samples/work.po --fs prodos --order prodos
+	./a2shop save samples/work.po NOTE --fs prodos --order prodos --from samples/README.md --type 04 --date 1986-05-01T12:30 --out demo.po
+	./a2shop read demo.po NOTE --fs prodos --order prodos | cmp - samples/README.md
 	./a2shop plan samples/work.po --fs prodos --order prodos > demo.cert
 	cat demo.cert
 	./a2shop verify samples/work.po --fs prodos --order prodos --from demo.cert

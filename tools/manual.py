@@ -1,6 +1,6 @@
 #!/usr/bin/env python3
 """Makes the manual page and the completions of the shells from what the program itself tells of its commands; what its answers mean is
-taken from the table of its explanations.
+taken from the tables of its explanations.
 
 tools/manual.py PROGRAM          writes man/a2shop.1 and completions/ anew
 tools/manual.py PROGRAM --check  writes nothing, and fails where one of them is not what the program tells
@@ -12,7 +12,7 @@ import subprocess
 import sys
 
 TOP = pathlib.Path(__file__).resolve().parent.parent
-TABLE = TOP / "crates/explanations/src/table.rt"
+TABLES = [TOP / "crates/explanations/src" / name for name in ("refusals.rt", "findings.rt")]
 
 DESCRIPTION = """\
 .B a2shop
@@ -97,7 +97,7 @@ def choices_of(text):
 
 
 def takes_file(text):
-    return text.startswith(("File of", "File that"))
+    return text.startswith(("File of", "File that", "File whose"))
 
 
 def troff(text):
@@ -106,8 +106,9 @@ def troff(text):
 
 
 def explanations():
-    """The rows of the table: what is told, what it means, and what to do next."""
-    texts = re.findall(r'(?:front|meaning|advice): "((?:[^"\\]|\\.|\\\n)*)"', TABLE.read_text(encoding="utf-8"))
+    """The rows of the tables: what is told, what it means, and what to do next."""
+    rows = "".join(table.read_text(encoding="utf-8") for table in TABLES)
+    texts = re.findall(r'(?:front|meaning|advice): "((?:[^"\\]|\\.|\\\n)*)"', rows)
     texts = [re.sub(r"\\\n\s*", "", text) for text in texts]
     return list(zip(texts[::3], texts[1::3], texts[2::3]))
 

@@ -1,6 +1,6 @@
 // What is told to people beside the answer.
 use a2_image::Order;
-use explanations::{TABLE, explained};
+use explanations::{Explanation, FINDINGS, REFUSALS, explained};
 use job_reply::most_bytes;
 use shop_words::{ImageOrder, escaped};
 use std::{fmt, io};
@@ -90,10 +90,14 @@ fn tell_image(rt: &HostRuntime, found: &Found) -> io::Result<()> {
     }
 }
 
-// Tells on standard error which image was read, and what each of the words means that begin a line of what was told.
-fn tell(rt: &HostRuntime, found: &Found, told: &[u8]) -> io::Result<()> {
-    tell_image(rt, found)?;
-    for row in explained(rt.alloc(), &TABLE, told)? {
+// Tells what each of the words of a table means that begin a line of what was told.
+fn tell_rows(
+    rt: &HostRuntime,
+    found: &Found,
+    table: &[Explanation],
+    told: &[u8],
+) -> io::Result<()> {
+    for row in explained(rt.alloc(), table, told)? {
         let front = row.front;
         let meaning = row.meaning;
         let advice = row.advice;
@@ -104,6 +108,13 @@ fn tell(rt: &HostRuntime, found: &Found, told: &[u8]) -> io::Result<()> {
         eprintln!(rt; "{front}: {meaning} {advice}")?;
     }
     Ok(())
+}
+
+// Tells on standard error which image was read, and what each of the words means that begin a line of what was told.
+fn tell(rt: &HostRuntime, found: &Found, told: &[u8]) -> io::Result<()> {
+    tell_image(rt, found)?;
+    tell_rows(rt, found, &REFUSALS, told)?;
+    tell_rows(rt, found, &FINDINGS, told)
 }
 
 /// Explains on standard error what was told. Where that can't be written, nothing else changes.

@@ -16,6 +16,7 @@ pub fn image_path(job: &Job) -> &str
         | Job::Plan { image, .. }
         | Job::Optimize { image, .. }
         | Job::Edit { image, .. }
+        | Job::Save { image, .. }
         | Job::Verify { image, .. }
         | Job::Convert { image, .. }
         | Job::Identify { image } => image.as_str(),
@@ -27,7 +28,7 @@ pub fn from_path(job: &Job) -> Option<&str>
     ensures { option_map (λ s. s.now) result ≡ from_of (job_view job.now) }
 {
     match job {
-        Job::Verify { from, .. } => Some(from.as_str()),
+        Job::Save { from, .. } | Job::Verify { from, .. } => Some(from.as_str()),
         _ => None,
     }
 }
@@ -43,9 +44,10 @@ pub fn out_path(job: &Job) -> Option<&str>
         | Job::Plan { .. }
         | Job::Verify { .. }
         | Job::Identify { .. } => None,
-        Job::Convert { out, .. } | Job::Optimize { out, .. } | Job::Edit { out, .. } => {
-            Some(out.as_str())
-        }
+        Job::Convert { out, .. }
+        | Job::Optimize { out, .. }
+        | Job::Edit { out, .. }
+        | Job::Save { out, .. } => Some(out.as_str()),
     }
 }
 
@@ -68,6 +70,7 @@ pub fn volume_of(job: &Job) -> Option<VolumeOptions> {
         | Job::Plan { volume, .. }
         | Job::Optimize { volume, .. }
         | Job::Edit { volume, .. }
+        | Job::Save { volume, .. }
         | Job::Verify { volume, .. } => Some(*volume),
         Job::Convert { .. } | Job::Identify { .. } => None,
     }

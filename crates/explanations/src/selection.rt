@@ -2,7 +2,7 @@
 ghost use Rattle.std.specs.Prelude.{◌≡◌, IfOk, filter, map};
 ghost use Rattle.explanations.specs.Explained.{begins_a_line, begins_line, ends_words};
 
-use crate::table::Explanation;
+use crate::explanation::Explanation;
 use std::alloc::{AllocError, Global};
 
 // Whether no byte, or a space, stands behind words.

@@ -1,10 +1,9 @@
 -- Bytes written in turn.
-use Rattle.std.specs.Prelude.{◌≡◌, ◌≤◌, ℕ, ◌+◌, ◌-◌, List, ◌++◌, length, take, Option, Some, None, Result, Ok, Err}
-use Rattle.std.proofs.Common.{sym, ◌∙◌, ap, append_assoc, arith}
+use Rattle.std.specs.Prelude.{ℕ, ◌+◌, List, ◌++◌, take, Option, Some, None}
+use Rattle.std.proofs.Common.{sym, ◌∙◌, ap, append_assoc}
 use Rattle.std.proofs.Math.ListN.{drop}
 use Rattle.std.proofs.Math.Seq.{take-add}
-use Rattle.std.specs.Io.{WritesAtMost}
-use Rattle.std.specs.Io.KnownBytes.{Appends, Keeps, WriteAppends}
+use Rattle.std.specs.Io.KnownBytes.{Appends, Keeps}
 
 pub appends_on : (old mid new : Option (List ℕ)) (bytes : List ℕ) (n m : ℕ) → Appends old mid (take n bytes) → Appends mid new (take m (drop n bytes))
     → Appends old new (take (n + m) bytes)

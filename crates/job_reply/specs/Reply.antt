@@ -11,6 +11,8 @@ use Rattle.job_reply.specs.declared.reply.Reply.{Reply}
 use Rattle.job_reply.specs.declared.reply.Reply.TheVariants.{Done, Faulty, Bytes, Made, Optimized, Interrupted, Refused, Unopened, Failed}
 
 abbrev pub refusal_line : Refusal → List ℕ
+refusal_line refusals.Type = codes "REFUSED Type\n"
+refusal_line refusals.Date = codes "REFUSED Date\n"
 refusal_line refusals.Reserve = codes "REFUSED Reserve\n"
 refusal_line refusals.Length = codes "REFUSED Length\n"
 refusal_line refusals.Check = codes "REFUSED Check\n"
@@ -18,6 +20,9 @@ refusal_line refusals.NotFound = codes "REFUSED NotFound\n"
 refusal_line refusals.Name = codes "REFUSED Name\n"
 refusal_line refusals.Exists = codes "REFUSED Exists\n"
 refusal_line refusals.Locked = codes "REFUSED Locked\n"
+refusal_line refusals.TooLong = codes "REFUSED TooLong\n"
+refusal_line refusals.DirFull = codes "REFUSED DirFull\n"
+refusal_line refusals.VolumeFull = codes "REFUSED VolumeFull\n"
 refusal_line refusals.NoFreePlace = codes "REFUSED NoFreePlace\n"
 refusal_line refusals.InputTooLong = codes "REFUSED InputTooLong\n"
 refusal_line refusals.NoSector = codes "REFUSED NoSector\n"

@@ -8,6 +8,10 @@ use std::io::{ErrorKind, Write};
 /// Why a job was refused.
 #[derive(Clone, Copy, Debug, PartialEq, Eq)]
 pub enum Refusal {
+    /// The format has no such type of files.
+    Type,
+    /// The text of the date is no date and time that the format can have.
+    Date,
     /// The text of the places to reserve is no list of places.
     Reserve,
     /// The image has the wrong length for its order.
@@ -22,6 +26,12 @@ pub enum Refusal {
     Exists,
     /// The file is locked.
     Locked,
+    /// The file is longer than a file can be.
+    TooLong,
+    /// The directory has no free entry.
+    DirFull,
+    /// Fewer places are free than the file takes.
+    VolumeFull,
     /// Some part is misplaced, and each place has a part.
     NoFreePlace,
     /// The file that is read beside the image is too long.
@@ -66,6 +76,8 @@ impl Refusal {
         ensures { result.now ≡ refusal_line self }
     {
         match self {
+            Refusal::Type => b"REFUSED Type\n",
+            Refusal::Date => b"REFUSED Date\n",
             Refusal::Reserve => b"REFUSED Reserve\n",
             Refusal::Length => b"REFUSED Length\n",
             Refusal::Check => b"REFUSED Check\n",
@@ -73,6 +85,9 @@ impl Refusal {
             Refusal::Name => b"REFUSED Name\n",
             Refusal::Exists => b"REFUSED Exists\n",
             Refusal::Locked => b"REFUSED Locked\n",
+            Refusal::TooLong => b"REFUSED TooLong\n",
+            Refusal::DirFull => b"REFUSED DirFull\n",
+            Refusal::VolumeFull => b"REFUSED VolumeFull\n",
             Refusal::NoFreePlace => b"REFUSED NoFreePlace\n",
             Refusal::InputTooLong => b"REFUSED InputTooLong\n",
             Refusal::NoSector => b"REFUSED NoSector\n",

@@ -1,9 +1,10 @@
 -- What was read of an image answers for the whole image, and words for their job.
-use Rattle.std.proofs.Common.{◌≡◌, ◌≢◌, ℕ, ◌+◌, Bool, List, take, refl, subst, arith, inl, inr, ⊎_elim}
+use Rattle.std.proofs.Common.{◌≡◌, ◌≢◌, ℕ, ◌+◌, Bool, List, [], take, refl, subst, arith, inl, inr, ⊎_elim}
 use Rattle.std.specs.Io.KnownBytes.{Appends, Keeps}
 use Rattle.std.specs.Prelude.{◌⊎◌, Option, Some, None, IfSome, codes}
 use Rattle.a2_image.specs.declared.order.Order.{Order}
-use Rattle.shop_words.specs.Job.{EditView, JobView, catalog, check, read, convert, plan, optimize, edit, verify, identify, asked_job, IsTaken}
+use Rattle.pro_dir.specs.declared.date.ProDate.{ProDate}
+use Rattle.shop_words.specs.Job.{EditView, JobView, SaveView, catalog, check, read, convert, plan, optimize, edit, save, verify, identify, asked_job, IsTaken}
 use Rattle.shop_words.specs.Fault.{IsFaultOf}
 use Rattle.shop_words.specs.declared.fault.WordsFault.{WordsFault}
 use Rattle.shop_words.specs.declared.fault.WordsFault.TheVariants as words
@@ -14,13 +15,16 @@ use Rattle.job_reply.specs.declared.reply.Reply.TheVariants.{Done, Faulty, Bytes
 use Rattle.job_reply.specs.Disk.{most_bytes}
 use Rattle.job_reply.specs.Reply.{HandsOut, Held, IsDelivered, IsMade, held}
 use Rattle.job_reply.proofs.Fronts.{convert-whole}
+use Rattle.job_reply.proofs.NotMade.{refused_not_made}
+use Rattle.job_reply.specs.declared.reply.Refusal.TheVariants as refusals
 use Rattle.volume_jobs.specs.VerifyReply.{most_certificate}
 use Rattle.volume_jobs.specs.Volume.{device_of, edits_of, files_of, form_of, meaning_of}
-use Rattle.volume_jobs.specs.Work.{IsWorkReply, WorkView, Catalog, Read, Check, Plan, Optimize, Change, Verify}
+use Rattle.volume_jobs.specs.Work.{IsWorkReply, WorkView, Catalog, Read, Check, Plan, Optimize, Change, Save, Verify}
 use Rattle.volume_jobs.specs.EditReply.{IsImageReply}
-use Rattle.volume_jobs.proofs.NotMade.{edited_image, volume_made}
-use Rattle.volume_jobs.proofs.Fronts.{verified-take, volume-whole}
-use Rattle.shop_commands.specs.Answer.{HandsOutFor, IsReadFailure, limit_of, IsToldOf, IsReplyTo, IsAnswer, IsCommandAnswer, IsWordsAnswer, MakesImage, ReadsExtra, image_order_of, order_of}
+use Rattle.volume_jobs.specs.SaveReply.{most_input}
+use Rattle.volume_jobs.proofs.NotMade.{edited_image, saved_image, volume_made}
+use Rattle.volume_jobs.proofs.Fronts.{saved-take, verified-take, volume-whole}
+use Rattle.shop_commands.specs.Answer.{HandsOutFor, IsDatedReply, IsReadFailure, IsSaveReply, given_of, limit_of, IsToldOf, IsReplyTo, IsAnswer, IsCommandAnswer, IsWordsAnswer, MakesImage, ReadsExtra, image_order_of, order_of}
 use Rattle.image_readings.proofs.Fronts.{identify-whole}
 use Rattle.image_readings.proofs.NotMade.{identify_not_made}
 use Rattle.shop_commands.proofs.NotMade.{told_not_made}
@@ -39,11 +43,47 @@ verified_whole volume reserve image reclaim front bytes reply taken is = elim is
   )))
 ]
 
+-- and so is a file
+saved_whole : (words : SaveView) (reserve : Option (List ℕ)) (image : List ℕ) (kind : ℕ) (date : ProDate) (front bytes : List ℕ) (reply : Reply) → front ≡ take (most_input + 1) bytes
+    → IsToldOf words.volume reserve image (Save words.name (given_of words kind date front)) reply → IsToldOf words.volume reserve image (Save words.name (given_of words kind date bytes)) reply
+saved_whole words reserve image kind date front bytes reply taken is = elim is [
+  | inl refused ↦ inl refused
+  | inr (inl long) ↦ inr (inl long)
+  | inr (inr (inl memory)) ↦ inr (inr (inl memory))
+  | inr (inr (inr told)) ↦ inr (inr (inr (
+    told.0,
+    told.1,
+    (
+      told.2.0,
+      told.2.1,
+      told.2.2,
+      saved-take words.name front bytes (given_of words kind date []) (edits_of words.volume.file_system).save
+          (meaning_of words.volume.file_system words.volume.data_disk told.0) (device_of words.volume.file_system told.2.1) reply taken told.2.3,
+    ),
+  )))
+]
+
 told-whole : (volume : VolumeOptions) (reserve : Option (List ℕ)) (image : List ℕ) (work : WorkView) (reply : Reply)
     → IsToldOf volume reserve (take (most_bytes (order_of volume.order) + 1) image) work reply → IsToldOf volume reserve image work reply
 told-whole volume reserve image work reply is =
     volume-whole volume.file_system (order_of volume.order) volume.data_disk reserve image
     (IsWorkReply work (form_of volume.file_system) (files_of volume.file_system) (edits_of volume.file_system)) reply is
+
+dated-whole : (words : SaveView) (reserve : Option (List ℕ)) (image : List ℕ) (kind : ℕ) (front bytes : List ℕ) (reply : Reply) → front ≡ take (most_input + 1) bytes
+    → IsDatedReply words reserve (take (most_bytes (order_of words.volume.order) + 1) image) front kind reply → IsDatedReply words reserve image bytes kind reply
+dated-whole words reserve image kind front bytes reply taken (inl refused) = inl refused
+dated-whole words reserve image kind front bytes reply taken (inr told) =
+    inr (
+      told.0,
+      told.1,
+      saved_whole words reserve image kind told.0 front bytes reply taken
+          (told-whole words.volume reserve image (Save words.name (given_of words kind told.0 front)) reply told.2),
+    )
+
+save-whole : (words : SaveView) (reserve : Option (List ℕ)) (image front bytes : List ℕ) (reply : Reply) → front ≡ take (most_input + 1) bytes
+    → IsSaveReply words reserve (take (most_bytes (order_of words.volume.order) + 1) image) front reply → IsSaveReply words reserve image bytes reply
+save-whole words reserve image front bytes reply taken (inl refused) = inl refused
+save-whole words reserve image front bytes reply taken (inr told) = inr (told.0, told.1, dated-whole words reserve image told.0 front bytes reply taken told.2)
 
 -- the bytes that are read of an image
 abbrev pub front_for : JobView → List ℕ → List ℕ
@@ -60,6 +100,8 @@ reply-whole (plan path volume reserve reclaim in_words) image more extra reply t
 reply-whole (optimize words reserve reclaim cert) image more extra reply taken is =
     told-whole words.volume reserve image (Optimize reclaim (limit_of words.stop_after)) reply is
 reply-whole (edit path name volume change out reserve) image more extra reply taken is = told-whole volume reserve image (Change change name) reply is
+reply-whole (save words reserve) image more None reply taken is = tt
+reply-whole (save words reserve) image more (Some bytes) reply taken is = save-whole words reserve image more bytes reply (taken tt) is
 reply-whole (verify path volume from reserve reclaim) image more None reply taken is = tt
 reply-whole (verify path volume from reserve reclaim) image more (Some bytes) reply taken is =
     verified_whole volume reserve image reclaim more bytes reply (taken tt) (told-whole volume reserve image (Verify reclaim more) reply is)
@@ -94,6 +136,7 @@ makes_image (read path name volume whole) image more reply is made = absurd (tol
 makes_image (plan path volume reserve reclaim in_words) image more reply is made = absurd (told_not_made volume reserve image (Plan reclaim in_words) tt reply is made)
 makes_image (optimize words reserve reclaim cert) image more reply is made = tt
 makes_image (edit path name volume change out reserve) image more reply is made = tt
+makes_image (save words reserve) image more reply is made = tt
 makes_image (verify path volume from reserve reclaim) image more reply is made = absurd (told_not_made volume reserve image (Verify reclaim more) tt reply is made)
 makes_image (convert words) image more reply is made = tt
 makes_image (identify path) image more reply is made = absurd (identify_not_made image reply is made)
@@ -105,6 +148,20 @@ edit_makes_image volume reserve image change name reply is made =
     volume_made volume.file_system (order_of volume.order) volume.data_disk reserve image
     (IsWorkReply (Change change name) (form_of volume.file_system) (files_of volume.file_system) (edits_of volume.file_system)) reply (IsImageReply reply)
     (λ format device told. edited_image change name (files_of volume.file_system) (edits_of volume.file_system) format device reply told made) is made
+
+-- so does a saving
+save_makes_image : (words : SaveView) (reserve : Option (List ℕ)) (image bytes : List ℕ) (reply : Reply) → IsSaveReply words reserve image bytes reply → IsMade reply → IsImageReply reply
+save_makes_image words reserve image bytes reply is made = elim is [
+  | inl refused ↦ absurd (refused_not_made refusals.Type reply refused.0 made)
+  | inr (_, _, inl refused) ↦ absurd (refused_not_made refusals.Date reply refused.0 made)
+  | inr (kind, _, inr told) ↦ told_image kind told.0 told.2
+]
+  where
+    told_image : (kind : ℕ) (date : ProDate) → IsToldOf words.volume reserve image (Save words.name (given_of words kind date bytes)) reply → IsImageReply reply
+    told_image kind date told =
+        volume_made words.volume.file_system (order_of words.volume.order) words.volume.data_disk reserve image
+        (IsWorkReply (Save words.name (given_of words kind date bytes)) (form_of words.volume.file_system) (files_of words.volume.file_system) (edits_of words.volume.file_system)) reply (IsImageReply reply)
+        (λ format device is. saved_image words.name (given_of words kind date bytes) (edits_of words.volume.file_system).save format device reply is made) told made
 
 ok_handed : (reply : Reply) (status : ℕ) (old new : Option (List ℕ)) → IsImageReply reply → HandsOut reply status old new
     → Appends old new (codes "OK\n") × ((status ≡ 0) ⊎ (status ≡ 4))
@@ -118,7 +175,7 @@ ok_handed (Refused refusal) status old new is out = absurd is
 ok_handed (Unopened text) status old new is out = absurd is
 ok_handed (Failed failure) status old new is out = absurd is
 
--- the image of a conversion, or of an edit, is handed out with `OK`
+-- the image of a conversion, of an edit or of a saving is handed out with `OK`
 hands_for : (job : JobView) (image more : List ℕ) (reply : Reply) (status : ℕ) (old new : Option (List ℕ)) → IsReplyTo job image (Some more) reply → IsMade reply
     → HandsOut reply status old new → HandsOutFor job status old new
 hands_for (convert words) image more (Made content) status old new is made out = out
@@ -131,6 +188,7 @@ hands_for (convert words) image more (Refused refusal) status old new is made ou
 hands_for (convert words) image more (Unopened text) status old new is made out = absurd made
 hands_for (convert words) image more (Failed failure) status old new is made out = absurd made
 hands_for (edit path name volume change file reserve) image more reply status old new is made out = ok_handed reply status old new (edit_makes_image volume reserve image change name reply is made) out
+hands_for (save words reserve) image more reply status old new is made out = ok_handed reply status old new (save_makes_image words reserve image more reply is made) out
 hands_for (catalog path volume) image more reply status old new is made out = (reply, made, out)
 hands_for (check path volume reserve) image more reply status old new is made out = (reply, made, out)
 hands_for (read path name volume whole) image more reply status old new is made out = (reply, made, out)

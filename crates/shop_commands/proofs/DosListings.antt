@@ -1,7 +1,7 @@
 -- What is told of a job that lists a DOS 3.3 disk, in the words of its format.
 use Rattle.std.proofs.Common.{ℕ, List, inl, inr, ⊎_elim}
 use Rattle.std.specs.Prelude.{Option, Some, None, IfSome}
-use Rattle.shop_words.specs.Job.{JobView, catalog, check, read, convert, plan, optimize, edit, verify, identify}
+use Rattle.shop_words.specs.Job.{JobView, catalog, check, read, convert, plan, optimize, edit, save, verify, identify}
 use Rattle.job_reply.specs.Reply.{Held}
 use Rattle.volume_jobs.proofs.DosListings.{dos_catalog_listed}
 use Rattle.shop_commands.specs.Answer.{IsAnswer, IsDosCatalogAnswer, order_of}
@@ -16,6 +16,7 @@ answer-dos (read path name volume whole) image extra status old new answer = tt
 answer-dos (plan path volume reserve reclaim in_words) image extra status old new answer = tt
 answer-dos (optimize words reserve reclaim cert) image extra status old new answer = tt
 answer-dos (edit path name volume change out reserve) image extra status old new answer = tt
+answer-dos (save words reserve) image extra status old new answer = tt
 answer-dos (verify path volume from reserve reclaim) image extra status old new answer = tt
 answer-dos (convert words) image extra status old new answer = tt
 answer-dos (identify path) image extra status old new answer = tt

@@ -1,5 +1,6 @@
 pub mod Fronts
 pub mod NotMade
 pub mod Edits
+pub mod Saves
 pub mod Answered
 pub mod DosListings

@@ -4,7 +4,13 @@ use Rattle.std.specs.Io.KnownBytes.{Appends, Keeps}
 use Rattle.a2_image.specs.declared.order.Order.{Order}
 use Rattle.a2_image.specs.declared.order.Order.TheVariants as orders
 use Rattle.file_cmds.specs.DosText.{Text}
-use Rattle.shop_words.specs.Job.{JobView, catalog, check, read, convert, plan, optimize, edit, verify, identify, asked_job, IsTaken}
+use Rattle.given_file.specs.Content.{GivenView}
+use Rattle.given_file.specs.Words.{IsDateOf, NamesDate, dos_head, dos_kind, pro_kind}
+use Rattle.given_file.specs.declared.content.Head.{Head}
+use Rattle.given_file.specs.declared.content.Head.TheVariants as heads
+use Rattle.pro_dir.specs.declared.date.ProDate.{ProDate}
+use Rattle.shop_words.specs.Job.{JobView, SaveView, catalog, check, read, convert, plan, optimize, edit, save, verify, identify, asked_job, IsTaken}
+use Rattle.shop_words.specs.declared.job.FileSystem.{FileSystem}
 use Rattle.shop_words.specs.declared.job.FileSystem.TheVariants as systems
 use Rattle.shop_words.specs.declared.job.ImageOrder.{ImageOrder}
 use Rattle.shop_words.specs.declared.job.ImageOrder.TheVariants as wanted
@@ -15,12 +21,13 @@ use Rattle.shop_words.specs.declared.fault.WordsFault.TheVariants as words
 use Rattle.job_reply.specs.declared.reply.Failure.{Failure}
 use Rattle.job_reply.specs.declared.reply.Failure.TheVariants as failures
 use Rattle.job_reply.specs.declared.reply.Reply.{Reply}
-use Rattle.job_reply.specs.declared.reply.Reply.TheVariants.{Failed}
+use Rattle.job_reply.specs.declared.reply.Refusal.TheVariants as refusals
+use Rattle.job_reply.specs.declared.reply.Reply.TheVariants.{Failed, Refused}
 use Rattle.job_reply.specs.Reply.{HandsImage, Held, IsDelivered, IsWritten, failure_line}
 use Rattle.volume_jobs.specs.DosCatalogReply.{IsDosCatalogReply}
 use Rattle.volume_jobs.specs.Volume.{edits_of, files_of, form_of}
 use Rattle.volume_jobs.specs.VolumeReply.{IsVolumeReply}
-use Rattle.volume_jobs.specs.Work.{IsWorkReply, WorkView, Catalog, Read, Check, Plan, Optimize, Change, Verify}
+use Rattle.volume_jobs.specs.Work.{IsWorkReply, WorkView, Catalog, Read, Check, Plan, Optimize, Change, Save, Verify}
 use Rattle.job_reply.specs.ConvertReply.{IsConvertReply}
 use Rattle.image_readings.specs.IdentifyReply.{IsIdentifyReply}
 
@@ -32,12 +39,14 @@ image_of (read path name volume whole) = path
 image_of (plan path volume reserve reclaim in_words) = path
 image_of (optimize words reserve reclaim cert) = words.image
 image_of (edit path name volume change out reserve) = path
+image_of (save words reserve) = words.image
 image_of (verify path volume from reserve reclaim) = path
 image_of (convert words) = words.image
 image_of (identify path) = path
 
 -- the path of the file that a job reads beside the image
 abbrev pub from_of : JobView → Option Text
+from_of (save words reserve) = Some words.from
 from_of (verify path volume from reserve reclaim) = Some from
 from_of job = None
 
@@ -49,6 +58,7 @@ out_of (read path name volume whole) = None
 out_of (plan path volume reserve reclaim in_words) = None
 out_of (optimize words reserve reclaim cert) = Some words.out
 out_of (edit path name volume change out reserve) = Some out
+out_of (save words reserve) = Some words.out
 out_of (verify path volume from reserve reclaim) = None
 out_of (convert words) = Some words.out
 out_of (identify path) = None
@@ -72,6 +82,7 @@ image_order_of (read path name volume whole) = order_of volume.order
 image_order_of (plan path volume reserve reclaim in_words) = order_of volume.order
 image_order_of (optimize words reserve reclaim cert) = order_of words.volume.order
 image_order_of (edit path name volume change out reserve) = order_of volume.order
+image_order_of (save words reserve) = order_of words.volume.order
 image_order_of (verify path volume from reserve reclaim) = order_of volume.order
 image_order_of (convert words) = order_of words.order
 image_order_of (identify path) = orders.Prodos
@@ -89,6 +100,38 @@ abbrev pub IsToldOf : VolumeOptions → Option Text → List ℕ → WorkView �
 IsToldOf volume reserve image work reply =
     IsVolumeReply volume.file_system (order_of volume.order) volume.data_disk reserve image (IsWorkReply work (form_of volume.file_system) (files_of volume.file_system) (edits_of volume.file_system)) reply
 
+-- the type that the words name, in a file system
+abbrev pub kind_of : FileSystem → Option Text → Option ℕ
+kind_of systems.Dos word = dos_kind word
+kind_of systems.Prodos word = pro_kind word
+
+-- what a file system puts before the bytes of a file of this type
+abbrev pub head_of : FileSystem → ℕ → Head
+head_of systems.Dos kind = dos_head kind
+head_of systems.Prodos kind = heads.None
+
+-- the file that words and bytes give, of this type and date
+abbrev pub given_of : SaveView → ℕ → ProDate → List ℕ → GivenView
+given_of words kind date bytes = record {
+  kind = kind;
+  aux = words.aux;
+  date = date;
+  head = head_of words.volume.file_system kind;
+  bytes = bytes;
+}
+
+-- the reply to the saving of a file of this type: `Date` for a date that is none, before what is told of the volume
+abbrev pub IsDatedReply : SaveView → Option Text → List ℕ → List ℕ → ℕ → Reply → Type 0
+IsDatedReply words reserve image bytes kind reply =
+    ((reply ≡ Refused refusals.Date) × ¬ NamesDate words.date)
+    ⊎ ((date : ProDate) × IsDateOf words.date date × IsToldOf words.volume reserve image (Save words.name (given_of words kind date bytes)) reply)
+
+-- the reply to a saving of these bytes: `Type` for a type that the file system does not have, first
+abbrev pub IsSaveReply : SaveView → Option Text → List ℕ → List ℕ → Reply → Type 0
+IsSaveReply words reserve image bytes reply =
+    ((reply ≡ Refused refusals.Type) × (kind_of words.volume.file_system words.kind ≡ None))
+    ⊎ ((kind : ℕ) × (kind_of words.volume.file_system words.kind ≡ Some kind) × IsDatedReply words reserve image bytes kind reply)
+
 -- the reply to a job on these bytes of an image, and on those of a file beside it where they are known
 abbrev pub IsReplyTo : JobView → List ℕ → Option (List ℕ) → Reply → Type 0
 IsReplyTo (catalog path volume) image extra reply = IsToldOf volume None image Catalog reply
@@ -97,12 +140,14 @@ IsReplyTo (read path name volume whole) image extra reply = IsToldOf volume None
 IsReplyTo (plan path volume reserve reclaim in_words) image extra reply = IsToldOf volume reserve image (Plan reclaim in_words) reply
 IsReplyTo (optimize words reserve reclaim cert) image extra reply = IsToldOf words.volume reserve image (Optimize reclaim (limit_of words.stop_after)) reply
 IsReplyTo (edit path name volume change out reserve) image extra reply = IsToldOf volume reserve image (Change change name) reply
+IsReplyTo (save words reserve) image extra reply = IfSome extra (λ bytes. IsSaveReply words reserve image bytes reply)
 IsReplyTo (verify path volume from reserve reclaim) image extra reply = IfSome extra (λ bytes. IsToldOf volume reserve image (Verify reclaim bytes) reply)
 IsReplyTo (convert words) image extra reply = IsConvertReply (order_of words.order) (order_of words.to) words.volume image reply
 IsReplyTo (identify path) image extra reply = IsIdentifyReply image reply
 
 -- the job reads a file beside the image
 abbrev pub ReadsExtra : JobView → Type 0
+ReadsExtra (save words reserve) = Unit {0}
 ReadsExtra (verify path volume from reserve reclaim) = Unit {0}
 ReadsExtra job = ⊥
 
@@ -111,6 +156,11 @@ abbrev pub AsksForPlan : JobView → Type 0
 AsksForPlan (plan path volume reserve reclaim in_words) = Unit {0}
 AsksForPlan (verify path volume from reserve reclaim) = Unit {0}
 AsksForPlan job = ⊥
+
+-- the job saves a file
+abbrev pub SavesFile : JobView → Type 0
+SavesFile (save words reserve) = Unit {0}
+SavesFile job = ⊥
 
 -- the job changes a volume
 abbrev pub ChangesVolume : JobView → Type 0
@@ -126,14 +176,16 @@ MakesImage (read path name volume whole) = ⊥
 MakesImage (plan path volume reserve reclaim in_words) = ⊥
 MakesImage (optimize words reserve reclaim cert) = Unit {0}
 MakesImage (edit path name volume change out reserve) = Unit {0}
+MakesImage (save words reserve) = Unit {0}
 MakesImage (verify path volume from reserve reclaim) = ⊥
 MakesImage (convert words) = Unit {0}
 MakesImage (identify path) = ⊥
 
--- the image of a job is handed out, once its text is told: `OK` for a conversion or an edit, else that of the optimizer's reply
+-- the image of a job is handed out, once its text is told: `OK` for a conversion, an edit or a saving, else that of the optimizer's reply
 abbrev pub HandsOutFor : JobView → ℕ → Option (List ℕ) → Option (List ℕ) → Type 0
 HandsOutFor (convert words) status old new = Appends old new (codes "OK\n") × ((status ≡ 0) ⊎ (status ≡ 4))
 HandsOutFor (edit path name volume change out reserve) status old new = Appends old new (codes "OK\n") × ((status ≡ 0) ⊎ (status ≡ 4))
+HandsOutFor (save words reserve) status old new = Appends old new (codes "OK\n") × ((status ≡ 0) ⊎ (status ≡ 4))
 HandsOutFor job status old new = HandsImage status old new
 
 -- what may go wrong before the bytes are there: a reader fails, or there is no room for what it has

@@ -1,15 +1,16 @@
 // Jobs, from an image's reader to the text and the output file.
-ghost use Rattle.std.specs.Prelude.{◌≡◌, ◌⊎◌, ◌+◌, ℕ, List, Option, Some, take, IfOk, IfErr, IfSome};
+ghost use Rattle.std.specs.Prelude.{◌≡◌, ◌⊎◌, ◌+◌, ℕ, List, Option, Some, take, IfOk, IfErr, IfSome, option_map};
 ghost use Rattle.shop_words.specs.Job.{job_view};
 ghost use Rattle.job_reply.specs.Reply.{held};
 ghost use Rattle.volume_jobs.specs.VerifyReply.{most_certificate};
-ghost use Rattle.shop_commands.specs.Answer.{AsksForPlan, ChangesVolume, HandsOutFor, IsAnswer, IsDosCatalogAnswer, IsReadFailure, IsReplyTo, IsStatus, MakesImage, ReadsExtra, image_order_of, limit_of as of_limit, order_of as named};
+ghost use Rattle.shop_commands.specs.Answer.{AsksForPlan, ChangesVolume, HandsOutFor, IsAnswer, IsDosCatalogAnswer, IsReadFailure, IsReplyTo, IsStatus, MakesImage, ReadsExtra, SavesFile, head_of as first_of, image_order_of, kind_of as type_of, limit_of as of_limit, order_of as named};
 
 use crate::input::{read_extra, read_image};
 use a2_image::Order;
+use given_file::{GivenFile, Head, date, dos_head, dos_kind, pro_kind};
 use image_readings::identify_reply;
-use job_reply::{Failure, Reply, convert_reply};
-use shop_words::{ImageOrder, Job};
+use job_reply::{Failure, Refusal, Reply, convert_reply};
+use shop_words::{FileSystem, ImageOrder, Job};
 use std::alloc::Global;
 use std::io::{Read, Write};
 use volume_jobs::{Work, volume_reply};
@@ -36,6 +37,7 @@ fn image_order(job: &Job) -> Order
         | Job::Plan { volume, .. }
         | Job::Optimize { volume, .. }
         | Job::Edit { volume, .. }
+        | Job::Save { volume, .. }
         | Job::Verify { volume, .. } => order_of(volume.order),
         Job::Convert { order, .. } => order_of(*order),
         // No order allows an image to be longer.
@@ -60,7 +62,7 @@ fn extra_for<E: Read>(alloc: Global, job: &Job, extra: &mut E) -> Result<Vec<u8>
     ensures failed { IfErr result IsReadFailure }
 {
     match job {
-        Job::Verify { .. } => read_extra(alloc, extra),
+        Job::Save { .. } | Job::Verify { .. } => read_extra(alloc, extra),
         _ => Ok(Vec::new(alloc)),
     }
 }
@@ -139,6 +141,63 @@ fn change_reply(alloc: Global, job: &Job, image: Vec<u8>) -> Reply
     }
 }
 
+// The type that the words name, in a file system.
+fn kind_of(file_system: FileSystem, word: Option<&str>) -> Option<u8>
+    ensures { result ≡ type_of file_system (option_map (λ s. s.now) word.entry) }
+{
+    match file_system {
+        FileSystem::Dos => dos_kind(word),
+        FileSystem::Prodos => pro_kind(word),
+    }
+}
+
+// What a file system puts before the bytes of a file of this type.
+fn head_of(file_system: FileSystem, kind: u8) -> Head
+    ensures { result ≡ first_of file_system kind }
+{
+    match file_system {
+        FileSystem::Dos => dos_head(kind),
+        FileSystem::Prodos => Head::None,
+    }
+}
+
+// The reply to the saving of the bytes of a file beside the image.
+fn save_job_reply(alloc: Global, job: &Job, image: Vec<u8>, extra: &[u8]) -> Reply
+    requires { SavesFile (job_view job.now) }
+    ensures { IsReplyTo (job_view job.now) image.items (Some extra.now) result }
+{
+    let order = image_order(job);
+    match job {
+        Job::Save {
+            name,
+            volume,
+            attributes,
+            reserve,
+            ..
+        } => {
+            let Some(kind) = kind_of(volume.file_system, attributes.kind.as_deref()) else {
+                return Reply::Refused(Refusal::Type);
+            };
+            let Some(date) = date(attributes.date.as_deref()) else {
+                return Reply::Refused(Refusal::Date);
+            };
+            let given = GivenFile {
+                kind,
+                aux: attributes.aux,
+                date,
+                head: head_of(volume.file_system, kind),
+                bytes: extra,
+            };
+            let work = Work::Save {
+                path: name.as_bytes(),
+                given,
+            };
+            volume_reply(alloc, work, image, order, *volume, reserve.as_deref())
+        }
+        _ => unreachable!(),
+    }
+}
+
 // The reply to a job on the bytes of its image, and of a file beside it.
 fn reply_to(alloc: Global, job: &Job, image: Vec<u8>, extra: &[u8]) -> Reply
     ensures { IsReplyTo (job_view job.now) image.items (Some extra.now) result }
@@ -176,6 +235,7 @@ fn reply_to(alloc: Global, job: &Job, image: Vec<u8>, extra: &[u8]) -> Reply
         Job::Identify { .. } => identify_reply(alloc, image.as_slice()),
         Job::Plan { .. } | Job::Verify { .. } => plan_job_reply(alloc, job, image, extra),
         Job::Optimize { .. } | Job::Edit { .. } => change_reply(alloc, job, image),
+        Job::Save { .. } => save_job_reply(alloc, job, image, extra),
     }
 }
 

@@ -20,5 +20,6 @@ pub mod FaultLemmas
 pub mod PlanLine
 pub mod OptimizeLine
 pub mod EditLines
+pub mod SaveLine
 pub mod VerifyLine
 pub mod IdentifyLine

@@ -20,7 +20,7 @@ use Rattle.shop_words.proofs.PlainValues.{Test, flag_same, leaves_off, option_sa
 
 -- the names by which a job is said, and those of its flags
 abbrev pub option_names : List Text
-option_names = codes "image" ∷ codes "fs" ∷ codes "order" ∷ codes "to" ∷ codes "out" ∷ codes "volume" ∷ codes "reserve" ∷ codes "name" ∷ codes "new" ∷ codes "stop-after" ∷ codes "cert" ∷ codes "from" ∷ []
+option_names = codes "image" ∷ codes "fs" ∷ codes "order" ∷ codes "to" ∷ codes "out" ∷ codes "volume" ∷ codes "reserve" ∷ codes "name" ∷ codes "new" ∷ codes "stop-after" ∷ codes "cert" ∷ codes "from" ∷ codes "type" ∷ codes "aux" ∷ codes "date" ∷ []
 
 abbrev pub flag_names : List Text
 flag_names = codes "data-disk" ∷ codes "whole" ∷ codes "reclaim" ∷ codes "words" ∷ []
@@ -53,6 +53,9 @@ job_by-same command s t options flags =
       options (codes "stop-after") refl,
       options (codes "cert") refl,
       options (codes "from") refl,
+      options (codes "type") refl,
+      options (codes "aux") refl,
+      options (codes "date") refl,
       flags (codes "data-disk") refl,
       flags (codes "whole") refl,
       flags (codes "reclaim") refl,

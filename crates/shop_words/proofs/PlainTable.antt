@@ -4,7 +4,7 @@ use Rattle.std.proofs.lemmas.List.Elements.{All-contains, All-cons}
 use Rattle.clap.specs.Faults.{is_simple_and_free}
 use Rattle.clap.specs.Simple.{is_simple, subcommand_of}
 use Rattle.clap.specs.Takes.{takes}
-use Rattle.shop_words.specs.Table.{Text, FormView, catalog_form, check_form, read_form, convert_form, plan_form, optimize_form, lock_form, unlock_form, delete_form, rename_form, verify_form, identify_form, forms}
+use Rattle.shop_words.specs.Table.{Text, FormView, catalog_form, check_form, read_form, convert_form, plan_form, optimize_form, lock_form, unlock_form, delete_form, rename_form, save_form, verify_form, identify_form, forms}
 use Rattle.shop_words.specs.Grammar.{shop}
 use Rattle.shop_words.specs.Plain.{Use, IsPlainLine, line_words}
 use Rattle.shop_words.specs.Job.{Lock, Unlock, Delete, found_job, line_job}
@@ -18,6 +18,7 @@ use Rattle.shop_words.proofs.ConvertLine.{convert_defaults, convert_known, is_so
 use Rattle.shop_words.proofs.PlanLine.{plan_defaults, plan_known, is_some-line_job-plan}
 use Rattle.shop_words.proofs.OptimizeLine.{optimize_defaults, optimize_known, is_some-line_job-optimize}
 use Rattle.shop_words.proofs.EditLines.{lock_defaults, lock_known, unlock_defaults, unlock_known, delete_defaults, delete_known, is_some-line_job-edit, rename_defaults, rename_known, is_some-line_job-rename}
+use Rattle.shop_words.proofs.SaveLine.{save_defaults, save_known, is_some-line_job-save}
 use Rattle.shop_words.proofs.VerifyLine.{verify_defaults, verify_known, is_some-line_job-verify}
 use Rattle.shop_words.proofs.IdentifyLine.{identify_defaults, identify_known, is_some-line_job-identify}
 
@@ -56,6 +57,9 @@ serves_delete = record { known = delete_known; defaults = delete_defaults; job =
 serves_rename : IsServed rename_form
 serves_rename = record { known = rename_known; defaults = rename_defaults; job = is_some-line_job-rename }
 
+serves_save : IsServed save_form
+serves_save = record { known = save_known; defaults = save_defaults; job = is_some-line_job-save }
+
 serves_verify : IsServed verify_form
 serves_verify = record { known = verify_known; defaults = verify_defaults; job = is_some-line_job-verify }
 
@@ -64,18 +68,19 @@ serves_identify = record { known = identify_known; defaults = identify_defaults;
 
 all_served : All IsServed forms
 all_served =
-    All-cons IsServed catalog_form (check_form ∷ read_form ∷ convert_form ∷ plan_form ∷ optimize_form ∷ lock_form ∷ unlock_form ∷ delete_form ∷ rename_form ∷ verify_form ∷ identify_form ∷ []) serves_catalog
-    (All-cons IsServed check_form (read_form ∷ convert_form ∷ plan_form ∷ optimize_form ∷ lock_form ∷ unlock_form ∷ delete_form ∷ rename_form ∷ verify_form ∷ identify_form ∷ []) serves_check
-    (All-cons IsServed read_form (convert_form ∷ plan_form ∷ optimize_form ∷ lock_form ∷ unlock_form ∷ delete_form ∷ rename_form ∷ verify_form ∷ identify_form ∷ []) serves_read
-    (All-cons IsServed convert_form (plan_form ∷ optimize_form ∷ lock_form ∷ unlock_form ∷ delete_form ∷ rename_form ∷ verify_form ∷ identify_form ∷ []) serves_convert
-    (All-cons IsServed plan_form (optimize_form ∷ lock_form ∷ unlock_form ∷ delete_form ∷ rename_form ∷ verify_form ∷ identify_form ∷ []) serves_plan
-    (All-cons IsServed optimize_form (lock_form ∷ unlock_form ∷ delete_form ∷ rename_form ∷ verify_form ∷ identify_form ∷ []) serves_optimize
-    (All-cons IsServed lock_form (unlock_form ∷ delete_form ∷ rename_form ∷ verify_form ∷ identify_form ∷ []) serves_lock
-    (All-cons IsServed unlock_form (delete_form ∷ rename_form ∷ verify_form ∷ identify_form ∷ []) serves_unlock
-    (All-cons IsServed delete_form (rename_form ∷ verify_form ∷ identify_form ∷ []) serves_delete
-    (All-cons IsServed rename_form (verify_form ∷ identify_form ∷ []) serves_rename
+    All-cons IsServed catalog_form (check_form ∷ read_form ∷ convert_form ∷ plan_form ∷ optimize_form ∷ lock_form ∷ unlock_form ∷ delete_form ∷ rename_form ∷ save_form ∷ verify_form ∷ identify_form ∷ []) serves_catalog
+    (All-cons IsServed check_form (read_form ∷ convert_form ∷ plan_form ∷ optimize_form ∷ lock_form ∷ unlock_form ∷ delete_form ∷ rename_form ∷ save_form ∷ verify_form ∷ identify_form ∷ []) serves_check
+    (All-cons IsServed read_form (convert_form ∷ plan_form ∷ optimize_form ∷ lock_form ∷ unlock_form ∷ delete_form ∷ rename_form ∷ save_form ∷ verify_form ∷ identify_form ∷ []) serves_read
+    (All-cons IsServed convert_form (plan_form ∷ optimize_form ∷ lock_form ∷ unlock_form ∷ delete_form ∷ rename_form ∷ save_form ∷ verify_form ∷ identify_form ∷ []) serves_convert
+    (All-cons IsServed plan_form (optimize_form ∷ lock_form ∷ unlock_form ∷ delete_form ∷ rename_form ∷ save_form ∷ verify_form ∷ identify_form ∷ []) serves_plan
+    (All-cons IsServed optimize_form (lock_form ∷ unlock_form ∷ delete_form ∷ rename_form ∷ save_form ∷ verify_form ∷ identify_form ∷ []) serves_optimize
+    (All-cons IsServed lock_form (unlock_form ∷ delete_form ∷ rename_form ∷ save_form ∷ verify_form ∷ identify_form ∷ []) serves_lock
+    (All-cons IsServed unlock_form (delete_form ∷ rename_form ∷ save_form ∷ verify_form ∷ identify_form ∷ []) serves_unlock
+    (All-cons IsServed delete_form (rename_form ∷ save_form ∷ verify_form ∷ identify_form ∷ []) serves_delete
+    (All-cons IsServed rename_form (save_form ∷ verify_form ∷ identify_form ∷ []) serves_rename
+    (All-cons IsServed save_form (verify_form ∷ identify_form ∷ []) serves_save
     (All-cons IsServed verify_form (identify_form ∷ []) serves_verify
-    (All-cons IsServed identify_form [] serves_identify (λ k d lt. absurd (omega arith)))))))))))))
+    (All-cons IsServed identify_form [] serves_identify (λ k d lt. absurd (omega arith))))))))))))))
 
 served : (f : FormView) → Contains forms f → IsServed f
 served f at = All-contains IsServed forms f all_served at

@@ -16,6 +16,7 @@ use Rattle.shop_words.specs.declared.job.VolumeOptions.{VolumeOptions}
 use Rattle.shop_words.specs.declared.job.Edit.{Edit}
 use Rattle.shop_words.specs.declared.job.Edit.TheVariants as edits
 use Rattle.shop_words.specs.declared.optimizing.Optimization.{Optimization}
+use Rattle.shop_words.specs.declared.saving.Saving.{Saving}
 use Rattle.shop_words.specs.declared.reading.Conversion.{Conversion}
 use Rattle.shop_words.specs.declared.job.Job.{Job}
 use Rattle.shop_words.specs.declared.job.Job.TheVariants as jobs
@@ -54,6 +55,29 @@ edit_view edits.Unlock = Unlock
 edit_view edits.Delete = Delete
 edit_view (edits.Rename new) = Rename (string_bytes new)
 
+-- a new file as contracts see it, but for the volume's reserved places
+pub record SaveView : Type 0 where
+  pub image : Text
+  pub name : Text
+  pub volume : VolumeOptions
+  pub kind : Option Text
+  pub aux : ℕ
+  pub date : Option Text
+  pub from : Text
+  pub out : Text
+
+abbrev pub saving_view : Saving → SaveView
+saving_view s = record {
+  image = s.image.now;
+  name = s.name.now;
+  volume = s.volume;
+  kind = option_map (λ w. w.now) s.kind;
+  aux = s.aux;
+  date = option_map (λ w. w.now) s.date;
+  from = s.from.now;
+  out = s.out.now;
+}
+
 -- a job as contracts see it
 pub data JobView : Type 0 where
   catalog : Text → VolumeOptions → JobView
@@ -63,6 +87,7 @@ pub data JobView : Type 0 where
   plan : Text → VolumeOptions → Option Text → Bool → Bool → JobView
   optimize : OptimizationView → Option Text → Bool → Option Text → JobView
   edit : Text → Text → VolumeOptions → EditView → Text → Option Text → JobView
+  save : SaveView → Option Text → JobView
   verify : Text → VolumeOptions → Text → Option Text → Bool → JobView
   identify : Text → JobView
 
@@ -82,6 +107,16 @@ job_view (jobs.Optimize image volume out reserve reclaim stop_after cert) =
     optimize (record { image = string_bytes image; volume = volume; out = string_bytes out; stop_after = stop_after })
     (option_map string_bytes reserve) reclaim (option_map string_bytes cert)
 job_view (jobs.Edit image name volume change out reserve) = edit (string_bytes image) (string_bytes name) volume (edit_view change) (string_bytes out) (option_map string_bytes reserve)
+job_view (jobs.Save image name volume attributes from out reserve) = save (record {
+  image = string_bytes image;
+  name = string_bytes name;
+  volume = volume;
+  kind = option_map string_bytes attributes.kind;
+  aux = attributes.aux;
+  date = option_map string_bytes attributes.date;
+  from = string_bytes from;
+  out = string_bytes out;
+}) (option_map string_bytes reserve)
 job_view (jobs.Verify image volume from reserve reclaim) = verify (string_bytes image) volume (string_bytes from) (option_map string_bytes reserve) reclaim
 job_view (jobs.Identify image) = identify (string_bytes image)
 
@@ -177,6 +212,24 @@ edit_by change said = change_of change (said (codes "image")) (said (codes "name
 abbrev pub rename_by : Said → Option JobView
 rename_by said = option_and_then (λ new. edit_by (Rename new) said) (said (codes "new"))
 
+-- the auxiliary type that is said, 0 where none is
+abbrev pub aux_named : Option Text → Option ℕ
+aux_named None = Some 0
+aux_named (Some word) = number_named 65535 word
+
+-- a new file, where each part of it that is needed is there; its type and its date are said or not
+abbrev pub saving_of : Option Text → Option Text → Option VolumeOptions → Option Text → Option ℕ → Option Text → Option Text → Option Text → Option SaveView
+saving_of (Some image) (Some name) (Some volume) kind (Some aux) date (Some from) (Some out) =
+    Some (record { image = image; name = name; volume = volume; kind = kind; aux = aux; date = date; from = from; out = out })
+saving_of _ _ _ kind _ date _ _ = None
+
+abbrev pub saving_by : Said → Option SaveView
+saving_by said = saving_of (said (codes "image")) (said (codes "name")) (volume_by said) (said (codes "type")) (aux_named (said (codes "aux"))) (said (codes "date"))
+    (said (codes "from")) (said (codes "out"))
+
+abbrev pub save_by : Said → Option JobView
+save_by said = option_map (λ saving. save saving (said (codes "reserve"))) (saving_by said)
+
 abbrev pub verify_by : Said → Option JobView
 verify_by said = option_and_then (λ image. option_and_then (λ from. option_map (λ volume.
     verify image volume from (said (codes "reserve")) (is_on (said (codes "reclaim")))) (volume_by said)) (said (codes "from"))) (said (codes "image"))
@@ -197,6 +250,7 @@ job_by command said =
     if bytes_eq command (codes "unlock") then edit_by Unlock said else
     if bytes_eq command (codes "delete") then edit_by Delete said else
     if bytes_eq command (codes "rename") then rename_by said else
+    if bytes_eq command (codes "save") then save_by said else
     if bytes_eq command (codes "verify") then verify_by said else
     if bytes_eq command (codes "identify") then identify_by said else None
 

@@ -170,6 +170,22 @@ rename_form = record {
   parameters = image ∷ name_of_file ∷ new_name ∷ file_system ∷ order ∷ out ∷ data_disk ∷ reserve ∷ [];
 }
 
+-- `--type T`, `--aux N` and `--date D`
+abbrev pub type_of_file : ParameterView
+type_of_file = parameter (codes "type") (optional any)
+
+abbrev pub aux : ParameterView
+aux = parameter (codes "aux") (optional (number 65535))
+
+abbrev pub date : ParameterView
+date = parameter (codes "date") (optional any)
+
+abbrev pub save_form : FormView
+save_form = record {
+  name = codes "save";
+  parameters = image ∷ name_of_file ∷ file_system ∷ order ∷ from ∷ out ∷ type_of_file ∷ aux ∷ date ∷ data_disk ∷ reserve ∷ [];
+}
+
 abbrev pub verify_form : FormView
 verify_form = record {
   name = codes "verify";
@@ -184,4 +200,4 @@ identify_form = record {
 
 -- the forms of all commands
 abbrev pub forms : List FormView
-forms = catalog_form ∷ check_form ∷ read_form ∷ convert_form ∷ plan_form ∷ optimize_form ∷ lock_form ∷ unlock_form ∷ delete_form ∷ rename_form ∷ verify_form ∷ identify_form ∷ []
+forms = catalog_form ∷ check_form ∷ read_form ∷ convert_form ∷ plan_form ∷ optimize_form ∷ lock_form ∷ unlock_form ∷ delete_form ∷ rename_form ∷ save_form ∷ verify_form ∷ identify_form ∷ []

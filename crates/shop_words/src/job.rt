@@ -42,6 +42,17 @@ pub enum Edit {
     Rename { new: String },
 }
 
+/// What the words say of a new file.
+#[derive(Debug, PartialEq, Eq, Drop)]
+pub struct SaveAttributes {
+    /// The type, as it is said: a letter in DOS 3.3, two hexadecimal digits in ProDOS.
+    pub kind: Option<String>,
+    /// The auxiliary type; in DOS 3.3 the address of a binary file. 0 if left out.
+    pub aux: u16,
+    /// The date and time of its creation, as they are said.
+    pub date: Option<String>,
+}
+
 /// A command with its words.
 #[derive(Debug, PartialEq, Eq, Drop)]
 pub enum Job {
@@ -117,6 +128,21 @@ pub enum Job {
         name: String,
         volume: VolumeOptions,
         edit: Edit,
+        /// The path of the file that is written.
+        out: String,
+        /// The places that are kept for the system beside its own, as the words name them.
+        reserve: Option<String>,
+    },
+    /// Saves a new file to a volume.
+    Save {
+        /// The path of the image's file; `-` is standard input.
+        image: String,
+        /// The name of the file in the volume.
+        name: String,
+        volume: VolumeOptions,
+        attributes: SaveAttributes,
+        /// The path of the file whose bytes are saved.
+        from: String,
         /// The path of the file that is written.
         out: String,
         /// The places that are kept for the system beside its own, as the words name them.

@@ -25,10 +25,11 @@ mod notes;
 mod optimizing;
 mod reading;
 mod refusal;
+mod saving;
 mod table;
 mod words;
 
 pub use escaping::escaped;
 pub use fault::WordsFault;
-pub use job::{Edit, FileSystem, ImageOrder, Job, VolumeOptions};
+pub use job::{Edit, FileSystem, ImageOrder, Job, SaveAttributes, VolumeOptions};
 pub use words::parse_words;

@@ -140,6 +140,29 @@ Status:
      REFUSED Locked    the file is locked; see unlock
   4  FAILED Input, Device or Memory: a file, a sector of the image or memory failed";
 
+const SAVE: &str = "\
+Examples:
+  a2shop save disk.dsk PICTURE --fs dos --order dos --from picture.bin --out saved.dsk --type B --aux 768
+  a2shop save disk.po NOTE --fs prodos --order prodos --from note.txt --out saved.po --type 04 --date 1986-05-01T12:30:00
+
+DOS 3.3 files of the types A, I and B get their head before the bytes: the address for B, and the length.
+
+Status:
+  0  the image is written, with the new file
+  3  REFUSED Type          the word of --type is no type in the file system
+     REFUSED Date          the word of --date is no date and time of 1940 to 2039
+     REFUSED Reserve       the word of --reserve is no list of places
+     REFUSED Length        the image has another length than one in its order
+     REFUSED InputTooLong  the file of --from has more than 16,777,216 bytes
+     REFUSED TooLong       the file is longer than the file system allows
+     REFUSED Check         the volume has a fault; check tells which
+     REFUSED NotFound      a directory of the path is not there
+     REFUSED Name          no file may have the name
+     REFUSED Exists        an entry of the directory has the name
+     REFUSED DirFull       the directory has no place for an entry
+     REFUSED VolumeFull    the volume has too few free places
+  4  FAILED Input, Device or Memory: a file, a sector of the image or memory failed";
+
 const VERIFY: &str = "\
 Example:
   a2shop verify disk.dsk --fs dos --order dos --from disk.cert
@@ -178,6 +201,7 @@ pub fn of(command: &str) -> &'static str {
         "unlock" => UNLOCK,
         "delete" => DELETE,
         "rename" => RENAME,
+        "save" => SAVE,
         "verify" => VERIFY,
         "identify" => IDENTIFY,
         _ => "",

@@ -11,6 +11,7 @@ ghost use Rattle.shop_words.specs.Job.{job_by, job_view, number_named, order_nam
 use crate::editing::{edit_in, rename_in};
 use crate::job::{Edit, FileSystem, ImageOrder, Job, VolumeOptions};
 use crate::optimizing::optimize_in;
+use crate::saving::save_in;
 use clap::ArgMatches;
 use std::alloc::{AllocError, Global};
 
@@ -120,6 +121,16 @@ fn catalog_in(alloc: Global, matches: &ArgMatches<'_>) -> Result<Option<Job>, Al
     }))
 }
 
+/// A word as a text of its own, where it is there.
+pub fn text_of(alloc: Global, word: Option<&str>) -> Result<Option<String>, AllocError>
+    ensures { IfOk result (λ text. option_map string_bytes text ≡ option_map (λ s. s.now) word.entry) }
+{
+    match word {
+        Some(text) => Ok(Some(text.to_string(alloc)?)),
+        None => Ok(None),
+    }
+}
+
 /// What the words say under a parameter's name, as a text of its own.
 pub fn text_said(
     alloc: Global,
@@ -129,10 +140,7 @@ pub fn text_said(
     ensures { IfOk result (λ text. option_map string_bytes text
         ≡ first_of name.now (rows_of (found_of matches.now))) }
 {
-    match said(matches, name) {
-        Some(word) => Ok(Some(word.to_string(alloc)?)),
-        None => Ok(None),
-    }
+    text_of(alloc, said(matches, name))
 }
 
 fn check_in(alloc: Global, matches: &ArgMatches<'_>) -> Result<Option<Job>, AllocError>
@@ -271,6 +279,7 @@ fn command_job(
         "unlock" => edit_in(alloc, matches, Edit::Unlock),
         "delete" => edit_in(alloc, matches, Edit::Delete),
         "rename" => rename_in(alloc, matches),
+        "save" => save_in(alloc, matches),
         "verify" => verify_in(alloc, matches),
         "identify" => identify_in(alloc, matches),
         _ => Ok(None),

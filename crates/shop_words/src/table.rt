@@ -135,6 +135,30 @@ const FROM: Parameter = Parameter {
     help: "File of the certificate, as optimize --cert and plan write it",
 };
 
+const CONTENT: Parameter = Parameter {
+    name: "from",
+    kind: Kind::Needed(Values::Any),
+    help: "File whose bytes are saved",
+};
+
+const TYPE: Parameter = Parameter {
+    name: "type",
+    kind: Kind::Optional(Values::Any),
+    help: "Type of the file: a letter T I A B S R for DOS 3.3, T if left out; two hexadecimal digits for ProDOS, 06 if left out",
+};
+
+const AUX: Parameter = Parameter {
+    name: "aux",
+    kind: Kind::Optional(Values::Number { greatest: 65535 }),
+    help: "Auxiliary type, 0 to 65535; for DOS 3.3 the address of a binary file; 0 if left out",
+};
+
+const DATE: Parameter = Parameter {
+    name: "date",
+    kind: Kind::Optional(Values::Any),
+    help: "Date and time of its creation, for ProDOS, as 1986-05-01T12:30; none if left out",
+};
+
 const WHOLE: Parameter = Parameter {
     name: "whole",
     kind: Kind::Flag,
@@ -218,6 +242,23 @@ const FORMS: &[Form] = &[
             RESERVE,
         ],
         help: "Rename a file of a volume",
+    },
+    Form {
+        name: "save",
+        parameters: &[
+            IMAGE,
+            NAME,
+            FILE_SYSTEM,
+            ORDER,
+            CONTENT,
+            OUT,
+            TYPE,
+            AUX,
+            DATE,
+            DATA_DISK,
+            RESERVE,
+        ],
+        help: "Save a new file to a volume",
     },
     Form {
         name: "verify",

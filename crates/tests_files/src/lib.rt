@@ -1,5 +1,5 @@
-//! Tests of the libraries of files: of `file_cmds` and `file_edits` worked volumes of DOS 3.3 and ProDOS with the literal text of their listings
-//! and the literal bytes of their files, each public call on its happy path, refused memory, and each read and write failing in turn; of
+//! Tests of the libraries of files: of `file_cmds`, `file_edits` and `file_saving` worked volumes of DOS 3.3 and ProDOS with the literal text of
+//! their listings and the literal bytes of their files, each public call on its happy path, refused memory, and each read and write failing in turn; of
 //! `whole_file` files that are replaced in a folder in memory, whose calls fail in turn.
 #![tactic(auto)]
 
@@ -21,5 +21,7 @@ mod prodos_files;
 mod renames;
 #[cfg(test)]
 mod runs;
+#[cfg(test)]
+mod savings;
 #[cfg(test)]
 mod whole_files;

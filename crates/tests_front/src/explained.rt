@@ -1,26 +1,28 @@
 // Texts and what is explained of them.
-use explanations::{Overheard, TABLE, explained};
+use explanations::{FINDINGS, Overheard, REFUSALS, explained};
 use std::alloc::{AllocError, Global};
 use std::io::Write;
 use std::test::Fail;
 
-/// The front of the row that a text asks for, where it asks for one alone.
-fn only_front(alloc: Global, text: &str) -> Result<Option<&'static str>, AllocError> {
-    let rows = explained(alloc, &TABLE, text.as_bytes())?;
-    if rows.len() != 1 {
-        return Ok(None);
-    }
-    Ok(rows.first().map(|row| row.front))
+/// The fronts of the rows that a text asks for.
+fn fronts(alloc: Global, text: &str) -> Result<Vec<&'static str>, AllocError> {
+    let refusals = explained(alloc, &REFUSALS, text.as_bytes())?;
+    let findings = explained(alloc, &FINDINGS, text.as_bytes())?;
+    refusals
+        .iter()
+        .chain(findings.iter())
+        .map(|row| row.front)
+        .collect(alloc)
 }
 
 /// Whether a text asks for the row of the words, and for no other.
 fn asks_for(alloc: Global, text: &str, front: &str) -> Result<bool, AllocError> {
-    Ok(only_front(alloc, text)? == Some(front))
+    Ok(fronts(alloc, text)?.as_slice() == [front].as_slice())
 }
 
 /// Whether a text asks for no row.
 fn asks_for_none(alloc: Global, text: &str) -> Result<bool, AllocError> {
-    Ok(explained(alloc, &TABLE, text.as_bytes())?.is_empty())
+    Ok(fronts(alloc, text)?.is_empty())
 }
 
 #[test]
@@ -52,8 +54,15 @@ fn words_count_at_the_front_of_a_line(rt: HostRuntime) -> Result<(), Fail> {
 }
 
 #[test]
+fn refusals_come_before_findings(rt: HostRuntime) -> Result<(), Fail> {
+    let told = fronts(rt.alloc(), "FAULT Shared 3/14\nREFUSED VolumeFull\n")?;
+    assert!(rt; told.as_slice() == ["REFUSED VolumeFull", "FAULT Shared"].as_slice());
+    Ok(())
+}
+
+#[test]
 fn each_front_has_one_row(rt: HostRuntime) -> Result<(), Fail> {
-    for row in &TABLE {
+    for row in REFUSALS.iter().chain(FINDINGS.iter()) {
         assert!(rt; asks_for(rt.alloc(), row.front, row.front)?);
         assert!(rt; row.meaning.ends_with('.') && row.advice.ends_with('.'));
     }

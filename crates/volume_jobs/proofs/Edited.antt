@@ -70,7 +70,7 @@ module _ (old new : DeviceState) (honest : IsTrue old.honest) (reads : old.read_
     | inr fails ↦ write_fails write made device has fails
   ]
 
-  stops_lack : (list : List Write) → length list < last_count + 1 → StopsIn list old new → LacksUnit old
+  pub stops_lack : (list : List Write) → length list < last_count + 1 → StopsIn list old new → LacksUnit old
   stops_lack list few stops =
       let front = take stops.made list in
       let long = length-take stops.made list in

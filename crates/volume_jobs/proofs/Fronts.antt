@@ -1,4 +1,4 @@
--- What was read of an image and of a certificate, up to one byte past the most that they have, answers for all of it.
+-- What was read of an image, of a certificate and of a file, up to one byte past the most that they have, answers for all of it.
 use Rattle.std.proofs.Common.{◌≡◌, ℕ, ◌+◌, ◌≤◌, Bool, List, length, take, take_all, length-take, arith, sym, ap, subst, ◌∙◌, inl, inr}
 use Rattle.std.specs.Prelude.{Option}
 use Rattle.a2_image.specs.declared.order.Order.{Order}
@@ -11,6 +11,9 @@ use Rattle.shop_words.specs.declared.job.FileSystem.TheVariants.{Dos as Dos_volu
 use Rattle.job_reply.specs.declared.reply.Reply.{Reply}
 use Rattle.job_reply.specs.Disk.{most_bytes}
 use Rattle.job_reply.proofs.Fronts.{disk_bytes-lt}
+use Rattle.given_file.specs.Content.{GivenView}
+use Rattle.save_formats.specs.Saves.{SaveMeaning}
+use Rattle.volume_jobs.specs.SaveReply.{IsSaved, most_input}
 use Rattle.volume_jobs.specs.VerifyReply.{IsVerified, most_certificate}
 use Rattle.volume_jobs.specs.Volume.{OfVolume, TakesBytes, meaning_of}
 use Rattle.volume_jobs.specs.VolumeReply.{IsVolumeReply}
@@ -52,4 +55,16 @@ verified-take reclaim front bytes format device reply taken is = elim is [
   | inl long ↦ inl (long.0, omega (arith, long.1, ap (λ (xs : List ℕ). length xs) taken, length-take (most_certificate + 1) bytes))
   | inr short ↦ subst (λ text. IsVerified reclaim text format device reply)
       (taken ∙ take_all (most_certificate + 1) bytes (omega (arith, short.0, ap (λ (xs : List ℕ). length xs) taken, length-take (most_certificate + 1) bytes))) (inr short)
+]
+
+-- the same is said of a file, of which there are other bytes
+abbrev pub with_given_bytes : GivenView → List ℕ → GivenView
+with_given_bytes given bytes = record given { bytes = bytes }
+
+pub saved-take : (path front bytes : List ℕ) (given : GivenView) (saves : SaveMeaning) (format : Meaning) (device : DeviceState) (reply : Reply) → front ≡ take (most_input + 1) bytes
+    → IsSaved path (with_given_bytes given front) saves format device reply → IsSaved path (with_given_bytes given bytes) saves format device reply
+saved-take path front bytes given saves format device reply taken is = elim is [
+  | inl long ↦ inl (long.0, omega (arith, long.1, ap (λ (xs : List ℕ). length xs) taken, length-take (most_input + 1) bytes))
+  | inr short ↦ subst (λ (all : List ℕ). IsSaved path (with_given_bytes given all) saves format device reply)
+      (taken ∙ take_all (most_input + 1) bytes (omega (arith, short.0, ap (λ (xs : List ℕ). length xs) taken, length-take (most_input + 1) bytes))) (inr short)
 ]

@@ -7,5 +7,6 @@ pub mod Readings
 pub mod Unopened
 pub mod Optimized
 pub mod Edited
+pub mod Saved
 pub mod NotMade
 pub mod DosListings

@@ -16,8 +16,11 @@ use Rattle.volume_jobs.specs.CatalogReply.{IsListed}
 use Rattle.volume_jobs.specs.ReadReply.{IsRead}
 use Rattle.volume_jobs.specs.EditReply.{IsEdited, IsImageReply}
 use Rattle.volume_jobs.specs.EditRules.{EditRules}
+use Rattle.volume_jobs.specs.SaveReply.{IsSaved}
+use Rattle.save_formats.specs.Saves.{SaveMeaning}
+use Rattle.given_file.specs.Content.{GivenView}
 use Rattle.shop_words.specs.Job.{EditView}
-use Rattle.volume_jobs.specs.Work.{IsWorkReply, WorkView, Catalog, Read, Check, Plan, Optimize, Change, Verify}
+use Rattle.volume_jobs.specs.Work.{IsWorkReply, WorkView, Catalog, Read, Check, Plan, Optimize, Change, Save, Verify}
 use Rattle.volume_jobs.specs.CheckReply.{IsChecked}
 use Rattle.volume_jobs.specs.PlanReply.{IsPlanned, TellsOpening}
 use Rattle.volume_jobs.specs.PlanWords.{IsPlannedInWords}
@@ -124,6 +127,18 @@ edited_image edit name files edits format device reply is made = elim is [
   | inr (inr (inr failed)) ↦ absurd (failed_not_made failures.Memory reply failed made)
 ]
 
+-- so does a saving
+pub saved_image : (path : List ℕ) (given : GivenView) (saves : SaveMeaning) (format : Meaning) (device : DeviceState) (reply : Reply)
+    → IsSaved path given saves format device reply → IsMade reply → IsImageReply reply
+saved_image path given saves format device reply is made = elim is [
+  | inl long ↦ absurd (refused_not_made refusals.InputTooLong reply long.0 made)
+  | inr (_, inl long) ↦ absurd (refused_not_made refusals.TooLong reply long.0 made)
+  | inr (_, inr (_, inl done)) ↦ done.image
+  | inr (_, inr (_, inr (inl refused))) ↦ absurd (refused_not_made refused.0 reply refused.1 made)
+  | inr (_, inr (_, inr (inr (inl failed)))) ↦ absurd (failed_not_made failures.Device reply failed.0 made)
+  | inr (_, inr (_, inr (inr (inr failed)))) ↦ absurd (failed_not_made failures.Memory reply failed made)
+]
+
 pub volume_made : (file_system : FileSystem) (order : Order) (data_disk : Bool) (reserve : Option (List ℕ)) (image : List ℕ) (Tells : Meaning → DeviceState → Reply → Type 0) (reply : Reply)
     (P : Type 0) → ((format : Meaning) (device : DeviceState) → Tells format device reply → P)
     → IsVolumeReply file_system order data_disk reserve image Tells reply → IsMade reply → P
@@ -138,6 +153,7 @@ volume_made file_system order data_disk reserve image Tells reply P told is made
 abbrev pub MakesNone : WorkView → Type 0
 MakesNone (Optimize reclaim limit) = ⊥
 MakesNone (Change edit name) = ⊥
+MakesNone (Save path given) = ⊥
 MakesNone work = Unit {0}
 
 pub work_not_made : (work : WorkView) → MakesNone work → (form : PlaceForm) (files : FileMeaning) (edits : EditRules) (format : Meaning) (device : DeviceState) (reply : Reply)
@@ -149,4 +165,5 @@ work_not_made (Plan reclaim false) none form files edits format device reply is 
 work_not_made (Plan reclaim true) none form files edits format device reply is made = planned_in_words_not_made form files reclaim format device reply is made
 work_not_made (Optimize reclaim limit) none form files edits format device reply is made = absurd none
 work_not_made (Change edit name) none form files edits format device reply is made = absurd none
+work_not_made (Save path given) none form files edits format device reply is made = absurd none
 work_not_made (Verify reclaim bytes) none form files edits format device reply is made = verified_not_made reclaim bytes format device reply is made

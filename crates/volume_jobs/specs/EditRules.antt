@@ -2,12 +2,14 @@
 use Rattle.file_edits.specs.Edits.{EditMeaning}
 use Rattle.file_edits.specs.Erasing.{EraseMeaning}
 use Rattle.file_edits.specs.Names.{NameMeaning}
+use Rattle.save_formats.specs.Saves.{SaveMeaning}
 
--- how an entry of it is locked, named and erased
+-- how an entry of it is locked, named and erased, and how one is entered
 pub record EditRules : Type 1 where
   pub lock : EditMeaning
   pub name : NameMeaning
   pub erase : EraseMeaning
+  pub save : SaveMeaning
 
-abbrev pub edit_rules : EditMeaning → NameMeaning → EraseMeaning → EditRules
-edit_rules lock name erase = record { lock = lock; name = name; erase = erase }
+abbrev pub edit_rules : EditMeaning → NameMeaning → EraseMeaning → SaveMeaning → EditRules
+edit_rules lock name erase save = record { lock = lock; name = name; erase = erase; save = save }

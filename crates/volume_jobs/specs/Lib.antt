@@ -13,4 +13,5 @@ pub mod VerifyReply
 pub mod ReadReply
 pub mod EditRules
 pub mod EditReply
+pub mod SaveReply
 pub mod Work

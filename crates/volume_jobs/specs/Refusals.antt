@@ -31,6 +31,9 @@ refusal_of_edit edits.NotFound = Some refusals.NotFound
 refusal_of_edit edits.Name = Some refusals.Name
 refusal_of_edit edits.Exists = Some refusals.Exists
 refusal_of_edit edits.Locked = Some refusals.Locked
+refusal_of_edit edits.TooLong = Some refusals.TooLong
+refusal_of_edit edits.DirFull = Some refusals.DirFull
+refusal_of_edit edits.VolumeFull = Some refusals.VolumeFull
 refusal_of_edit error = None
 
 -- the reply to the refusal of an edit
@@ -40,5 +43,8 @@ reply_to_edit_refusal edits.NotFound = Refused refusals.NotFound
 reply_to_edit_refusal edits.Name = Refused refusals.Name
 reply_to_edit_refusal edits.Exists = Refused refusals.Exists
 reply_to_edit_refusal edits.Locked = Refused refusals.Locked
+reply_to_edit_refusal edits.TooLong = Refused refusals.TooLong
+reply_to_edit_refusal edits.DirFull = Refused refusals.DirFull
+reply_to_edit_refusal edits.VolumeFull = Refused refusals.VolumeFull
 reply_to_edit_refusal edits.Device = Failed failures.Device
-reply_to_edit_refusal error = Failed failures.Memory
+reply_to_edit_refusal edits.Memory = Failed failures.Memory

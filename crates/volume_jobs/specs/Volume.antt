@@ -24,6 +24,8 @@ use Rattle.file_edits.specs.DosNames.{dos_names}
 use Rattle.file_edits.specs.ProEdits.{pro_edits}
 use Rattle.file_edits.specs.ProErasing.{pro_erasures}
 use Rattle.file_edits.specs.ProNames.{pro_names}
+use Rattle.save_formats.specs.DosSaves.{dos_saves}
+use Rattle.save_formats.specs.ProSaves.{pro_saves}
 use Rattle.shop_words.specs.declared.job.FileSystem.{FileSystem}
 use Rattle.shop_words.specs.declared.job.FileSystem.TheVariants.{Dos, Prodos}
 use Rattle.job_reply.specs.Disk.{disk_bytes}
@@ -50,8 +52,8 @@ files_of Prodos = pro_files
 
 -- how its entries are changed
 abbrev pub edits_of : FileSystem → EditRules
-edits_of Dos = edit_rules dos_edits dos_names dos_erasures
-edits_of Prodos = edit_rules pro_edits pro_names pro_erasures
+edits_of Dos = edit_rules dos_edits dos_names dos_erasures dos_saves
+edits_of Prodos = edit_rules pro_edits pro_names pro_erasures pro_saves
 
 -- an image in this order may have so many bytes: those of a disk, or in ProDOS those of 16 to 65,535 blocks
 abbrev pub TakesBytes : FileSystem → Order → ℕ → Type 0

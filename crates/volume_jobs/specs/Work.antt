@@ -8,10 +8,12 @@ use Rattle.volume_jobs.specs.declared.volume.Work.{Work}
 use Rattle.volume_jobs.specs.declared.volume.Work.TheVariants as works
 use Rattle.file_cmds.specs.Files.{FileMeaning}
 use Rattle.shop_words.specs.Job.{EditView, edit_view}
+use Rattle.given_file.specs.Content.{GivenView, given_view}
 use Rattle.volume_jobs.specs.CatalogReply.{IsListed}
 use Rattle.volume_jobs.specs.ReadReply.{IsRead}
 use Rattle.volume_jobs.specs.EditReply.{IsEdited}
 use Rattle.volume_jobs.specs.EditRules.{EditRules}
+use Rattle.volume_jobs.specs.SaveReply.{IsSaved}
 use Rattle.volume_jobs.specs.CheckReply.{IsChecked}
 use Rattle.volume_jobs.specs.OptimizeReply.{IsOptimized}
 use Rattle.volume_jobs.specs.PlanReply.{IsPlanned}
@@ -26,6 +28,7 @@ pub data WorkView : Type 0 where
   Plan : Bool → Bool → WorkView
   Optimize : Bool → ℕ → WorkView
   Change : EditView → List ℕ → WorkView
+  Save : List ℕ → GivenView → WorkView
   Verify : Bool → List ℕ → WorkView
 
 abbrev pub work_view : Work → WorkView
@@ -35,6 +38,7 @@ work_view works.Check = Check
 work_view (works.Plan reclaim in_words) = Plan reclaim in_words
 work_view (works.Optimize reclaim limit) = Optimize reclaim limit
 work_view (works.Edit edit name) = Change (edit_view edit.now) name.now
+work_view (works.Save path given) = Save path.now (given_view given)
 work_view (works.Verify reclaim certificate) = Verify reclaim certificate.now
 
 abbrev pub IsWorkReply : WorkView → PlaceForm → FileMeaning → EditRules → Meaning → DeviceState → Reply → Type 0
@@ -45,4 +49,5 @@ IsWorkReply (Plan reclaim false) form files edits format device reply = IsPlanne
 IsWorkReply (Plan reclaim true) form files edits format device reply = IsPlannedInWords form files reclaim format device reply
 IsWorkReply (Optimize reclaim limit) form files edits format device reply = IsOptimized reclaim limit format device reply
 IsWorkReply (Change edit name) form files edits format device reply = IsEdited edit name files edits format device reply
+IsWorkReply (Save path given) form files edits format device reply = IsSaved path given edits.save format device reply
 IsWorkReply (Verify reclaim bytes) form files edits format device reply = IsVerified reclaim bytes format device reply

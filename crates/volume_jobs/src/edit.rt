@@ -10,14 +10,14 @@ ghost use Rattle.volume_jobs.specs.Refusals.{refusal_of_edit, reply_to_edit_refu
 
 use crate::optimize::image_bytes;
 use a2_device::{Device, ImageDevice};
-use file_edits::{EditError, EditableFormat, delete, lock, rename, unlock};
+use file_edits::{EditError, delete, lock, rename, unlock};
 use job_reply::{Failure, Refusal, Reply};
+use save_formats::SavableFormat;
 use shop_words::Edit;
 use std::alloc::Global;
 
-// The reply to the refusal of an edit.
-fn edit_refusal_reply(error: EditError) -> Reply
-    requires { IsRenameRefusal error }
+/// The reply to the refusal of a command that changes a volume.
+pub fn edit_refusal_reply(error: EditError) -> Reply
     ensures { result ≡ reply_to_edit_refusal error }
 {
     match error {
@@ -26,14 +26,16 @@ fn edit_refusal_reply(error: EditError) -> Reply
         EditError::Name => Reply::Refused(Refusal::Name),
         EditError::Exists => Reply::Refused(Refusal::Exists),
         EditError::Locked => Reply::Refused(Refusal::Locked),
+        EditError::TooLong => Reply::Refused(Refusal::TooLong),
+        EditError::DirFull => Reply::Refused(Refusal::DirFull),
+        EditError::VolumeFull => Reply::Refused(Refusal::VolumeFull),
         EditError::Device => Reply::Failed(Failure::Device),
         EditError::Memory => Reply::Failed(Failure::Memory),
-        EditError::TooLong | EditError::DirFull | EditError::VolumeFull => unreachable!(),
     }
 }
 
 // Changes the first file of a name.
-fn edited<D: Device, F: EditableFormat>(
+fn edited<D: Device, F: SavableFormat>(
     alloc: Global,
     device: &mut D,
     format: &F,
@@ -43,15 +45,15 @@ fn edited<D: Device, F: EditableFormat>(
     requires unit { (D.state device.old).unit_size ≡ (F.meaning format.now).unit_size }
     requires places { (F.meaning format.now).Takes (D.state device.old).places }
 
-    ensures edited { HasEdited (AreWritesOf (edit_view edit.now) name.now (F.files format.now) (edit_rules (F.edits format.now) (F.names format.now) (F.erasures format.now))
+    ensures edited { HasEdited (AreWritesOf (edit_view edit.now) name.now (F.files format.now) (edit_rules (F.edits format.now) (F.names format.now) (F.erasures format.now) (F.saves format.now))
         (F.meaning format.now) (D.state device.old).store) result (D.state device.old) (D.state device.new) }
     // those of a rename: a lock and a deletion have some of them
     ensures refusals { IfErr result IsRenameRefusal }
     ensures files { IsTrue (D.state device.old).honest → OnOk result (HasChanged (F.meaning format.now)
-        (edited_files (edit_view edit.now) name.now (F.files format.now) (edit_rules (F.edits format.now) (F.names format.now) (F.erasures format.now)))
+        (edited_files (edit_view edit.now) name.now (F.files format.now) (edit_rules (F.edits format.now) (F.names format.now) (F.erasures format.now) (F.saves format.now)))
         (D.state device.old).store (D.state device.new).store) }
     ensures caused { IsTrue (D.state device.old).honest → IfErr result (λ error. IfSome (refusal_of_edit error) (λ refusal.
-        IsCause refusal (edit_view edit.now) name.now (F.files format.now) (edit_rules (F.edits format.now) (F.names format.now) (F.erasures format.now))
+        IsCause refusal (edit_view edit.now) name.now (F.files format.now) (edit_rules (F.edits format.now) (F.names format.now) (F.erasures format.now) (F.saves format.now))
         (F.meaning format.now) (D.state device.old).store)) }
 {
     match edit {
@@ -63,7 +65,7 @@ fn edited<D: Device, F: EditableFormat>(
 }
 
 /// The image with the volume on which the first file of a name was changed.
-pub fn edit_reply<F: EditableFormat>(
+pub fn edit_reply<F: SavableFormat>(
     alloc: Global,
     device: ImageDevice,
     format: &F,
@@ -74,7 +76,7 @@ pub fn edit_reply<F: EditableFormat>(
     requires places { (F.meaning format.now).Takes (⟦<ImageDevice as Device>⟧.state device).places }
     ensures { IsTrue (⟦<ImageDevice as Device>⟧.state device).honest → (⟦<ImageDevice as Device>⟧.state device).read_failures ≡ Some 0
         → (⟦<ImageDevice as Device>⟧.state device).write_failures ≡ Some [] → (⟦<ImageDevice as Device>⟧.state device).passes ≡ None → (⟦<ImageDevice as Device>⟧.state device).writes ≡ 0
-        → IsEdited (edit_view edit.now) name.now (F.files format.now) (edit_rules (F.edits format.now) (F.names format.now) (F.erasures format.now)) (F.meaning format.now)
+        → IsEdited (edit_view edit.now) name.now (F.files format.now) (edit_rules (F.edits format.now) (F.names format.now) (F.erasures format.now) (F.saves format.now)) (F.meaning format.now)
         (⟦<ImageDevice as Device>⟧.state device) result }
 {
     let mut device = device;

@@ -3,10 +3,10 @@
 //!
 //! The model. `specs/Volume.antt` says which bytes are taken as an image and which device has its units;
 //! `specs/VolumeReply.antt` what is refused before the volume is looked at; `specs/Work.antt` which reply then comes, by the
-//! work and the device: `CatalogReply`, `ReadReply`, `CheckReply`, `PlanReply`, `PlanWords`, `OptimizeReply`, `EditReply` and
-//! `VerifyReply`, and for the listing of a DOS 3.3 disk in its format's own words `DosCatalogReply`. What always holds: each reply
-//! says what the units of the image are, each refusal has its cause in them or in the words, and only an optimization and an edit
-//! hand out an image.
+//! work and the device: `CatalogReply`, `ReadReply`, `CheckReply`, `PlanReply`, `PlanWords`, `OptimizeReply`, `EditReply`,
+//! `SaveReply` and `VerifyReply`, and for the listing of a DOS 3.3 disk in its format's own words `DosCatalogReply`. What always holds: each reply
+//! says what the units of the image are, each refusal has its cause in them or in the words, and only an optimization, an edit
+//! and a saving hand out an image.
 #![tactic(auto)]
 
 mod check;
@@ -17,10 +17,12 @@ mod optimize;
 mod plan;
 mod plan_words;
 mod reading;
+mod save;
 mod shown_path;
 mod steps;
 mod verify;
 mod volume;
 
+pub use save::MOST_INPUT;
 pub use verify::MOST_CERTIFICATE;
 pub use volume::{Work, volume_reply};

@@ -18,14 +18,16 @@ use crate::optimize::optimize_reply;
 use crate::plan::plan_reply;
 use crate::plan_words::plan_words_reply;
 use crate::reading::read_reply;
+use crate::save::save_reply;
 use crate::verify::verify_reply;
 use a2_device::{Device, ImageDevice};
 use a2_image::{Image, ImageError, Order};
 use dos_format::Dos33;
-use file_edits::EditableFormat;
+use given_file::GivenFile;
 use job_reply::{Failure, Refusal, Reply, open_disk};
 use pro_format::Prodos;
 use reserved_places::{PlaceForm, ReserveError, Reserved};
+use save_formats::SavableFormat;
 use shop_words::{Edit, FileSystem, VolumeOptions};
 use std::alloc::Global;
 
@@ -65,6 +67,11 @@ pub enum Work<'a> {
     Edit {
         edit: &'a Edit,
         name: &'a [u8],
+    },
+    /// A new file in it.
+    Save {
+        path: &'a [u8],
+        given: GivenFile<'a>,
     },
     /// Whether this text is a certificate that shows that no plan is shorter.
     Verify {
@@ -115,7 +122,7 @@ fn open_volume(bytes: Vec<u8>, order: Order, file_system: FileSystem) -> Result<
 }
 
 // The reply to work on the volume of a device.
-fn work_reply<F: EditableFormat>(
+fn work_reply<F: SavableFormat>(
     alloc: Global,
     work: Work<'_>,
     device: ImageDevice,
@@ -126,7 +133,7 @@ fn work_reply<F: EditableFormat>(
     requires places { (F.meaning format.now).Takes (⟦<ImageDevice as Device>⟧.state device).places }
     ensures { IsTrue (⟦<ImageDevice as Device>⟧.state device).honest → (⟦<ImageDevice as Device>⟧.state device).read_failures ≡ Some 0
         → (⟦<ImageDevice as Device>⟧.state device).write_failures ≡ Some [] → (⟦<ImageDevice as Device>⟧.state device).passes ≡ None → (⟦<ImageDevice as Device>⟧.state device).writes ≡ 0
-        → IsWorkReply (work_view work.entry) form (F.files format.now) (edit_rules (F.edits format.now) (F.names format.now) (F.erasures format.now)) (F.meaning format.now) (⟦<ImageDevice as Device>⟧.state device) result }
+        → IsWorkReply (work_view work.entry) form (F.files format.now) (edit_rules (F.edits format.now) (F.names format.now) (F.erasures format.now) (F.saves format.now)) (F.meaning format.now) (⟦<ImageDevice as Device>⟧.state device) result }
 {
     let mut device = device;
     match work {
@@ -143,6 +150,7 @@ fn work_reply<F: EditableFormat>(
         } => plan_words_reply(alloc, &mut device, format, form, reclaim),
         Work::Optimize { reclaim, limit } => optimize_reply(alloc, device, format, reclaim, limit),
         Work::Edit { edit, name } => edit_reply(alloc, device, format, edit, name),
+        Work::Save { path, given } => save_reply(alloc, device, format, path, given),
         Work::Verify {
             reclaim,
             certificate,

@@ -1,4 +1,4 @@
-use Rattle.std.proofs.Common.{◌≡◌, ℕ, ◌+◌, ◌-◌, ◌≤◌, length, List, take, arith, subst, sym}
+use Rattle.std.proofs.Common.{ℕ, ◌≤◌, length, List, take, arith, subst, sym}
 use Rattle.std.proofs.Math.ListN.{drop}
 use Rattle.std.proofs.lemmas.List.{take_rest, length-drop}
 use Rattle.std.specs.Io.KnownBytes.{Appends}

@@ -1,0 +1,16 @@
+//! A new file as its owner gives it, in words and bytes, and what is saved of it.
+//!
+//! The bytes that are saved are the head that DOS 3.3 puts before the bytes of some files, and the bytes that are given (`specs/Content.antt`, `content`); they stand in
+//! units of one size, the last filled with zeros. The words say the type of the file and the date of its creation (`specs/Words.antt`): a letter in DOS 3.3, two hexadecimal
+//! digits in ProDOS, and a civil date and time as `jiff` reads it.
+//!
+//! A file with a head is never longer than the two bytes of its length say: a longer one is refused before memory is taken.
+#![tactic(auto)]
+
+mod content;
+mod error;
+mod words;
+
+pub use content::{FileUnits, GivenFile, Head, file_units};
+pub use error::GivenError;
+pub use words::{date, dos_head, dos_kind, pro_kind};

@@ -1,0 +1,66 @@
+-- What is told of a file that is saved, by what the command answered.
+use Rattle.std.proofs.Common.{◌≡◌, List, [], inl, inr, refl, subst, sym, Some, None}
+use Rattle.std.specs.Prelude.{◌⊎◌, ℕ, true, IfSome, IsTrue, Err, Ok}
+use Rattle.a2_device.specs.Device.{DeviceState, OnlyReads}
+use Rattle.vol_format.specs.Meaning.{Meaning}
+use Rattle.delete_laws.specs.Writes.{Write}
+use Rattle.file_edits.specs.Writes.{HasEdited, StopsIn, device_after}
+use Rattle.file_edits.specs.declared.error.EditError.{EditError}
+use Rattle.file_edits.specs.declared.error.EditError.TheVariants as refused
+use Rattle.file_saving.specs.Saved.{IsSaveRefusal}
+use Rattle.save_formats.specs.Saves.{SaveMeaning}
+use Rattle.given_file.specs.Content.{GivenView}
+use Rattle.job_reply.specs.declared.reply.Refusal.{Refusal}
+use Rattle.job_reply.specs.declared.reply.Refusal.TheVariants as refusals
+use Rattle.job_reply.specs.declared.reply.Reply.{Reply}
+use Rattle.job_reply.specs.Reply.{made_of}
+use Rattle.volume_jobs.specs.EditReply.{IsImageReply}
+use Rattle.volume_jobs.specs.OptimizeReply.{AreBytesOf}
+use Rattle.volume_jobs.specs.Refusals.{refusal_of_edit, reply_to_edit_refusal}
+use Rattle.volume_jobs.specs.SaveReply.{AreSaveWrites, HasGivenSaved, IsSaveCause, IsSaveTried}
+use Rattle.volume_jobs.specs.Volume.{LacksUnit}
+use Rattle.volume_jobs.proofs.Edited.{stops_lack}
+use Rattle.volume_jobs.proofs.Optimized.{keeps_bytes}
+use Rattle.volume_jobs.proofs.Replies.{unit_lacks}
+
+-- on a device of which nothing can fail but what can't be read
+module _ (old new : DeviceState) (honest : IsTrue old.honest) (reads : old.read_failures ≡ Some 0) (writes : old.write_failures ≡ Some []) (passes : old.passes ≡ None)
+    (room : old.writes ≡ 0) (path : List ℕ) (given : GivenView) (saves : SaveMeaning) (format : Meaning) where
+  -- what is told of an error, but for a failure, has its cause
+  abbrev pub HasCause : EditError → Type 0
+  HasCause error = IfSome (refusal_of_edit error) (λ (refusal : Refusal). IsSaveCause refusal path given saves format old.store)
+
+  pub was_saved : {T : Type 0} {t : T} (reply : Reply) → HasEdited (AreSaveWrites path given saves format old.store) (Ok t) old new
+      → HasGivenSaved path given saves format old.store new.store → IsImageReply reply → AreBytesOf new (made_of reply) → IsSaveTried path given saves format old reply
+  was_saved reply edited saved image made =
+      let done = edited.done honest in
+      inl (record {
+        writes = done.0;
+        are_writes = done.1;
+        saved = subst (λ (d : DeviceState). HasGivenSaved path given saves format old.store d.store) done.2 saved;
+        image = image;
+        made = subst (λ (d : DeviceState). AreBytesOf d (made_of reply)) done.2 made;
+        kept = keeps_bytes old new _ edited.same.image made;
+      })
+
+  was_refused : {T : Type 0} (error : EditError) → IsSaveRefusal error → HasEdited {T = T} (AreSaveWrites path given saves format old.store) (Err error) old new
+      → HasCause error → IsSaveTried path given saves format old (reply_to_edit_refusal error)
+  was_refused refused.Check is edited cause = inr (inl (refusals.Check, refl, cause))
+  was_refused refused.NotFound is edited cause = inr (inl (refusals.NotFound, refl, cause))
+  was_refused refused.Name is edited cause = inr (inl (refusals.Name, refl, cause))
+  was_refused refused.Exists is edited cause = inr (inl (refusals.Exists, refl, cause))
+  was_refused refused.Locked is edited cause = absurd is
+  was_refused refused.TooLong is edited cause = inr (inl (refusals.TooLong, refl, cause))
+  was_refused refused.DirFull is edited cause = inr (inl (refusals.DirFull, refl, cause))
+  was_refused refused.VolumeFull is edited cause = inr (inl (refusals.VolumeFull, refl, cause))
+  was_refused refused.Device is edited cause = inr (inr (inl (refl, lacks (edited.stopped honest refl))))
+    where
+      lacks : OnlyReads true old new ⊎ ((list : List Write) × AreSaveWrites path given saves format old.store list × StopsIn list old new) → LacksUnit old
+      lacks (inl read) = unit_lacks old new honest reads read
+      lacks (inr stopped) = stops_lack old new honest reads writes passes room stopped.0 stopped.1.few stopped.2
+  was_refused refused.Memory is edited cause = inr (inr (inr refl))
+
+  pub was_told : {T : Type 0} (error : EditError) → IsSaveRefusal error → HasEdited {T = T} (AreSaveWrites path given saves format old.store) (Err error) old new
+      → HasCause error → (reply : Reply) → reply ≡ reply_to_edit_refusal error → IsSaveTried path given saves format old reply
+  was_told error is edited cause reply told =
+      subst (λ (r : Reply). IsSaveTried path given saves format old r) (sym told) (was_refused error is edited cause)

@@ -1,0 +1,74 @@
+-- What is told of a file that is saved.
+use Rattle.std.specs.Prelude.{◌≡◌, ◌⊎◌, ◌<◌, ◌≤◌, ℕ, List, length}
+use Rattle.a2_device.specs.Device.{DeviceState}
+use Rattle.vol_format.specs.Accepted.{IsVolume}
+use Rattle.vol_format.specs.Meaning.{Meaning}
+use Rattle.delete_laws.specs.Writes.{Write}
+use Rattle.file_edits.specs.Writes.{device_after}
+use Rattle.save_formats.specs.Saves.{SaveMeaning}
+use Rattle.save_formats.specs.declared.target.Attributes.{Attributes}
+use Rattle.file_saving.specs.Saved.{HasFewPlaces, HasFullDirectory, HasNameInUse, HasNoDirectory, HasNoName, HasSaved, IsSaveEdit, IsTooLong}
+use Rattle.given_file.specs.Content.{GivenView, IsTooLongForHead, content, stored_units, unit_bytes}
+use Rattle.job_reply.specs.declared.reply.Refusal.{Refusal}
+use Rattle.job_reply.specs.declared.reply.Refusal.TheVariants as refusals
+use Rattle.job_reply.specs.declared.reply.Failure.TheVariants as failures
+use Rattle.job_reply.specs.declared.reply.Reply.{Reply}
+use Rattle.job_reply.specs.declared.reply.Reply.TheVariants.{Failed, Refused}
+use Rattle.job_reply.specs.Reply.{made_of}
+use Rattle.volume_jobs.specs.EditReply.{IsImageReply}
+use Rattle.volume_jobs.specs.OptimizeReply.{AreBytesOf, KeepsBytes}
+use Rattle.volume_jobs.specs.Volume.{LacksUnit}
+
+-- the most bytes of a file that is saved
+abbrev pub most_input : ℕ
+most_input = 16777216
+
+-- what its owner says of a file, and how many bytes it has
+abbrev pub attributes_of : GivenView → Attributes
+attributes_of given = record { kind = given.kind; aux = given.aux; eof = length given.bytes; date = given.date }
+
+-- the file is saved under this path, with its head and all of its bytes, by these writes
+abbrev pub AreSaveWrites : List ℕ → GivenView → SaveMeaning → Meaning → List (List ℕ) → List Write → Type 0
+AreSaveWrites path given saves format store =
+    IsSaveEdit format saves store path (attributes_of given) (stored_units format.unit_size (content given)) (unit_bytes format.unit_size (content given))
+
+-- the volume has the files of before and this one
+abbrev pub HasGivenSaved : List ℕ → GivenView → SaveMeaning → Meaning → List (List ℕ) → List (List ℕ) → Type 0
+HasGivenSaved path given saves format =
+    HasSaved format saves path (attributes_of given) (stored_units format.unit_size (content given)) (unit_bytes format.unit_size (content given))
+
+-- Why a file is not saved: the volume is not accepted; it has no such directory; no file can have the name, or an entry of the directory has it; the file is longer than a
+-- file can be; the directory has no free entry, or too few places are free. Nothing else is told as refused.
+abbrev pub IsSaveCause : Refusal → List ℕ → GivenView → SaveMeaning → Meaning → List (List ℕ) → Type 0
+IsSaveCause refusals.Check path given saves format store = ¬ IsVolume format store
+IsSaveCause refusals.NotFound path given saves format store = HasNoDirectory format saves store path
+IsSaveCause refusals.Name path given saves format store = HasNoName format saves store path
+IsSaveCause refusals.Exists path given saves format store = HasNameInUse format saves store path
+IsSaveCause refusals.TooLong path given saves format store = IsTooLong format saves store path (attributes_of given) (stored_units format.unit_size (content given))
+IsSaveCause refusals.DirFull path given saves format store = HasFullDirectory format saves store path (attributes_of given) (stored_units format.unit_size (content given))
+IsSaveCause refusals.VolumeFull path given saves format store = HasFewPlaces format saves store path (attributes_of given) (stored_units format.unit_size (content given))
+IsSaveCause refusal path given saves format store = ⊥
+
+-- The file is saved: all its writes stand on the device and nothing else has changed, the files are those of before and this one, and the reply has the image under the device.
+pub record IsSavedReply (path : List ℕ) (given : GivenView) (saves : SaveMeaning) (format : Meaning) (device : DeviceState) (reply : Reply) : Type 0 where
+  pub writes : List Write
+  pub are_writes : AreSaveWrites path given saves format device.store writes
+  pub saved : HasGivenSaved path given saves format device.store (device_after writes device).store
+  pub image : IsImageReply reply
+  pub made : AreBytesOf (device_after writes device) (made_of reply)
+  pub kept : KeepsBytes device (made_of reply)
+
+-- the reply to a file that is not too long to be read, nor for its head
+abbrev pub IsSaveTried : List ℕ → GivenView → SaveMeaning → Meaning → DeviceState → Reply → Type 0
+IsSaveTried path given saves format device reply =
+    IsSavedReply path given saves format device reply
+    ⊎ ((refusal : Refusal) × (reply ≡ Refused refusal) × IsSaveCause refusal path given saves format device.store)
+    ⊎ ((reply ≡ Failed failures.Device) × LacksUnit device)
+    ⊎ (reply ≡ Failed failures.Memory)
+
+-- The reply to a saving: more bytes than are read of a file, before a file that is too long for its head, before what the volume tells.
+abbrev pub IsSaved : List ℕ → GivenView → SaveMeaning → Meaning → DeviceState → Reply → Type 0
+IsSaved path given saves format device reply =
+    ((reply ≡ Refused refusals.InputTooLong) × (most_input < length given.bytes))
+    ⊎ ((length given.bytes ≤ most_input) × (((reply ≡ Refused refusals.TooLong) × IsTooLongForHead given)
+    ⊎ (¬ IsTooLongForHead given × IsSaveTried path given saves format device reply)))
