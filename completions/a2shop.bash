@@ -3,7 +3,7 @@ _a2shop() {
   local word=${COMP_WORDS[COMP_CWORD]} before=${COMP_WORDS[COMP_CWORD-1]}
   COMPREPLY=()
   if [ "$COMP_CWORD" -eq 1 ]; then
-    mapfile -t COMPREPLY < <(compgen -W "catalog check read convert plan optimize lock unlock delete rename verify identify help" -- "$word")
+    mapfile -t COMPREPLY < <(compgen -W "catalog check read convert plan optimize lock unlock delete rename save verify identify help" -- "$word")
     return
   fi
   case "${COMP_WORDS[1]} $before" in
@@ -43,6 +43,14 @@ _a2shop() {
     'rename --order') mapfile -t COMPREPLY < <(compgen -W "dos prodos nibble auto" -- "$word"); return ;;
     'rename --out') mapfile -t COMPREPLY < <(compgen -f -- "$word"); return ;;
     'rename --reserve') return ;;
+    'save --fs') mapfile -t COMPREPLY < <(compgen -W "dos prodos auto" -- "$word"); return ;;
+    'save --order') mapfile -t COMPREPLY < <(compgen -W "dos prodos nibble auto" -- "$word"); return ;;
+    'save --from') mapfile -t COMPREPLY < <(compgen -f -- "$word"); return ;;
+    'save --out') mapfile -t COMPREPLY < <(compgen -f -- "$word"); return ;;
+    'save --type') return ;;
+    'save --aux') return ;;
+    'save --date') return ;;
+    'save --reserve') return ;;
     'verify --fs') mapfile -t COMPREPLY < <(compgen -W "dos prodos auto" -- "$word"); return ;;
     'verify --order') mapfile -t COMPREPLY < <(compgen -W "dos prodos nibble auto" -- "$word"); return ;;
     'verify --from') mapfile -t COMPREPLY < <(compgen -f -- "$word"); return ;;
@@ -63,6 +71,7 @@ _a2shop() {
     unlock) mapfile -t COMPREPLY < <(compgen -W "--fs --order --out --data-disk --reserve --help" -- "$word") ;;
     delete) mapfile -t COMPREPLY < <(compgen -W "--fs --order --out --data-disk --reserve --help" -- "$word") ;;
     rename) mapfile -t COMPREPLY < <(compgen -W "--fs --order --out --data-disk --reserve --help" -- "$word") ;;
+    save) mapfile -t COMPREPLY < <(compgen -W "--fs --order --from --out --type --aux --date --data-disk --reserve --help" -- "$word") ;;
     verify) mapfile -t COMPREPLY < <(compgen -W "--fs --order --from --data-disk --reserve --reclaim --help" -- "$word") ;;
     identify) mapfile -t COMPREPLY < <(compgen -W " --help" -- "$word") ;;
   esac
