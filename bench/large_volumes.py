@@ -18,13 +18,15 @@ FREE_TENTH = 10
 
 
 class Volume:
-    """A volume whose files, each of 100 data blocks under an index block, lie in one directory and are scattered."""
+    """A volume whose files, each of 100 data blocks under an index block, lie in one directory and are scattered. They leave a tenth free,
+    where it isn't said how many they are."""
 
-    def __init__(self, blocks):
+    def __init__(self, blocks, files=None):
         self.image = bytearray(blocks * BLOCK)
         self.free = list(range(6 + -(-blocks // (8 * BLOCK)), blocks))
         random.Random(blocks).shuffle(self.free)
-        files = len(self.free) * (FREE_TENTH - 1) // FREE_TENTH // (DATA_BLOCKS + 2)
+        if files is None:
+            files = len(self.free) * (FREE_TENTH - 1) // FREE_TENTH // (DATA_BLOCKS + 2)
         self.directories(blocks, files)
         for file in range(files):
             self.file(file)
