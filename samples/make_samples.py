@@ -221,7 +221,91 @@ def shelf_po():
     return image
 
 
+# The physical sector of each logical sector of DOS, and of each block of a track its two physical sectors.
+DOS_SKEW = [0x0, 0xD, 0xB, 0x9, 0x7, 0x5, 0x3, 0x1, 0xE, 0xC, 0xA, 0x8, 0x6, 0x4, 0x2, 0xF]
+BLOCK_SECTORS = [(0x0, 0x2), (0x4, 0x6), (0x8, 0xA), (0xC, 0xE), (0x1, 0x3), (0x5, 0x7), (0x9, 0xB), (0xD, 0xF)]
+
+
+def tracks_of_dos_order(image):
+    """The sectors of each track of an image in DOS order, by their physical numbers."""
+    tracks = [[bytes(SECTOR)] * 16 for _ in range(35)]
+    for place in range(PLACES):
+        tracks[place // 16][DOS_SKEW[place % 16]] = bytes(image[SECTOR * place:SECTOR * (place + 1)])
+    return tracks
+
+
+def tracks_of_prodos_order(image):
+    """The sectors of each track of an image in ProDOS order, by their physical numbers."""
+    tracks = [[bytes(SECTOR)] * 16 for _ in range(35)]
+    for block in range(BLOCKS):
+        for half, sector in enumerate(BLOCK_SECTORS[block % 8]):
+            at = BLOCK * block + SECTOR * half
+            tracks[block // 8][sector] = bytes(image[at:at + SECTOR])
+    return tracks
+
+
+def dos_order(tracks):
+    return b"".join(sectors[DOS_SKEW[sector]] for sectors in tracks for sector in range(16))
+
+
+def prodos_order(tracks):
+    return b"".join(sectors[sector] for sectors in tracks for pair in BLOCK_SECTORS for sector in pair)
+
+
+# The disk bytes of the values 0 to 63: from 96 on those with the high bit set, two neighbouring bits set in the low seven, and one
+# pair of neighbouring zeros at most; AA and D5 are kept for marks.
+def is_disk_byte(byte):
+    bits = f"{byte:08b}"
+    zeros = sum(bits[at:at + 2] == "00" for at in range(7))
+    return byte >= 0x96 and byte not in (0xAA, 0xD5) and "11" in bits[1:] and zeros <= 1
+
+
+DISK_BYTES = [byte for byte in range(256) if is_disk_byte(byte)]
+
+
+def four_and_four(*values):
+    return bytes(half for value in values for half in (value >> 1 | 0xAA, value | 0xAA))
+
+
+def six_and_two(sector):
+    """The 343 disk bytes of a sector's data: 86 groups of pairs of low bits, each pair turned, the 256 high parts, and the checksum."""
+    def turned(index):
+        low = sector[index] & 3 if index < SECTOR else 0
+        return low >> 1 | (low & 1) << 1
+
+    values = [turned(group) | turned(group + 86) << 2 | turned(group + 172) << 4 for group in range(86)]
+    values += [byte >> 2 for byte in sector]
+    return bytes(DISK_BYTES[value ^ before] for value, before in zip([*values, 0], [0, *values]))
+
+
+def nibble_order(tracks, volume=254):
+    """Made tracks: 48 bytes FF, then of each physical sector its address, 6 bytes FF, its data and 27 bytes FF, and FF to the end."""
+    image = b""
+    for track, sectors in enumerate(tracks):
+        made = b"\xFF" * 48
+        for number, sector in enumerate(sectors):
+            made += b"\xD5\xAA\x96" + four_and_four(volume, track, number, volume ^ track ^ number) + b"\xDE\xAA\xEB" + b"\xFF" * 6
+            made += b"\xD5\xAA\xAD" + six_and_two(sector) + b"\xDE\xAA\xEB" + b"\xFF" * 27
+        image += made.ljust(6656, b"\xFF")
+    return image
+
+
+def samples():
+    """Each sample, by the name of its file."""
+    hello_tracks, work_tracks = tracks_of_dos_order(hello()), tracks_of_prodos_order(work())
+    return {
+        "hello.dsk": dos_order(hello_tracks),
+        "hello.po": prodos_order(hello_tracks),
+        "hello.nib": nibble_order(hello_tracks),
+        "shelf.dsk": shelf_dsk(),
+        "work.po": prodos_order(work_tracks),
+        "work.dsk": dos_order(work_tracks),
+        "work.nib": nibble_order(work_tracks),
+        "shelf.po": shelf_po(),
+    }
+
+
 if __name__ == "__main__":
-    for name, image in (("hello.dsk", hello()), ("shelf.dsk", shelf_dsk()), ("work.po", work()), ("shelf.po", shelf_po())):
+    for name, image in samples().items():
         with open(name, "wb") as file:
             file.write(image)
