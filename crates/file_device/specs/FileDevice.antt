@@ -1,5 +1,5 @@
 -- The units of a file as a device.
-use Rattle.std.specs.Prelude.{◌≡◌, ◌≤◌, ℕ, ◌+◌, ◌*◌, List, [], map, slice_range, None}
+use Rattle.std.specs.Prelude.{ℕ, ◌+◌, ◌*◌, List, [], map, slice_range, None}
 use Rattle.std.specs.List.{range_with_len}
 use Rattle.a2_device.specs.declared.units.UnitKind.{UnitKind}
 use Rattle.a2_device.specs.Device.{DeviceState}

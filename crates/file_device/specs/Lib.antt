@@ -1,3 +1,4 @@
 pub mod File
 pub mod FileDevice
+pub mod System
 pub mod lemmas

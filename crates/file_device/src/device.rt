@@ -5,7 +5,7 @@ ghost use Rattle.a2_device.specs.ImageDevice.{unit_bytes};
 ghost use Rattle.file_device.specs.FileDevice.{file_device_state};
 ghost use Rattle.file_device.specs.lemmas.Units.{whole_file};
 
-use crate::file::PositionedFile;
+use crate::file::{FileFailure, PositionedFile};
 use a2_device::{Device, DeviceError, UnitKind};
 use a2_image::{BLOCK_BYTES, SECTOR_BYTES};
 
@@ -97,7 +97,7 @@ impl<F: PositionedFile> Device for FileDevice<F> {
         self.writes += 1;
         match self.file.write_whole(position, unit) {
             Ok(()) => Ok(()),
-            Err(_) => Err(self.fault()),
+            Err(FileFailure) => Err(self.fault()),
         }
     }
 }

@@ -9,7 +9,11 @@
 mod device;
 mod file;
 mod memory;
+mod opening;
+mod system;
 
 pub use device::FileDevice;
 pub use file::{FileFailure, PositionedFile};
 pub use memory::MemoryFile;
+pub use opening::FileError;
+pub use system::SystemFile;

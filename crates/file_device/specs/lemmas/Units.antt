@@ -1,7 +1,6 @@
 -- The units of a file: each is there, and a write over one leaves the others.
-use Rattle.std.proofs.Common.{◌≡◌, ◌≢◌, ◌∙◌, ◌⊎◌, ℕ, ◌+◌, ◌*◌, ◌<◌, ◌≤◌, ◌-◌, List, [], map, length, take, drop, sym, ap, subst, refl, arith, inl, inr, ⊎_elim, length-take, length-drop}
-use Rattle.std.specs.Prelude.{IsTrue, true, false, slice_range, slice_set, None}
-use Rattle.std.specs.List.{range_with_len}
+use Rattle.std.proofs.Common.{◌≡◌, ◌≢◌, ◌∙◌, ◌⊎◌, ℕ, ◌+◌, ◌*◌, ◌<◌, ◌≤◌, ◌-◌, List, [], length, drop, sym, ap, subst, refl, arith, inl, inr, ⊎_elim, length-take, length-drop}
+use Rattle.std.specs.Prelude.{true, false, slice_range, slice_set}
 use Rattle.std.proofs.lemmas.Bool.{cases_order}
 use Rattle.std.proofs.lemmas.List.FromFn.{get_or-map-range_with_len, length-map-range_with_len}
 use Rattle.a2_image.specs.Lending.{written}
