@@ -1,0 +1,10 @@
+pub mod Layouts
+pub mod Devices
+pub mod Holding
+pub mod Writing
+pub mod StepTurns
+pub mod ReadTurns
+pub mod StopTurns
+pub mod Turns
+pub mod Keeping
+pub mod WholeRuns

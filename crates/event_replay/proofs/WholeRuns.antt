@@ -1,0 +1,156 @@
+-- A replay, from its first moment to its last.
+use Rattle.std.specs.Prelude.{◌≡◌, ◌⊎◌, ◌<◌, ℕ, suc, zero, ◌+◌, ◌-◌, false, List, [], ◌∷◌, ◌++◌, length, take, slice_get, None, Some}
+use Rattle.std.proofs.Common.{refl, sym, ◌∙◌, ap, subst, arith, inl, inr, get_or}
+use Rattle.std.proofs.lemmas.List.{take_more}
+use Rattle.a2_device.specs.Device.{DeviceState, OnlyReads}
+use Rattle.vol_parts.specs.declared.part.Part.{Part}
+use Rattle.move_plan.specs.Planning.{LacksFreePlace}
+use Rattle.vol_format.specs.Reach.{IsPartsOf}
+use Rattle.vol_format.specs.Standing.{layout_of}
+use Rattle.vol_files.proofs.OneList.{one_parts}
+use Rattle.vol_opening.specs.declared.error.OpenError.{OpenError}
+use Rattle.vol_opening.specs.declared.error.OpenError.TheVariants.{Check, Lost, NoFreePlace, Device, Memory}
+use Rattle.event_replay.specs.Volumes.{CantOpen, HasRoom}
+use Rattle.vol_format.specs.Laws.{IsMovable, IsReadable}
+use Rattle.vol_format.specs.Meaning.{Meaning}
+use Rattle.vol_files.specs.Files.{File, HasFiles}
+use Rattle.file_cmds.specs.Files.{FileMeaning}
+use Rattle.event_replay.specs.Held.{HasRun, IsAt, IsDeviceAt, RanFrom, RanTo}
+use Rattle.event_replay.specs.Holds.{Holds, TurnsHolds, device_of}
+use Rattle.event_replay.specs.Moments.{Absent, FailsNothing, HasSession, Moment, first_moment}
+use Rattle.event_replay.specs.Runs.{Begins, IsReplay, IsRun, KeepsAll, LosesFew, last_of, opened, refused}
+use Rattle.event_replay.specs.Unfailing.{unfailing}
+use Rattle.event_replay.specs.declared.event.Answer.{Answer}
+use Rattle.event_replay.specs.declared.event.Event.{Event}
+use Rattle.event_replay.specs.declared.event.Event.TheVariants.{Step, Stop}
+use Rattle.event_replay.proofs.Devices.{only_read}
+use Rattle.event_replay.proofs.Keeping.{few_opened, keeps_all}
+use Rattle.event_replay.proofs.Turns.{last_on, run_on, turn_line}
+
+-- the first that was not answered
+pub found_at : (events : List Event) (index : ℕ) → index < length events → get_or events index Step ≡ Stop → slice_get events index ≡ Some Stop
+found_at [] index within is = absurd (omega (arith, within))
+found_at (event ∷ events) zero within is = ap Some is
+found_at (event ∷ events) (suc index) within is = found_at events index (omega (arith, within)) is
+
+-- a device that fails nothing, before the first event
+pub unfailing_at : (device : DeviceState) (left : ℕ) → FailsNothing device left → IsDeviceAt device.writes left (unfailing false device) false None device.store 0
+unfailing_at device left nothing = record {
+  honest = rw (nothing.honest, nothing.readable, nothing.reads, nothing.writes, nothing.passes) refl;
+  readable = refl;
+  reads = refl;
+  orders = refl;
+  passes = refl;
+  stands = refl;
+  standing = omega arith;
+  room = nothing.room;
+}
+
+module _ (A : Type 0) (format : Meaning) (laws : IsReadable format) (movable : IsMovable format) (files : FileMeaning) (base : ℕ) where
+  pub has_begun : (left n : ℕ) (first : Moment) (held : Holds) (answers : List (Answer A)) → n ≡ left → answers ≡ [] → IsAt format base left held first
+      → HasRun format files base n first [] answers held
+  has_begun left n first held answers same none at =
+      subst (λ (given : List (Answer A)). HasRun format files base n first [] given held) (sym none)
+      (subst (λ m. HasRun {A = A} format files base m first [] [] held) (sym same) (record { run = []; is_run = tt; at = at }))
+
+  pub goes_on : (first : Moment) (events : List Event) (index : ℕ) (answers more : List (Answer A)) (answer : Answer A) (old new : Holds) → index < length events
+      → more ≡ answers ++ answer ∷ []
+      → HasRun format files base (length events - index) first (take index events) answers old
+      → TurnsHolds format files (get_or events index Step) old answer new
+      → HasRun format files base (length events - (index + 1)) first (take (index + 1) events) more new
+  goes_on first events index answers more answer old new within is has turns =
+      let left = length events - (index + 1) in
+      let event = get_or events index Step in
+      let one_less : length events - index ≡ left + 1 = omega (arith, within) in
+      let line = turn_line A format laws movable files base left event answer old new (last_of first has.run)
+      (subst (λ n. IsAt format base n old (last_of first has.run)) one_less has.at) turns in
+      record {
+        run = has.run ++ line.0 ∷ [];
+        is_run = subst (λ (es : List Event). IsRun format files first es more (has.run ++ line.0 ∷ [])) (sym (take_more events index Step within))
+            (subst (λ (given : List (Answer A)). IsRun format files first (take index events ++ event ∷ []) given (has.run ++ line.0 ∷ [])) (sym is)
+            (run_on A format laws movable files base left first line.0 (take index events) answers has.run event answer has.is_run line.1));
+        at = subst (IsAt format base left new) (sym (last_on A format laws movable files base left first line.0 has.run)) line.2;
+      }
+
+  pub ends_here : (left : ℕ) (first : Moment) (events : List Event) (index : ℕ) (answers : List (Answer A)) (held : Holds) (device : DeviceState) → length answers ≡ index
+      → HasRun format files base left first (take index events) answers held → device ≡ device_of held → RanTo format files base first events answers device
+  ends_here left first events index answers held device count has same = record {
+    run = has.run;
+    is_run = subst (λ n. IsRun format files first (take n events) answers has.run) (sym count) has.is_run;
+    store = ap (λ (d : DeviceState). d.store) same ∙ has.at.0.stands;
+    standing = ap (λ (d : DeviceState). d.standing) same ∙ has.at.0.standing;
+  }
+
+  pub ends_early : (left : ℕ) (first : Moment) (events : List Event) (index : ℕ) (answers : List (Answer A)) (held : Holds) (device : DeviceState) → length answers ≡ index
+      → HasRun format files base left first (take index events) answers held → OnlyReads false (device_of held) device → RanTo format files base first events answers device
+  ends_early left first events index answers held device count has reads =
+      let now = last_of first has.run in
+      ends_here left first events index answers held device count has
+      (only_read base left (device_of held) device now.fails_read now.fails_write now.store now.writes has.at.0 reads)
+
+  -- where there was no memory for the first opening
+  pub not_begun : (left : ℕ) (store : List (List ℕ)) (events : List Event) (answers : List (Answer A)) (old new : DeviceState) → answers ≡ []
+      → IsDeviceAt base left old false None store 0 → new ≡ old → RanFrom format files base store events answers new
+  not_begun left store events answers old new none at same = subst (λ (given : List (Answer A)). RanFrom format files base store events given new) (sym none) (record {
+    first = first_moment store Absent 0;
+    begins = inr (refl, refl);
+    ran = record {
+      run = [];
+      is_run = tt;
+      store = ap (λ (d : DeviceState). d.store) same ∙ at.stands;
+      standing = ap (λ (d : DeviceState). d.standing) same ∙ at.standing;
+    };
+  })
+
+  first_few : (store : List (List ℕ)) (first : Moment) → Begins A format store first → HasSession first.session → LosesFew format first
+  first_few store first (opened lost writes opens) there = few_opened A format laws movable files [] (first_moment store Absent 0) store lost writes opens 0 0
+  first_few store first (refused error can) there = absurd there
+
+  -- a volume with room is opened
+  has_room : (store : List (List ℕ)) (error : OpenError A) → HasRoom format store → CantOpen format store error → ⊥
+  has_room store (Check faults) room can = can.refused room.directory room.accepted
+  has_room store NoFreePlace room can =
+      let same : room.directory ≡ can.directory = laws.one_directory store room.directory can.directory room.accepted.described can.accepted.described in
+      let parts : room.parts ≡ can.told.parts =
+      one_parts format can.directory store room.parts can.told.parts (subst (λ d. IsPartsOf format d store room.parts) same room.are_parts) can.parts in
+      let free = subst (λ (ps : List Part). ¬ LacksFreePlace (record { at = layout_of can.directory ps; places = length can.directory.available })) parts
+      (subst (λ d. ¬ LacksFreePlace (record { at = layout_of d room.parts; places = length d.available })) same room.free) in
+      free (subst LacksFreePlace can.is_told.layout can.refuses.1)
+  has_room store (Lost count) room can = can
+  has_room store Device room can = can
+  has_room store Memory room can = can
+
+  first_session : (store : List (List ℕ)) (answers : List (Answer A)) (first : Moment) → Begins A format store first ⊎ ((answers ≡ []) × (first ≡ first_moment store Absent 0))
+      → HasRoom format store → (answers ≡ []) ⊎ HasSession first.session
+  first_session store answers first (inl (opened lost writes opens)) room = inr tt
+  first_session store answers first (inl (refused error can)) room = absurd (has_room store error room can)
+  first_session store answers first (inr none) room = inl none.0
+
+  first_store : (store : List (List ℕ)) (first : Moment) → Begins A format store first → (first.store ≡ store) × (first.moves ≡ 0)
+  first_store store first (opened lost writes opens) = (refl, refl)
+  first_store store first (refused error can) = (refl, refl)
+
+  -- the store and the count of writes of the device that is handed back
+  pub is_replay : (events : List Event) (answers : List (Answer A)) (old last new : DeviceState) → base ≡ old.writes → RanFrom format files base old.store events answers last
+      → new.store ≡ last.store → new.writes ≡ last.standing → IsReplay format files events answers old new
+  is_replay events answers old last new from ran store writes = record {
+    first = ran.first;
+    begins = ran.begins;
+    opens = first_session old.store answers ran.first ran.begins;
+    run = ran.ran.run;
+    is_run = ran.ran.is_run;
+    store = store ∙ ran.ran.store;
+    writes = writes ∙ ran.ran.standing ∙ ap (λ (n : ℕ). n + (last_of ran.first ran.ran.run).writes) from;
+    keeps = λ all has. keeps all has ran.begins;
+  }
+    where
+      keeps : (all : List File) → HasFiles format old.store all → Begins A format old.store ran.first ⊎ ((answers ≡ []) × (ran.first ≡ first_moment old.store Absent 0))
+          → KeepsAll format files all ran.first (take (length answers) events) answers ran.ran.run
+      keeps all has (inl begins) =
+          let at = first_store old.store ran.first begins in
+          keeps_all A format laws movable files all ran.first (take (length answers) events) answers ran.ran.run (subst (λ s. HasFiles format s all) (sym at.0) has) at.1
+          (first_few old.store ran.first begins) ran.ran.is_run
+      keeps all has (inr (none, is)) =
+          keeps_all A format laws movable files all ran.first (take (length answers) events) answers ran.ran.run
+          (subst (λ s. HasFiles format s all) (sym (ap (λ (m : Moment). m.store) is)) has) (ap (λ (m : Moment). m.moves) is)
+          (λ there. absurd (subst HasSession (ap (λ (m : Moment). m.session) is) there)) ran.ran.is_run

@@ -1,0 +1,113 @@
+-- The runs of a replay: what each event does, what it answers, and what holds from the first moment to the last.
+use Rattle.std.specs.Prelude.{◌≡◌, ◌⊎◌, ℕ, ◌+◌, true, false, List, [], ◌∷◌, length, take, All, None, Some, slice_get}
+use Rattle.std.specs.List.{AllZip}
+use Rattle.a2_device.specs.Device.{DeviceState}
+use Rattle.vol_format.specs.Meaning.{Meaning}
+use Rattle.vol_files.specs.Files.{File, HasFiles}
+use Rattle.vol_opening.specs.declared.error.OpenError.{OpenError}
+use Rattle.vol_mover.specs.Volume.{SameVolume}
+use Rattle.file_cmds.specs.FileList.{IsTextOfFirst}
+use Rattle.file_cmds.specs.Files.{FileMeaning}
+use Rattle.file_cmds.specs.Read.{IsTextAt, HasNoFile}
+use Rattle.event_replay.specs.Moments.{HasSession, IsNotOpen, Moment, Open, Closed, Absent, first_moment}
+use Rattle.event_replay.specs.Volumes.{CantOpen, HasDeficit, HasFewLost, HasRoom, IsInOrder, Opens, Writes}
+use Rattle.event_replay.specs.declared.event.Answer.{Answer}
+use Rattle.event_replay.specs.declared.event.Answer.TheVariants.{Stepped, Bytes, Refused, NoMemory}
+use Rattle.event_replay.specs.declared.event.Event.{Event}
+use Rattle.event_replay.specs.declared.event.Event.TheVariants.{Step, Read, FailRead, FailWrite, Stop}
+
+-- A step of an open session makes one unit write; or a read or a write met the failure that was ordered, and a failed write closes the session; or nothing is left to
+-- write, and each part stands at its target. Without an open session a step is refused.
+pub data Steps {A : Type 0} (format : Meaning) (old : Moment) : Answer A → Moment → Type 0 where
+  wrote : (left : ℕ) (new : Moment) → old.session ≡ Open (left + 1) → Writes format old new → Steps format old Stepped (record new { session = Open left })
+  read_failed : (left : ℕ) → old.session ≡ Open (left + 1) → old.fails_read ≡ true → Steps format old Refused (record old { fails_read = false })
+  write_failed : (left : ℕ) → old.session ≡ Open (left + 1) → old.fails_write ≡ Some false → Steps format old Refused (record old { session = Closed; fails_write = None })
+  write_failed_and_stands : (left : ℕ) (new : Moment) → old.session ≡ Open (left + 1) → old.fails_write ≡ Some true → Writes format old new
+      → Steps format old Refused (record new { session = Closed; fails_write = None })
+  nothing_left : old.session ≡ Open 0 → IsInOrder format old.store → Steps format old Stepped old
+  not_open : IsNotOpen old.session → Steps format old Refused old
+
+-- the answer gives this text
+abbrev pub Gives : {A : Type 0} → Answer A → List ℕ → Type 0
+Gives (Bytes bytes) text = bytes.items ≡ text
+Gives answer text = ⊥
+
+-- While there is a session, a read gives the body of the first file that the path names; or no file has the path; or it met the failure that was ordered; or there is no
+-- memory. Without a session it is refused.
+pub data Reads {A : Type 0} (format : Meaning) (files : FileMeaning) (path : List ℕ) (old : Moment) : Answer A → Moment → Type 0 where
+  gave : (answer : Answer A) (text : List ℕ) → HasSession old.session → Gives answer text → IsTextAt format files old.store path false text
+      → Reads format files path old answer old
+  no_file : HasSession old.session → HasNoFile format files old.store path → Reads format files path old Refused old
+  failed : HasSession old.session → old.fails_read ≡ true → Reads format files path old Refused (record old { fails_read = false })
+  no_memory : HasSession old.session → Reads format files path old NoMemory old
+  no_session : old.session ≡ Absent → Reads format files path old Refused old
+
+-- A session is opened anew on the same store; or a read met the failure that was ordered, or the volume can't be opened, and then there is none.
+pub data Stops {A : Type 0} (format : Meaning) (old : Moment) : Answer A → Moment → Type 0 where
+  opened : (lost writes : ℕ) → Opens format old.store lost writes
+      → Stops format old Stepped (record old { session = Open writes; opened = record { lost = lost; writes = old.writes; moves = old.moves } })
+  failed : old.fails_read ≡ true → Stops format old Refused (record old { session = Absent; fails_read = false })
+  refused : (error : OpenError A) → CantOpen format old.store error → Stops format old Refused (record old { session = Absent })
+
+-- what an event does, and what is answered
+abbrev pub IsTurn : {A : Type 0} → Meaning → FileMeaning → Moment → Event → Answer A → Moment → Type 0
+IsTurn format files old Step answer new = Steps format old answer new
+IsTurn format files old (Read path) answer new = Reads format files path.now old answer new
+IsTurn format files old FailRead answer new = (answer ≡ Stepped) × (new ≡ record old { fails_read = true })
+IsTurn format files old (FailWrite took) answer new = (answer ≡ Stepped) × (new ≡ record old { fails_write = Some took })
+IsTurn format files old Stop answer new = Stops format old answer new
+
+-- A run: from a moment, event by event, to the moments of the list, with these answers.
+abbrev pub IsRun : {A : Type 0} → Meaning → FileMeaning → Moment → List Event → List (Answer A) → List Moment → Type 0
+IsRun format files old [] [] [] = Unit {0}
+IsRun format files old (event ∷ events) (answer ∷ answers) (new ∷ run) = IsTurn format files old event answer new × IsRun format files new events answers run
+IsRun format files old events answers run = ⊥
+
+-- the last moment of a run
+abbrev pub last_of : Moment → List Moment → Moment
+last_of first [] = first
+last_of first (next ∷ run) = last_of next run
+
+-- The first moment: a session that was opened on the store, or none, where it can't be opened. No failure is ordered.
+pub data Begins (A : Type 0) (format : Meaning) (store : List (List ℕ)) : Moment → Type 0 where
+  opened : (lost writes : ℕ) → Opens format store lost writes → Begins A format store (first_moment store (Open writes) lost)
+  refused : (error : OpenError A) → CantOpen format store error → Begins A format store (first_moment store Absent 0)
+
+-- a read that gives bytes gives those of the first file of the path, in the list of files at first; no bytes are given for a path that no file of it has
+abbrev pub ReadsFile : {A : Type 0} → Meaning → FileMeaning → List File → Event → Answer A → Type 0
+ReadsFile format files all (Read path) (Bytes bytes) = IsTextOfFirst files format.unit_size all path.now false bytes.items
+ReadsFile format files all event answer = Unit {0}
+
+-- What holds of each moment of a run whose first store is a volume with these files: the store is a volume, with the same files and the same units of the system; and the
+-- changes of its layout and the deficit now are together the deficit at first.
+pub record KeepsVolume (format : Meaning) (all : List File) (first now : Moment) : Type 0 where
+  pub files : HasFiles format now.store all
+  pub same : SameVolume format first.store now.store
+  pub deficit : (deficit : ℕ) → HasDeficit format first.store deficit → (left : ℕ) × HasDeficit format now.store left × (now.moves + left ≡ deficit)
+
+-- few places are lost, as at the last opening
+abbrev pub LosesFew : Meaning → Moment → Type 0
+LosesFew format now = HasFewLost format now.opened now.store now.writes now.moves
+
+-- What holds of a run from a volume with these files.
+pub record KeepsAll {A : Type 0} (format : Meaning) (files : FileMeaning) (all : List File) (first : Moment) (events : List Event) (answers : List (Answer A)) (run : List Moment) : Type 0 where
+  pub volumes : All (KeepsVolume format all first) (first ∷ run)
+  pub lost : HasSession first.session → All (LosesFew format) (first ∷ run)
+  pub reads : AllZip (ReadsFile format files all) events answers
+
+-- The events that were answered, a front of the list; the moments of their run; and that it leads from the store of the device that was handed in to that of the device that
+-- is handed back, whose count of writes rose by the unit writes that stand. On a volume with a free place, or in order, a session is open at first.
+pub record IsReplay {A : Type 0} (format : Meaning) (files : FileMeaning) (events : List Event) (answers : List (Answer A)) (old new : DeviceState) : Type 0 where
+  pub first : Moment
+  pub begins : Begins A format old.store first ⊎ ((answers ≡ []) × (first ≡ first_moment old.store Absent 0))
+  pub opens : HasRoom format old.store → (answers ≡ []) ⊎ HasSession first.session
+  pub run : List Moment
+  pub is_run : IsRun format files first (take (length answers) events) answers run
+  pub store : new.store ≡ (last_of first run).store
+  pub writes : new.writes ≡ old.writes + (last_of first run).writes
+  pub keeps : (all : List File) → HasFiles format old.store all → KeepsAll format files all first (take (length answers) events) answers run
+
+-- Each event was answered; or none was, since there was no memory at the beginning; or the first that was not is a stop, after which no session could be opened for want of memory.
+abbrev pub EndsEarly : {A : Type 0} → List Event → List (Answer A) → Type 0
+EndsEarly events answers =
+    (length answers ≡ length events) ⊎ (answers ≡ []) ⊎ (slice_get events (length answers) ≡ Some Stop)

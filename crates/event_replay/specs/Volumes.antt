@@ -1,0 +1,99 @@
+-- What is told of the stores of a replay.
+use Rattle.std.specs.Prelude.{◌≡◌, ◌⊎◌, ◌≤◌, ℕ, ◌+◌, true, List, length, slice_set, Contains}
+use Rattle.vol_parts.specs.declared.part.Part.{Part}
+use Rattle.vol_layout.specs.Layouts.{IsTarget}
+use Rattle.vol_layout.specs.Rings.{IsDeficit}
+use Rattle.move_plan.specs.Planning.{LacksFreePlace}
+use Rattle.vol_format.specs.Accepted.{IsAccepted, IsVolume}
+use Rattle.vol_format.specs.Directory.{Directory}
+use Rattle.vol_format.specs.Meaning.{Meaning}
+use Rattle.vol_format.specs.Reach.{IsPartsOf}
+use Rattle.vol_format.specs.Standing.{IsLost, layout_of, lost_places}
+use Rattle.vol_files.specs.Layout.{HasLayout}
+use Rattle.vol_check.specs.Answer.{AreFaults}
+use Rattle.vol_opening.specs.Refused.{RefusesAccepted}
+use Rattle.vol_opening.specs.declared.error.OpenError.{OpenError}
+use Rattle.vol_opening.specs.declared.error.OpenError.TheVariants.{Check, NoFreePlace}
+use Rattle.vol_opening.specs.declared.opening.Options.{Options}
+use Rattle.vol_mover.specs.Begun.{TakesWrites}
+use Rattle.vol_mover.specs.Steps.{MovesOne}
+use Rattle.vol_mover.specs.Volume.{SameVolume}
+use Rattle.event_replay.specs.Moments.{Moment, Opened}
+
+-- each part of an accepted volume stands at its target
+pub record IsInOrder (format : Meaning) (store : List (List ℕ)) : Type 0 where
+  pub at : List ℕ
+  pub layout : HasLayout format store at
+  pub target : IsTarget at
+
+-- the deficit of a volume's layout
+pub record HasDeficit (format : Meaning) (store : List (List ℕ)) (deficit : ℕ) : Type 0 where
+  pub at : List ℕ
+  pub layout : HasLayout format store at
+  pub is : IsDeficit at deficit
+
+-- One place is lost at most, or two where the map has several units; or, until a unit write stands since the last opening, as many as were lost then; or, where the map
+-- has several units and until the layout changes, one more.
+abbrev pub AreFew : ℕ → Opened → ℕ → ℕ → ℕ → Type 0
+AreFew units opened writes moves lost =
+    (lost ≤ 1)
+    ⊎ ((2 ≤ units) × (lost ≤ 2))
+    ⊎ ((writes ≡ opened.writes) × (lost ≤ opened.lost))
+    ⊎ ((2 ≤ units) × (moves ≡ opened.moves) × (lost ≤ opened.lost + 1))
+
+-- the lost places of a store are among these few
+pub record HasFewLost (format : Meaning) (opened : Opened) (store : List (List ℕ)) (writes moves : ℕ) : Type 0 where
+  pub directory : Directory
+  pub described : format.Describes store directory
+  pub lost : List ℕ
+  pub all : (place : ℕ) → IsLost format directory store place → Contains lost place
+  pub few : AreFew (length directory.map_units) opened writes moves (length lost)
+
+-- The layout stays; or one part moves, by a legal move, which lowers the deficit by one, and that is a change more.
+pub record ChangesLayout (format : Meaning) (old new : List (List ℕ)) (before after : ℕ) : Type 0 where
+  pub from : List ℕ
+  pub to : List ℕ
+  pub was : HasLayout format old from
+  pub is : HasLayout format new to
+  pub directory : Directory
+  pub described : format.Describes new directory
+  pub change : ((to ≡ from) × (after ≡ before)) ⊎ (MovesOne (length directory.available) from to × (after ≡ before + 1))
+
+-- One unit write that stands: an accepted volume, the same one, few of whose places are lost and at most one of whose parts has moved.
+pub record Writes (format : Meaning) (old new : Moment) : Type 0 where
+  pub place : ℕ
+  pub unit : List ℕ
+  pub written : new.store ≡ slice_set old.store place unit
+  pub only : new ≡ record old { store = new.store; writes = old.writes + 1; moves = new.moves }
+  pub volume : IsVolume format new.store
+  pub same : SameVolume format old.store new.store
+  pub layout : ChangesLayout format old.store new.store old.moves new.moves
+  pub few : HasFewLost format old.opened new.store new.writes new.moves
+
+-- A store on which a session is opened: accepted, with a free place or in order; how many of its places are lost, and how many writes bring its parts home.
+pub record Opens (format : Meaning) (store : List (List ℕ)) (lost writes : ℕ) : Type 0 where
+  pub directory : Directory
+  pub accepted : IsAccepted format directory store
+  pub parts : List Part
+  pub are_parts : IsPartsOf format directory store parts
+  pub free : ¬ LacksFreePlace (record { at = layout_of directory parts; places = length directory.available })
+  pub lost_are : lost ≡ length (lost_places directory parts)
+  pub takes : TakesWrites (length directory.map_units) (layout_of directory parts) (lost_places directory parts) writes
+
+-- an accepted volume that has a free place or is in order
+pub record HasRoom (format : Meaning) (store : List (List ℕ)) : Type 0 where
+  pub directory : Directory
+  pub accepted : IsAccepted format directory store
+  pub parts : List Part
+  pub are_parts : IsPartsOf format directory store parts
+  pub free : ¬ LacksFreePlace (record { at = layout_of directory parts; places = length directory.available })
+
+-- the owner allows that lost places are marked free
+abbrev pub reclaiming : Options
+reclaiming = record { reclaim = true }
+
+-- A store on which no session is opened: it has faults, or some part is misplaced and no place is free.
+abbrev pub CantOpen : {A : Type 0} → Meaning → List (List ℕ) → OpenError A → Type 0
+CantOpen format store (Check faults) = AreFaults format store faults
+CantOpen format store NoFreePlace = RefusesAccepted {A = Unit {0}} format store reclaiming NoFreePlace
+CantOpen format store error = ⊥

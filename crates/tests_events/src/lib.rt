@@ -1,0 +1,11 @@
+//! Tests of lists of events (`event_replay`): worked rows with literal values on both formats, and refused memory.
+#![tactic(auto)]
+
+#[cfg(test)]
+mod blocks;
+#[cfg(test)]
+mod memory;
+#[cfg(test)]
+mod rows;
+#[cfg(test)]
+mod volumes;
