@@ -66,12 +66,12 @@ _a2shop() {
     read) mapfile -t COMPREPLY < <(compgen -W "--fs --order --whole --data-disk --help" -- "$word") ;;
     convert) mapfile -t COMPREPLY < <(compgen -W "--order --to --out --volume --data-disk --help" -- "$word") ;;
     plan) mapfile -t COMPREPLY < <(compgen -W "--fs --order --data-disk --reserve --reclaim --words --help" -- "$word") ;;
-    optimize) mapfile -t COMPREPLY < <(compgen -W "--fs --order --out --data-disk --reserve --reclaim --stop-after --cert --help" -- "$word") ;;
-    lock) mapfile -t COMPREPLY < <(compgen -W "--fs --order --out --data-disk --reserve --help" -- "$word") ;;
-    unlock) mapfile -t COMPREPLY < <(compgen -W "--fs --order --out --data-disk --reserve --help" -- "$word") ;;
-    delete) mapfile -t COMPREPLY < <(compgen -W "--fs --order --out --data-disk --reserve --help" -- "$word") ;;
-    rename) mapfile -t COMPREPLY < <(compgen -W "--fs --order --out --data-disk --reserve --help" -- "$word") ;;
-    save) mapfile -t COMPREPLY < <(compgen -W "--fs --order --from --out --type --aux --date --data-disk --reserve --help" -- "$word") ;;
+    optimize) mapfile -t COMPREPLY < <(compgen -W "--fs --order --out --in-place --data-disk --reserve --reclaim --stop-after --cert --help" -- "$word") ;;
+    lock) mapfile -t COMPREPLY < <(compgen -W "--fs --order --out --in-place --data-disk --reserve --help" -- "$word") ;;
+    unlock) mapfile -t COMPREPLY < <(compgen -W "--fs --order --out --in-place --data-disk --reserve --help" -- "$word") ;;
+    delete) mapfile -t COMPREPLY < <(compgen -W "--fs --order --out --in-place --data-disk --reserve --help" -- "$word") ;;
+    rename) mapfile -t COMPREPLY < <(compgen -W "--fs --order --out --in-place --data-disk --reserve --help" -- "$word") ;;
+    save) mapfile -t COMPREPLY < <(compgen -W "--fs --order --from --out --in-place --type --aux --date --data-disk --reserve --help" -- "$word") ;;
     verify) mapfile -t COMPREPLY < <(compgen -W "--fs --order --from --data-disk --reserve --reclaim --help" -- "$word") ;;
     identify) mapfile -t COMPREPLY < <(compgen -W " --help" -- "$word") ;;
   esac

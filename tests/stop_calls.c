@@ -7,6 +7,7 @@
 #include <signal.h>
 #include <stdarg.h>
 #include <stdlib.h>
+#include <sys/file.h>
 #include <sys/stat.h>
 #include <sys/types.h>
 #include <unistd.h>
@@ -45,6 +46,11 @@ STOPPED_OPEN(open64)
   }
 STOPPED(ssize_t, read, (int file, void *bytes, size_t count), file, bytes, count)
 STOPPED(ssize_t, write, (int file, const void *bytes, size_t count), file, bytes, count)
+STOPPED(ssize_t, pread, (int file, void *bytes, size_t count, off_t at), file, bytes, count, at)
+STOPPED(ssize_t, pread64, (int file, void *bytes, size_t count, off_t at), file, bytes, count, at)
+STOPPED(ssize_t, pwrite, (int file, const void *bytes, size_t count, off_t at), file, bytes, count, at)
+STOPPED(ssize_t, pwrite64, (int file, const void *bytes, size_t count, off_t at), file, bytes, count, at)
+STOPPED(int, flock, (int file, int lock), file, lock)
 STOPPED(int, fsync, (int file), file)
 STOPPED(int, rename, (const char *from, const char *to), from, to)
 STOPPED(int, unlink, (const char *path), path)

@@ -1,10 +1,11 @@
 // `auto` as a file system or an order.
 use crate::job_paths::{image_order, volume_of};
 use crate::stop::Stop;
+use crate::units::order_of;
 use a2_image::Order;
 use front_words::{AutoOption, asks_auto, in_place};
 use image_readings::{Choice, best_reading, file_system_word, order_word};
-use shop_words::{FileSystem, ImageOrder, Job, parse_words};
+use shop_words::{FileSystem, Job, parse_words};
 use std::alloc::{AllocError, Global};
 
 /// Whether a value of the words is `auto`.
@@ -22,14 +23,6 @@ fn put_in_place(
     let file_system = file_system_word(file_system);
     let put = in_place(alloc, words, AutoOption::FileSystem, file_system)?;
     in_place(alloc, put.as_slice(), AutoOption::Order, order_word(order))
-}
-
-fn order_of(order: ImageOrder) -> Order {
-    match order {
-        ImageOrder::Dos => Order::Dos,
-        ImageOrder::Prodos => Order::Prodos,
-        ImageOrder::Nibble => Order::Nibble,
-    }
 }
 
 /// The job of words with DOS 3.3 and DOS order in the place of each `auto`: what is wrong with the other words is told first,

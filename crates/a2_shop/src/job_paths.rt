@@ -1,9 +1,12 @@
 // The files and the image order that a job names.
 ghost use Rattle.std.specs.Prelude.{◌≡◌, option_map};
-ghost use Rattle.shop_words.specs.Job.{job_view};
-ghost use Rattle.shop_commands.specs.Answer.{certificate_of, from_of, image_of, out_of};
+ghost use Rattle.shop_words.specs.Job.{job_view, target_view};
+ghost use Rattle.shop_commands.specs.Answer.{certificate_of, file_of, from_of, image_of, out_of};
 
-use shop_words::{ImageOrder, Job, VolumeOptions};
+use shop_words::{ImageOrder, Job, Target, VolumeOptions};
+
+/// The word that stands for standard input.
+const STANDARD_INPUT: &str = "-";
 
 /// The path of the image that a job names.
 pub fn image_path(job: &Job) -> &str
@@ -33,6 +36,21 @@ pub fn from_path(job: &Job) -> Option<&str>
     }
 }
 
+/// Whether a job reads its image from standard input.
+pub fn is_on_standard_input(job: &Job) -> bool {
+    image_path(job) == STANDARD_INPUT
+}
+
+// The path of the file that an image goes to.
+fn file_of(target: &Target) -> Option<&str>
+    ensures { option_map (λ s. s.now) result ≡ file_of (target_view target.now) }
+{
+    match target {
+        Target::File(path) => Some(path.as_str()),
+        Target::InPlace => None,
+    }
+}
+
 /// The path of the file that a job writes.
 pub fn out_path(job: &Job) -> Option<&str>
     ensures { option_map (λ s. s.now) result ≡ out_of (job_view job.now) }
@@ -44,10 +62,10 @@ pub fn out_path(job: &Job) -> Option<&str>
         | Job::Plan { .. }
         | Job::Verify { .. }
         | Job::Identify { .. } => None,
-        Job::Convert { out, .. }
-        | Job::Optimize { out, .. }
-        | Job::Edit { out, .. }
-        | Job::Save { out, .. } => Some(out.as_str()),
+        Job::Convert { out, .. } => Some(out.as_str()),
+        Job::Optimize { target, .. } | Job::Edit { target, .. } | Job::Save { target, .. } => {
+            file_of(target)
+        }
     }
 }
 
@@ -73,6 +91,19 @@ pub fn volume_of(job: &Job) -> Option<VolumeOptions> {
         | Job::Save { volume, .. }
         | Job::Verify { volume, .. } => Some(*volume),
         Job::Convert { .. } | Job::Identify { .. } => None,
+    }
+}
+
+/// The places that a job reserves.
+pub fn reserve_of(job: &Job) -> Option<&str> {
+    match job {
+        Job::Check { reserve, .. }
+        | Job::Plan { reserve, .. }
+        | Job::Optimize { reserve, .. }
+        | Job::Edit { reserve, .. }
+        | Job::Save { reserve, .. }
+        | Job::Verify { reserve, .. } => reserve.as_deref(),
+        Job::Catalog { .. } | Job::Read { .. } | Job::Convert { .. } | Job::Identify { .. } => None,
     }
 }
 

@@ -1,34 +1,31 @@
 // Doing a job, on the files that it names.
-use crate::job_paths::{certificate_path, from_path, image_path, out_path};
+use crate::job_paths::{
+    certificate_path, from_path, image_path, is_on_standard_input, out_path, volume_of,
+};
 use crate::output::Output;
+use crate::placing::run_placed;
 use crate::settling::settle;
+use crate::straight::run_straight;
 use a2_image::Order;
 use job_reply::{Failure, Reply, most_bytes, written};
-use shop_commands::run_job;
+use shop_commands::{is_in_place, run_job};
 use shop_words::Job;
 use std::alloc::Global;
 use std::fs::File;
 use std::io::{self, ErrorKind, Read, Write};
+use volume_jobs::MOST_INPUT;
 use whole_file::{Target, target_of};
-
-/// The word that stands for standard input.
-const STANDARD_INPUT: &str = "-";
 
 /// What is told where the image and the certificate would be written to one file, and the status of refused words.
 const ONE_FILE: &[u8] = b"error: --out and --cert name the same file\n";
 
-const WORDS_REFUSED: u8 = 2;
+/// The status of refused words.
+pub const WORDS_REFUSED: u8 = 2;
 
-/// Whether a job reads its image from standard input.
-pub fn is_on_standard_input(job: &Job) -> bool {
-    image_path(job) == STANDARD_INPUT
-}
-
-// Reads up to one byte past the most that any image has.
-fn front_of<R: Read>(alloc: Global, reader: &mut R) -> Result<Vec<u8>, Failure> {
+// Reads up to one byte past so many.
+fn front_of<R: Read>(alloc: Global, reader: &mut R, most: u32) -> Result<Vec<u8>, Failure> {
     let mut bytes = Vec::new(alloc);
-    let most = most_bytes(Order::Prodos) as u64;
-    match reader.take(most + 1).read_to_end(&mut bytes) {
+    match reader.take(u64::from(most) + 1).read_to_end(&mut bytes) {
         Ok(_) => Ok(bytes),
         Err(error) if error.kind() == ErrorKind::OutOfMemory => Err(Failure::Memory),
         Err(_) => Err(Failure::Input),
@@ -40,25 +37,40 @@ fn front_of<R: Read>(alloc: Global, reader: &mut R) -> Result<Vec<u8>, Failure> 
 /// # Errors
 /// `Input` where it can't be opened or read, `Memory` where there is no room for it.
 pub fn image_bytes(rt: &HostRuntime, job: &Job) -> Result<Vec<u8>, Failure> {
+    let most = most_bytes(Order::Prodos) as u32;
     if is_on_standard_input(job) {
-        return front_of(rt.alloc(), &mut rt.stdin());
+        return front_of(rt.alloc(), &mut rt.stdin(), most);
     }
     match File::open(rt, image_path(job)) {
-        Ok(mut image) => front_of(rt.alloc(), &mut image),
+        Ok(mut image) => front_of(rt.alloc(), &mut image, most),
         Err(_) => Err(Failure::Input),
     }
 }
 
-// What the path of the certificate that a job writes leads to; nowhere where it writes none.
-fn certificate_target(rt: &HostRuntime, job: &Job) -> io::Result<Target<Global>> {
+/// The bytes of the file that a job reads beside its image, up to one past the most that are taken; none where it reads none.
+///
+/// # Errors
+/// `Input` where it can't be opened or read, `Memory` where there is no room for it.
+pub fn extra_bytes(rt: &HostRuntime, job: &Job) -> Result<Vec<u8>, Failure> {
+    let Some(path) = from_path(job) else {
+        return Ok(Vec::new(rt.alloc()));
+    };
+    match File::open(rt, path) {
+        Ok(mut file) => front_of(rt.alloc(), &mut file, MOST_INPUT as u32),
+        Err(_) => Err(Failure::Input),
+    }
+}
+
+/// What the path of the certificate that a job writes leads to; nowhere where it writes none.
+pub fn certificate_target(rt: &HostRuntime, job: &Job) -> io::Result<Target<Global>> {
     match certificate_path(job) {
         Some(path) => target_of(rt, rt.alloc(), path),
         None => Ok(Target::Nowhere),
     }
 }
 
-// The file of the certificate that a job writes, if it writes one.
-fn certificate_output<'a>(
+/// The file of the certificate that a job writes, if it writes one.
+pub fn certificate_output<'a>(
     rt: &'a HostRuntime,
     path: Option<&'a str>,
     target: &'a Target<Global>,
@@ -69,8 +81,8 @@ fn certificate_output<'a>(
     }
 }
 
-// Whether two targets are one file.
-fn is_same_file(one: &Target<Global>, other: &Target<Global>) -> bool {
+/// Whether two targets are one file.
+pub fn is_same_file(one: &Target<Global>, other: &Target<Global>) -> bool {
     let Target::Place(one, _) = one else {
         return false;
     };
@@ -119,8 +131,22 @@ pub fn run_with<I: Read, T: Write>(rt: &HostRuntime, job: &Job, image: &mut I, t
     }
 }
 
-/// Opens the image that a job names, and does the job.
+/// Does a job in place; `None`, with nothing told, where the job is none.
+pub fn run_in_its_place<T: Write>(rt: &HostRuntime, job: &Job, text: &mut T) -> Option<u8> {
+    if !is_in_place(job) {
+        return None;
+    }
+    Some(run_placed(rt, job, volume_of(job)?, text))
+}
+
+/// Opens the image that a job names, and does the job: in place, or on the units of its file that it needs, or on all of its bytes.
 pub fn run_opened<T: Write>(rt: &HostRuntime, job: &Job, text: &mut T) -> u8 {
+    if let Some(status) = run_in_its_place(rt, job, text) {
+        return status;
+    }
+    if let Some(status) = run_straight(rt, job, text) {
+        return status;
+    }
     if is_on_standard_input(job) {
         return run_with(rt, job, &mut rt.stdin(), text);
     }

@@ -1,8 +1,8 @@
 // What the program's words ask for.
 use crate::auto::{is_asked, settled_job, standing_job};
 use crate::explaining::{Found, explain};
-use crate::job_paths::{image_order, image_path};
-use crate::running::{image_bytes, run_opened, run_with};
+use crate::job_paths::{image_order, image_path, is_on_standard_input};
+use crate::running::{image_bytes, run_in_its_place, run_opened, run_with};
 use crate::stop::Stop;
 use explanations::Overheard;
 use front_words::{asks_explain, asks_version, without_explain};
@@ -20,6 +20,11 @@ fn words_of(rt: &HostRuntime, alloc: Global) -> io::Result<Vec<String>> {
     Ok(std::env::args(rt)?.skip(1).collect(alloc)?)
 }
 
+// Whether a job in place needs no look at its image first: it names its file system and order, or has no file.
+fn is_placed_as_said(words: &[String], standing: &Job) -> bool {
+    !is_asked(words) || is_on_standard_input(standing)
+}
+
 // Does what words ask for on the image in memory, so that `auto` can be settled by it, and notes what becomes known of it.
 fn run_in_memory<T: Write>(
     rt: &HostRuntime,
@@ -29,6 +34,11 @@ fn run_in_memory<T: Write>(
 ) -> Result<u8, Stop> {
     let standing = standing_job(rt.alloc(), words)?;
     found.path = image_path(&standing).to_string(rt.alloc()).ok();
+    if is_placed_as_said(words, &standing)
+        && let Some(status) = run_in_its_place(rt, &standing, text)
+    {
+        return Ok(status);
+    }
     let image = image_bytes(rt, &standing)?;
     found.bytes = Some(image.len());
     let job = if is_asked(words) {
@@ -37,6 +47,9 @@ fn run_in_memory<T: Write>(
         standing
     };
     found.order = image_order(&job);
+    if let Some(status) = run_in_its_place(rt, &job, text) {
+        return Ok(status);
+    }
     let status = run_with(rt, &job, &mut image.as_slice(), text);
     found.is_content = status == 0 && matches!(&job, Job::Read { .. });
     Ok(status)

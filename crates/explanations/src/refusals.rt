@@ -2,7 +2,13 @@
 use crate::explanation::Explanation;
 
 /// The explanations of a job that is not done: refusals and failures.
-pub static REFUSALS: [Explanation; 21] = [
+pub static REFUSALS: [Explanation; 22] = [
+    Explanation {
+        front: "REFUSED InPlace",
+        meaning: "This image is not changed in its own file. That is done where the units of the volume stand in the file one after \
+            the other: a DOS 3.3 disk in DOS order, or a ProDOS volume in ProDOS order, in a file that has a name. Nothing was written.",
+        advice: "Say `--out FILE` in place of `--in-place`; or bring a copy into the other order with `a2shop convert`.",
+    },
     Explanation {
         front: "REFUSED Length",
         meaning: "The image has another length than an image in this order. A disk in DOS order or in ProDOS order has 143,360 bytes, \

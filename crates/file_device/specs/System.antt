@@ -18,7 +18,7 @@ system_file size = record { size = size; honest = false; bytes = []; standing = 
 abbrev pub IsInPlace : Order → UnitKind → Type 0
 IsInPlace order kind = ((order ≡ Dos) × (kind ≡ Sector)) ⊎ ((order ≡ Prodos) × (kind ≡ Block))
 
--- The device of a file of the system in place of an image in this order: it has as many units as an image of the file's length, and nothing was written to it.
+-- The device of a file of the system in place of an image in this order: its units stand there so, it has as many as an image of the file's length, and nothing was written to it.
 abbrev pub IsDeviceOf : Order → UnitKind → DeviceState → Type 0
 IsDeviceOf order kind device =
-    (places : ℕ) × IsImageLength order (unit_bytes kind * places) × (device ≡ file_device_state kind places 0 0 (system_file (unit_bytes kind * places)))
+    IsInPlace order kind × ((places : ℕ) × IsImageLength order (unit_bytes kind * places) × (device ≡ file_device_state kind places 0 0 (system_file (unit_bytes kind * places))))

@@ -38,6 +38,13 @@ impl<F: PositionedFile> FileDevice<F> {
     }
 
     /// The file.
+    pub fn file(&self) -> &F
+        ensures { result.now ≡ self.now.file }
+    {
+        &self.file
+    }
+
+    /// The file.
     pub fn into_file(self) -> F
         ensures { result ≡ self.file }
     {

@@ -149,11 +149,11 @@ impl FileDevice<SystemFile> {
         device_of(file, order, kind)
     }
 
-    /// Puts what was written onto the disk, and closes the file.
+    /// A second handle of the file: what was written through the device is put onto the disk by it.
     ///
     /// # Errors
-    /// `FileFailure` where the system does not say that it is there.
-    pub fn finish(self) -> Result<(), FileFailure> {
-        self.into_file().finish()
+    /// `FileFailure` where the system gives none.
+    pub fn handle(&self) -> Result<File, FileFailure> {
+        self.file().handle()
     }
 }

@@ -36,6 +36,7 @@ convert-whole order to volume image (Done text) is = is
 convert-whole order to volume image (Faulty text) is = is
 convert-whole order to volume image (Bytes content) is = is
 convert-whole order to volume image (Made made) is = OfDisk-whole order image _ is
+convert-whole order to volume image (Refused refusals.InPlace) is = is
 convert-whole order to volume image (Refused refusals.Type) is = is
 convert-whole order to volume image (Refused refusals.Date) is = is
 convert-whole order to volume image (Refused refusals.Reserve) is = is

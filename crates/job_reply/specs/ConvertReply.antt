@@ -35,6 +35,7 @@ IsConvertReply order to volume image (Done text) = ⊥
 IsConvertReply order to volume image (Faulty text) = ⊥
 IsConvertReply order to volume image (Bytes content) = ⊥
 IsConvertReply order to volume image (Made made) = OfDisk order image (λ sectors. IsConverted sectors to volume made.items)
+IsConvertReply order to volume image (Refused refusals.InPlace) = ⊥
 IsConvertReply order to volume image (Refused refusals.Type) = ⊥
 IsConvertReply order to volume image (Refused refusals.Date) = ⊥
 IsConvertReply order to volume image (Refused refusals.Reserve) = ⊥

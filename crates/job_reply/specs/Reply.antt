@@ -11,6 +11,7 @@ use Rattle.job_reply.specs.declared.reply.Reply.{Reply}
 use Rattle.job_reply.specs.declared.reply.Reply.TheVariants.{Done, Faulty, Bytes, Made, Optimized, Interrupted, Refused, Unopened, Failed}
 
 abbrev pub refusal_line : Refusal → List ℕ
+refusal_line refusals.InPlace = codes "REFUSED InPlace\n"
 refusal_line refusals.Type = codes "REFUSED Type\n"
 refusal_line refusals.Date = codes "REFUSED Date\n"
 refusal_line refusals.Reserve = codes "REFUSED Reserve\n"

@@ -8,6 +8,8 @@ use std::io::{ErrorKind, Write};
 /// Why a job was refused.
 #[derive(Clone, Copy, Debug, PartialEq, Eq)]
 pub enum Refusal {
+    /// The image cannot be changed where it stands.
+    InPlace,
     /// The format has no such type of files.
     Type,
     /// The text of the date is no date and time that the format can have.
@@ -76,6 +78,7 @@ impl Refusal {
         ensures { result.now ≡ refusal_line self }
     {
         match self {
+            Refusal::InPlace => b"REFUSED InPlace\n",
             Refusal::Type => b"REFUSED Type\n",
             Refusal::Date => b"REFUSED Date\n",
             Refusal::Reserve => b"REFUSED Reserve\n",

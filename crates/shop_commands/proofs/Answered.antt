@@ -1,9 +1,10 @@
 -- What was read of an image answers for the whole image, and words for their job.
-use Rattle.std.proofs.Common.{◌≡◌, ◌≢◌, ℕ, ◌+◌, Bool, List, [], take, refl, subst, arith, inl, inr, ⊎_elim}
+use Rattle.std.proofs.Common.{◌≡◌, ◌≢◌, ◌∙◌, ℕ, ◌+◌, Bool, true, false, List, take, refl, sym, ap, subst, arith, inl, inr, ⊎_elim}
+use Rattle.std.proofs.lemmas.Option.{same_Some}
 use Rattle.std.specs.Io.KnownBytes.{Appends, Keeps}
 use Rattle.std.specs.Prelude.{◌⊎◌, Option, Some, None, IfSome, codes}
 use Rattle.a2_image.specs.declared.order.Order.{Order}
-use Rattle.pro_dir.specs.declared.date.ProDate.{ProDate}
+use Rattle.given_file.specs.Content.{GivenView}
 use Rattle.shop_words.specs.Job.{EditView, JobView, SaveView, catalog, check, read, convert, plan, optimize, edit, save, verify, identify, asked_job, IsTaken}
 use Rattle.shop_words.specs.Fault.{IsFaultOf}
 use Rattle.shop_words.specs.declared.fault.WordsFault.{WordsFault}
@@ -23,8 +24,8 @@ use Rattle.volume_jobs.specs.Work.{IsWorkReply, WorkView, Catalog, Read, Check, 
 use Rattle.volume_jobs.specs.EditReply.{IsImageReply}
 use Rattle.volume_jobs.specs.SaveReply.{most_input}
 use Rattle.volume_jobs.proofs.NotMade.{edited_image, saved_image, volume_made}
-use Rattle.volume_jobs.proofs.Fronts.{saved-take, verified-take, volume-whole}
-use Rattle.shop_commands.specs.Answer.{HandsOutFor, IsDatedReply, IsReadFailure, IsSaveReply, given_of, limit_of, IsToldOf, IsReplyTo, IsAnswer, IsCommandAnswer, IsWordsAnswer, MakesImage, ReadsExtra, image_order_of, order_of}
+use Rattle.volume_jobs.proofs.Fronts.{saved-take, verified-take, volume-whole, with_given_bytes}
+use Rattle.shop_commands.specs.Answer.{AreToldNoJob, HandsOutFor, IsGiven, IsInPlaceAnswer, IsReadFailure, IsSaveReply, limit_of, IsToldOf, IsReplyToBytes, IsAnswer, IsCommandAnswer, IsWordsAnswer, MakesImage, ReadsExtra, attributes_of, image_order_of, is_in_place, order_of}
 use Rattle.image_readings.proofs.Fronts.{identify-whole}
 use Rattle.image_readings.proofs.NotMade.{identify_not_made}
 use Rattle.shop_commands.proofs.NotMade.{told_not_made}
@@ -44,9 +45,9 @@ verified_whole volume reserve image reclaim front bytes reply taken is = elim is
 ]
 
 -- and so is a file
-saved_whole : (words : SaveView) (reserve : Option (List ℕ)) (image : List ℕ) (kind : ℕ) (date : ProDate) (front bytes : List ℕ) (reply : Reply) → front ≡ take (most_input + 1) bytes
-    → IsToldOf words.volume reserve image (Save words.name (given_of words kind date front)) reply → IsToldOf words.volume reserve image (Save words.name (given_of words kind date bytes)) reply
-saved_whole words reserve image kind date front bytes reply taken is = elim is [
+saved_whole : (volume : VolumeOptions) (reserve : Option (List ℕ)) (image name : List ℕ) (given : GivenView) (front bytes : List ℕ) (reply : Reply) → front ≡ take (most_input + 1) bytes
+    → IsToldOf volume reserve image (Save name (with_given_bytes given front)) reply → IsToldOf volume reserve image (Save name (with_given_bytes given bytes)) reply
+saved_whole volume reserve image name given front bytes reply taken is = elim is [
   | inl refused ↦ inl refused
   | inr (inl long) ↦ inr (inl long)
   | inr (inr (inl memory)) ↦ inr (inr (inl memory))
@@ -57,8 +58,7 @@ saved_whole words reserve image kind date front bytes reply taken is = elim is [
       told.2.0,
       told.2.1,
       told.2.2,
-      saved-take words.name front bytes (given_of words kind date []) (edits_of words.volume.file_system).save
-          (meaning_of words.volume.file_system words.volume.data_disk told.0) (device_of words.volume.file_system told.2.1) reply taken told.2.3,
+      saved-take name front bytes given (edits_of volume.file_system).save (meaning_of volume.file_system volume.data_disk told.0) (device_of volume.file_system told.2.1) reply taken told.2.3,
     ),
   )))
 ]
@@ -69,21 +69,29 @@ told-whole volume reserve image work reply is =
     volume-whole volume.file_system (order_of volume.order) volume.data_disk reserve image
     (IsWorkReply work (form_of volume.file_system) (files_of volume.file_system) (edits_of volume.file_system)) reply is
 
-dated-whole : (words : SaveView) (reserve : Option (List ℕ)) (image : List ℕ) (kind : ℕ) (front bytes : List ℕ) (reply : Reply) → front ≡ take (most_input + 1) bytes
-    → IsDatedReply words reserve (take (most_bytes (order_of words.volume.order) + 1) image) front kind reply → IsDatedReply words reserve image bytes kind reply
-dated-whole words reserve image kind front bytes reply taken (inl refused) = inl refused
-dated-whole words reserve image kind front bytes reply taken (inr told) =
-    inr (
-      told.0,
-      told.1,
-      saved_whole words reserve image kind told.0 front bytes reply taken
-          (told-whole words.volume reserve image (Save words.name (given_of words kind told.0 front)) reply told.2),
-    )
+-- the words of a saving give a file whatever its bytes are
+given-whole : (words : SaveView) (front bytes : List ℕ) (given : GivenView) → IsGiven words.volume.file_system (attributes_of words) front given
+    → IsGiven words.volume.file_system (attributes_of words) bytes (with_given_bytes given bytes)
+given-whole words front bytes given is = record { kind = is.kind; aux = is.aux; date = is.date; head = is.head; bytes = refl }
+
+asked-whole : (words : SaveView) (reserve : Option (List ℕ)) (image : List ℕ) (work : WorkView) (given : GivenView) (front bytes : List ℕ) (reply : Reply) → front ≡ take (most_input + 1) bytes
+    → given.bytes ≡ front → work ≡ Save words.name given → IsToldOf words.volume reserve (take (most_bytes (order_of words.volume.order) + 1) image) work reply
+    → IsToldOf words.volume reserve image (Save words.name (with_given_bytes given bytes)) reply
+asked-whole words reserve image work given front bytes reply taken is_front is told =
+    saved_whole words.volume reserve image words.name given front bytes reply taken
+    (told-whole words.volume reserve image (Save words.name (with_given_bytes given front)) reply
+    (subst (λ (w : WorkView). IsToldOf words.volume reserve (take (most_bytes (order_of words.volume.order) + 1) image) w reply)
+    (is ∙ ap (λ (xs : List ℕ). Save words.name (with_given_bytes given xs)) is_front) told))
 
 save-whole : (words : SaveView) (reserve : Option (List ℕ)) (image front bytes : List ℕ) (reply : Reply) → front ≡ take (most_input + 1) bytes
     → IsSaveReply words reserve (take (most_bytes (order_of words.volume.order) + 1) image) front reply → IsSaveReply words reserve image bytes reply
 save-whole words reserve image front bytes reply taken (inl refused) = inl refused
-save-whole words reserve image front bytes reply taken (inr told) = inr (told.0, told.1, dated-whole words reserve image told.0 front bytes reply taken told.2)
+save-whole words reserve image front bytes reply taken (inr (work, (given, is, asks), told)) =
+    inr (
+      Save words.name (with_given_bytes given bytes),
+      (with_given_bytes given bytes, given-whole words front bytes given is, refl),
+      asked-whole words reserve image work given front bytes reply taken is.bytes asks told,
+    )
 
 -- the bytes that are read of an image
 abbrev pub front_for : JobView → List ℕ → List ℕ
@@ -91,37 +99,43 @@ front_for job image = take (most_bytes (image_order_of job) + 1) image
 
 -- the reply to the bytes that were read is the reply to all
 reply-whole : (job : JobView) (image more : List ℕ) (extra : Option (List ℕ)) (reply : Reply)
-    → (ReadsExtra job → IfSome extra (λ bytes. more ≡ take (most_certificate + 1) bytes))
-    → IsReplyTo job (front_for job image) (Some more) reply → IsReplyTo job image extra reply
-reply-whole (catalog path volume) image more extra reply taken is = told-whole volume None image Catalog reply is
-reply-whole (check path volume reserve) image more extra reply taken is = told-whole volume reserve image Check reply is
-reply-whole (read path name volume whole) image more extra reply taken is = told-whole volume None image (Read name whole) reply is
-reply-whole (plan path volume reserve reclaim in_words) image more extra reply taken is = told-whole volume reserve image (Plan reclaim in_words) reply is
-reply-whole (optimize words reserve reclaim cert) image more extra reply taken is =
+    → is_in_place job ≡ false → (ReadsExtra job → IfSome extra (λ bytes. more ≡ take (most_certificate + 1) bytes))
+    → IsReplyToBytes job (front_for job image) (Some more) reply → IsReplyToBytes job image extra reply
+reply-whole (catalog path volume) image more extra reply outside taken is = told-whole volume None image Catalog reply is
+reply-whole (check path volume reserve) image more extra reply outside taken is = told-whole volume reserve image Check reply is
+reply-whole (read path name volume whole) image more extra reply outside taken is = told-whole volume None image (Read name whole) reply is
+reply-whole (plan path volume reserve reclaim in_words) image more extra reply outside taken is = told-whole volume reserve image (Plan reclaim in_words) reply is
+reply-whole (optimize words reserve reclaim cert) image more extra reply outside taken is =
     told-whole words.volume reserve image (Optimize reclaim (limit_of words.stop_after)) reply is
-reply-whole (edit path name volume change out reserve) image more extra reply taken is = told-whole volume reserve image (Change change name) reply is
-reply-whole (save words reserve) image more None reply taken is = tt
-reply-whole (save words reserve) image more (Some bytes) reply taken is = save-whole words reserve image more bytes reply (taken tt) is
-reply-whole (verify path volume from reserve reclaim) image more None reply taken is = tt
-reply-whole (verify path volume from reserve reclaim) image more (Some bytes) reply taken is =
+reply-whole (edit path name volume change out reserve) image more extra reply outside taken is = told-whole volume reserve image (Change change name) reply is
+reply-whole (save words reserve) image more None reply outside taken is = tt
+reply-whole (save words reserve) image more (Some bytes) reply outside taken is = save-whole words reserve image more bytes reply (taken outside) is
+reply-whole (verify path volume from reserve reclaim) image more None reply outside taken is = tt
+reply-whole (verify path volume from reserve reclaim) image more (Some bytes) reply outside taken is =
     verified_whole volume reserve image reclaim more bytes reply (taken tt) (told-whole volume reserve image (Verify reclaim more) reply is)
-reply-whole (convert words) image more extra reply taken is = convert-whole (order_of words.order) (order_of words.to) words.volume image reply is
-reply-whole (identify path) image more extra reply taken is = identify-whole image reply is
+reply-whole (convert words) image more extra reply outside taken is = convert-whole (order_of words.order) (order_of words.to) words.volume image reply is
+reply-whole (identify path) image more extra reply outside taken is = identify-whole image reply is
 
 pub job_answered : (job : JobView) (known extra : Option (List ℕ)) (order : Order) (front more : List ℕ) (reply : Reply) (status : ℕ) (old new : Held)
-    → order ≡ image_order_of job → IfSome known (λ image. front ≡ take (most_bytes order + 1) image)
-    → (ReadsExtra job → IfSome extra (λ bytes. more ≡ take (most_certificate + 1) bytes)) → IsReplyTo job front (Some more) reply
+    → is_in_place job ≡ false → order ≡ image_order_of job → IfSome known (λ image. front ≡ take (most_bytes order + 1) image)
+    → (ReadsExtra job → IfSome extra (λ bytes. more ≡ take (most_certificate + 1) bytes)) → IsReplyToBytes job front (Some more) reply
     → IsDelivered reply status old new → IfSome known (λ image. IsAnswer job image extra status old new)
-job_answered job None extra order front more reply status old new same taken taken' is told = tt
-job_answered job (Some image) extra order front more reply status old new same taken taken' is told =
+job_answered job None extra order front more reply status old new outside same taken taken' is told = tt
+job_answered job (Some image) extra order front more reply status old new outside same taken taken' is told =
     let whole : front ≡ front_for job image = subst (λ o. front ≡ take (most_bytes o + 1) image) same taken in
-    (reply, inl (reply-whole job image more extra reply taken' (subst (λ bytes. IsReplyTo job bytes (Some more) reply) whole is)), told)
+    (reply, inl (inr (outside, reply-whole job image more extra reply outside taken' (subst (λ bytes. IsReplyToBytes job bytes (Some more) reply) whole is))), told)
+
+-- a job in place
+pub placed_answered : (job : JobView) (known extra : Option (List ℕ)) (status : ℕ) (old new : Held) → is_in_place job ≡ true
+    → IsDelivered (Refused refusals.InPlace) status old new → IfSome known (λ image. IsAnswer job image extra status old new)
+placed_answered job None extra status old new placed told = tt
+placed_answered job (Some image) extra status old new placed told = (Refused refusals.InPlace, inl (inl (placed, refl)), told)
 
 -- a job whose bytes could not be read
-pub unread_answered : (job : JobView) (known extra : Option (List ℕ)) (failure : Failure) (status : ℕ) (old new : Held) → IsReadFailure failure
+pub unread_answered : (job : JobView) (known extra : Option (List ℕ)) (failure : Failure) (status : ℕ) (old new : Held) → is_in_place job ≡ false → IsReadFailure failure
     → IsDelivered (Failed failure) status old new → IfSome known (λ image. IsAnswer job image extra status old new)
-unread_answered job None extra failure status old new is told = tt
-unread_answered job (Some image) extra failure status old new is told = (Failed failure, inr (failure, is, refl), told)
+unread_answered job None extra failure status old new outside is told = tt
+unread_answered job (Some image) extra failure status old new outside is told = (Failed failure, inr (outside, (failure, is, refl)), told)
 
 -- and it hands nothing out
 pub none_handed : {O P : Type 0} (failure : Failure) (old new : O) (status : ℕ) (text_old text_new : Option (List ℕ))
@@ -129,17 +143,17 @@ pub none_handed : {O P : Type 0} (failure : Failure) (old new : O) (status : ℕ
 none_handed failure old new status text_old text_new handed = ⊎_elim inl (λ made. absurd made.0) handed
 
 -- only a job that makes an image has a reply with one
-makes_image : (job : JobView) (image more : List ℕ) (reply : Reply) → IsReplyTo job image (Some more) reply → IsMade reply → MakesImage job
-makes_image (catalog path volume) image more reply is made = absurd (told_not_made volume None image Catalog tt reply is made)
-makes_image (check path volume reserve) image more reply is made = absurd (told_not_made volume reserve image Check tt reply is made)
-makes_image (read path name volume whole) image more reply is made = absurd (told_not_made volume None image (Read name whole) tt reply is made)
-makes_image (plan path volume reserve reclaim in_words) image more reply is made = absurd (told_not_made volume reserve image (Plan reclaim in_words) tt reply is made)
-makes_image (optimize words reserve reclaim cert) image more reply is made = tt
-makes_image (edit path name volume change out reserve) image more reply is made = tt
-makes_image (save words reserve) image more reply is made = tt
-makes_image (verify path volume from reserve reclaim) image more reply is made = absurd (told_not_made volume reserve image (Verify reclaim more) tt reply is made)
-makes_image (convert words) image more reply is made = tt
-makes_image (identify path) image more reply is made = absurd (identify_not_made image reply is made)
+makes_image : (job : JobView) (image more : List ℕ) (reply : Reply) → is_in_place job ≡ false → IsReplyToBytes job image (Some more) reply → IsMade reply → MakesImage job
+makes_image (catalog path volume) image more reply outside is made = absurd (told_not_made volume None image Catalog tt reply is made)
+makes_image (check path volume reserve) image more reply outside is made = absurd (told_not_made volume reserve image Check tt reply is made)
+makes_image (read path name volume whole) image more reply outside is made = absurd (told_not_made volume None image (Read name whole) tt reply is made)
+makes_image (plan path volume reserve reclaim in_words) image more reply outside is made = absurd (told_not_made volume reserve image (Plan reclaim in_words) tt reply is made)
+makes_image (optimize words reserve reclaim cert) image more reply outside is made = outside
+makes_image (edit path name volume change out reserve) image more reply outside is made = outside
+makes_image (save words reserve) image more reply outside is made = outside
+makes_image (verify path volume from reserve reclaim) image more reply outside is made = absurd (told_not_made volume reserve image (Verify reclaim more) tt reply is made)
+makes_image (convert words) image more reply outside is made = tt
+makes_image (identify path) image more reply outside is made = absurd (identify_not_made image reply is made)
 
 -- an edit that makes an image answers with it, and hands it out with `OK`
 edit_makes_image : (volume : VolumeOptions) (reserve : Option (List ℕ)) (image : List ℕ) (change : EditView) (name : List ℕ) (reply : Reply)
@@ -152,16 +166,15 @@ edit_makes_image volume reserve image change name reply is made =
 -- so does a saving
 save_makes_image : (words : SaveView) (reserve : Option (List ℕ)) (image bytes : List ℕ) (reply : Reply) → IsSaveReply words reserve image bytes reply → IsMade reply → IsImageReply reply
 save_makes_image words reserve image bytes reply is made = elim is [
-  | inl refused ↦ absurd (refused_not_made refusals.Type reply refused.0 made)
-  | inr (_, _, inl refused) ↦ absurd (refused_not_made refusals.Date reply refused.0 made)
-  | inr (kind, _, inr told) ↦ told_image kind told.0 told.2
+  | inl (refusal, refused, _) ↦ absurd (refused_not_made refusal reply refused made)
+  | inr (work, (given, _, asks), told) ↦ told_image given (subst (λ (w : WorkView). IsToldOf words.volume reserve image w reply) asks told)
 ]
   where
-    told_image : (kind : ℕ) (date : ProDate) → IsToldOf words.volume reserve image (Save words.name (given_of words kind date bytes)) reply → IsImageReply reply
-    told_image kind date told =
+    told_image : (given : GivenView) → IsToldOf words.volume reserve image (Save words.name given) reply → IsImageReply reply
+    told_image given told =
         volume_made words.volume.file_system (order_of words.volume.order) words.volume.data_disk reserve image
-        (IsWorkReply (Save words.name (given_of words kind date bytes)) (form_of words.volume.file_system) (files_of words.volume.file_system) (edits_of words.volume.file_system)) reply (IsImageReply reply)
-        (λ format device is. saved_image words.name (given_of words kind date bytes) (edits_of words.volume.file_system).save format device reply is made) told made
+        (IsWorkReply (Save words.name given) (form_of words.volume.file_system) (files_of words.volume.file_system) (edits_of words.volume.file_system)) reply (IsImageReply reply)
+        (λ format device is. saved_image words.name given (edits_of words.volume.file_system).save format device reply is made) told made
 
 ok_handed : (reply : Reply) (status : ℕ) (old new : Option (List ℕ)) → IsImageReply reply → HandsOut reply status old new
     → Appends old new (codes "OK\n") × ((status ≡ 0) ⊎ (status ≡ 4))
@@ -176,7 +189,7 @@ ok_handed (Unopened text) status old new is out = absurd is
 ok_handed (Failed failure) status old new is out = absurd is
 
 -- the image of a conversion, of an edit or of a saving is handed out with `OK`
-hands_for : (job : JobView) (image more : List ℕ) (reply : Reply) (status : ℕ) (old new : Option (List ℕ)) → IsReplyTo job image (Some more) reply → IsMade reply
+hands_for : (job : JobView) (image more : List ℕ) (reply : Reply) (status : ℕ) (old new : Option (List ℕ)) → IsReplyToBytes job image (Some more) reply → IsMade reply
     → HandsOut reply status old new → HandsOutFor job status old new
 hands_for (convert words) image more (Made content) status old new is made out = out
 hands_for (convert words) image more (Optimized text content) status old new is made out = absurd is
@@ -198,10 +211,15 @@ hands_for (verify path volume from reserve reclaim) image more reply status old 
 hands_for (identify path) image more reply status old new is made out = (reply, made, out)
 
 pub image_handed : {O : Type 0} (job : JobView) (image more : List ℕ) (reply : Reply) (status : ℕ) (text_old text_new : Option (List ℕ)) (old new : O)
-    → IsReplyTo job image (Some more) reply → (new ≡ old) ⊎ (IsMade reply × HandsOut reply status text_old text_new)
+    → is_in_place job ≡ false → IsReplyToBytes job image (Some more) reply → (new ≡ old) ⊎ (IsMade reply × HandsOut reply status text_old text_new)
     → (new ≡ old) ⊎ (MakesImage job × HandsOutFor job status text_old text_new)
-image_handed job image more reply status text_old text_new old new is handed =
-    ⊎_elim inl (λ made. inr (makes_image job image more reply is made.0, hands_for job image more reply status text_old text_new is made.0 made.1)) handed
+image_handed job image more reply status text_old text_new old new outside is handed =
+    ⊎_elim inl (λ made. inr (makes_image job image more reply outside is made.0, hands_for job image more reply status text_old text_new is made.0 made.1)) handed
+
+-- a refusal hands nothing out
+pub refusal_handed : {O P : Type 0} (old new : O) (status : ℕ) (text_old text_new : Option (List ℕ))
+    → (new ≡ old) ⊎ (IsMade (Refused refusals.InPlace) × HandsOut (Refused refusals.InPlace) status text_old text_new) → (new ≡ old) ⊎ P
+refusal_handed old new status text_old text_new handed = ⊎_elim inl (λ made. absurd made.0) handed
 
 -- ---- words
 
@@ -223,3 +241,12 @@ pub command_refused : (list : List (List ℕ)) (fault : WordsFault) (known extra
     → IfSome known (λ image. IsCommandAnswer list image extra status (held old out) (held new out))
 command_refused list fault None extra out status old new taken at_fault told = tt
 command_refused list fault (Some image) extra out status old new taken at_fault told = inl (fault, taken, at_fault, told, keeps_same out)
+
+pub command_placed : (list : List (List ℕ)) (mine job : JobView) (status : ℕ) (old new : Held) → asked_job list ≡ Some mine → IsInPlaceAnswer mine status old new
+    → asked_job list ≡ Some job → is_in_place job ≡ true → AreToldNoJob list status old new ⊎ IsDelivered (Refused refusals.InPlace) status old new
+command_placed list mine job status old new asked answer also placed =
+    inr (answer (subst (λ (j : JobView). is_in_place j ≡ true) (same_Some job mine (sym also ∙ asked)) placed))
+
+pub command_untaken : (list : List (List ℕ)) (fault : WordsFault) (out : Option (List ℕ)) (status : ℕ) (old new : Option (List ℕ))
+    → (IsTaken list → fault ≡ words.Memory) → IsFaultOf list fault → IsWordsAnswer fault status old new → AreToldNoJob list status (held old out) (held new out)
+command_untaken list fault out status old new taken at_fault told = (fault, taken, at_fault, told, keeps_same out)

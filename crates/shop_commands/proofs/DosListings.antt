@@ -1,16 +1,25 @@
 -- What is told of a job that lists a DOS 3.3 disk, in the words of its format.
-use Rattle.std.proofs.Common.{ℕ, List, inl, inr, ⊎_elim}
+use Rattle.std.proofs.Common.{◌≡◌, ◌⊎◌, ℕ, List, true, false, inl, inr, ⊎_elim}
 use Rattle.std.specs.Prelude.{Option, Some, None, IfSome}
 use Rattle.shop_words.specs.Job.{JobView, catalog, check, read, convert, plan, optimize, edit, save, verify, identify}
 use Rattle.job_reply.specs.Reply.{Held}
 use Rattle.volume_jobs.proofs.DosListings.{dos_catalog_listed}
 use Rattle.shop_commands.specs.Answer.{IsAnswer, IsDosCatalogAnswer, order_of}
 
+-- a job that is none in place is told of its bytes
+told_of_bytes : {P Q : Type 0} → ((false ≡ true) × P) ⊎ ((false ≡ false) × Q) → Q
+told_of_bytes (inl placed) = absurd (let never : false ≡ true = placed.0 in cc)
+told_of_bytes (inr told) = told.1
+
 answer-dos : (job : JobView) (image : List ℕ) (extra : Option (List ℕ)) (status : ℕ) (old new : Held) → IsAnswer job image extra status old new
     → IsDosCatalogAnswer job image status old new
 answer-dos (catalog path volume) image extra status old new answer = λ dos.
-    let reply = answer.0 in
-    (reply, ⊎_elim (λ told. inl (dos_catalog_listed (order_of volume.order) volume.data_disk volume.file_system image reply dos told)) (λ failed. inr failed) answer.1, answer.2)
+    let reply = answer.0 in (
+      reply,
+      ⊎_elim (λ told. inl (dos_catalog_listed (order_of volume.order) volume.data_disk volume.file_system image reply dos (told_of_bytes told)))
+          (λ failed. inr failed.1) answer.1,
+      answer.2,
+    )
 answer-dos (check path volume reserve) image extra status old new answer = tt
 answer-dos (read path name volume whole) image extra status old new answer = tt
 answer-dos (plan path volume reserve reclaim in_words) image extra status old new answer = tt

@@ -1,6 +1,5 @@
 pub mod Fronts
 pub mod NotMade
-pub mod Edits
-pub mod Saves
+pub mod Asked
 pub mod Answered
 pub mod DosListings

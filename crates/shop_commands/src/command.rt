@@ -1,7 +1,7 @@
 // Commands, from words to the text.
 ghost use Rattle.std.specs.Prelude.{◌≡◌, ◌≢◌, ◌⊎◌, IfSome, map, string_bytes};
 ghost use Rattle.shop_words.specs.Plain.{IsPlain};
-ghost use Rattle.shop_commands.specs.Answer.{CommandHandsOut, CommandReads, IsCommandAnswer, IsWordsAnswer};
+ghost use Rattle.shop_commands.specs.Answer.{CommandHandsOut, CommandReads, CommandReadsImage, IsCommandAnswer, IsInPlaceCommandAnswer, IsWordsAnswer};
 ghost use Rattle.job_reply.specs.Reply.{held};
 
 use crate::job::run_job;
@@ -39,6 +39,8 @@ pub fn run_command<I: Read, E: Read, T: Write, O: Write>(
     ensures plain { IsPlain (map string_bytes words.now) → result ≢ WORDS_REFUSED }
     ensures answer { IfSome (I.remaining image.old) (λ bytes.
         IsCommandAnswer (map string_bytes words.now) bytes (E.remaining extra.old) result (held (T.contents text.old) (O.contents out.old)) (held (T.contents text.new) (O.contents out.new))) }
+    ensures in_place { IsInPlaceCommandAnswer (map string_bytes words.now) result (held (T.contents text.old) (O.contents out.old)) (held (T.contents text.new) (O.contents out.new)) }
+    ensures image { (image.new ≡ image.old) ⊎ CommandReadsImage (map string_bytes words.now) }
     ensures extra { (extra.new ≡ extra.old) ⊎ CommandReads (map string_bytes words.now) }
     ensures out { (out.new ≡ out.old) ⊎ CommandHandsOut (map string_bytes words.now) result (T.contents text.old) (T.contents text.new) }
 {

@@ -1,16 +1,18 @@
 // Jobs, from an image's reader to the text and the output file.
-ghost use Rattle.std.specs.Prelude.{◌≡◌, ◌⊎◌, ◌+◌, ℕ, List, Option, Some, take, IfOk, IfErr, IfSome, option_map};
+ghost use Rattle.std.specs.Prelude.{◌≡◌, ◌⊎◌, ◌+◌, Some, false, take, IfOk, IfErr, IfSome, option_map};
 ghost use Rattle.shop_words.specs.Job.{job_view};
 ghost use Rattle.job_reply.specs.Reply.{held};
+ghost use Rattle.given_file.specs.Content.{given_view};
 ghost use Rattle.volume_jobs.specs.VerifyReply.{most_certificate};
-ghost use Rattle.shop_commands.specs.Answer.{AsksForPlan, ChangesVolume, HandsOutFor, IsAnswer, IsDosCatalogAnswer, IsReadFailure, IsReplyTo, IsStatus, MakesImage, ReadsExtra, SavesFile, head_of as first_of, image_order_of, kind_of as type_of, limit_of as of_limit, order_of as named};
+ghost use Rattle.volume_jobs.specs.Work.{work_view};
+ghost use Rattle.shop_commands.specs.Answer.{AsksFor, AsksForPlan, ChangesVolume, HandsOutFor, IsAnswer, IsDosCatalogAnswer, IsGiven, IsInPlaceAnswer, IsOnVolume, IsReadFailure, IsReplyToBytes, IsStatus, MakesImage, ReadsExtra, ReadsImage, RefusesAttributes, RefusesWords, attributes_view, head_of as first_of, image_order_of, is_in_place as in_place, kind_of as type_of, limit_of as of_limit, order_of as named};
 
 use crate::input::{read_extra, read_image};
 use a2_image::Order;
 use given_file::{GivenFile, Head, date, dos_head, dos_kind, pro_kind};
 use image_readings::identify_reply;
 use job_reply::{Failure, Refusal, Reply, convert_reply};
-use shop_words::{FileSystem, ImageOrder, Job};
+use shop_words::{FileSystem, ImageOrder, Job, SaveAttributes, Target, VolumeOptions};
 use std::alloc::Global;
 use std::io::{Read, Write};
 use volume_jobs::{Work, volume_reply};
@@ -45,6 +47,18 @@ fn image_order(job: &Job) -> Order
     }
 }
 
+/// Whether a job changes the image in its own file.
+pub fn is_in_place(job: &Job) -> bool
+    ensures { result ≡ in_place (job_view job.now) }
+{
+    match job {
+        Job::Optimize { target, .. } | Job::Edit { target, .. } | Job::Save { target, .. } => {
+            matches!(target, Target::InPlace)
+        }
+        _ => false,
+    }
+}
+
 // After how many writes to stop.
 fn limit_of(stop_after: Option<u64>) -> u64
     ensures { result ≡ of_limit stop_after }
@@ -55,14 +69,16 @@ fn limit_of(stop_after: Option<u64>) -> u64
     }
 }
 
-// The bytes of the file beside the image, of a job that reads one.
+// The bytes of the file beside the image, of a job that reads one and is none in place.
 fn extra_for<E: Read>(alloc: Global, job: &Job, extra: &mut E) -> Result<Vec<u8>, Failure>
+    requires { in_place (job_view job.now) ≡ false }
     ensures read { ReadsExtra (job_view job.now) → IfSome (E.remaining extra.old) (λ bytes. IfOk result (λ read. read.items ≡ take (most_certificate + 1) bytes)) }
     ensures kept { (extra.new ≡ extra.old) ⊎ ReadsExtra (job_view job.now) }
     ensures failed { IfErr result IsReadFailure }
 {
     match job {
-        Job::Save { .. } | Job::Verify { .. } => read_extra(alloc, extra),
+        Job::Save { .. } => read_extra(alloc, extra),
+        Job::Verify { .. } => read_extra(alloc, extra),
         _ => Ok(Vec::new(alloc)),
     }
 }
@@ -70,7 +86,7 @@ fn extra_for<E: Read>(alloc: Global, job: &Job, extra: &mut E) -> Result<Vec<u8>
 // The reply to a plan or a verification, on the bytes of its image and of a file beside it.
 fn plan_job_reply(alloc: Global, job: &Job, image: Vec<u8>, extra: &[u8]) -> Reply
     requires { AsksForPlan (job_view job.now) }
-    ensures { IsReplyTo (job_view job.now) image.items (Some extra.now) result }
+    ensures { IsReplyToBytes (job_view job.now) image.items (Some extra.now) result }
 {
     let order = image_order(job);
     match job {
@@ -103,44 +119,6 @@ fn plan_job_reply(alloc: Global, job: &Job, image: Vec<u8>, extra: &[u8]) -> Rep
     }
 }
 
-// The reply to an optimization or an edit, on the bytes of its image.
-fn change_reply(alloc: Global, job: &Job, image: Vec<u8>) -> Reply
-    requires { ChangesVolume (job_view job.now) }
-    ensures { (extra : Option (List ℕ)) → IsReplyTo (job_view job.now) image.items extra result }
-{
-    let order = image_order(job);
-    match job {
-        Job::Optimize {
-            volume,
-            reserve,
-            reclaim,
-            stop_after,
-            ..
-        } => {
-            let limit = limit_of(*stop_after);
-            let work = Work::Optimize {
-                reclaim: *reclaim,
-                limit,
-            };
-            volume_reply(alloc, work, image, order, *volume, reserve.as_deref())
-        }
-        Job::Edit {
-            name,
-            volume,
-            edit,
-            reserve,
-            ..
-        } => {
-            let work = Work::Edit {
-                edit,
-                name: name.as_bytes(),
-            };
-            volume_reply(alloc, work, image, order, *volume, reserve.as_deref())
-        }
-        _ => unreachable!(),
-    }
-}
-
 // The type that the words name, in a file system.
 fn kind_of(file_system: FileSystem, word: Option<&str>) -> Option<u8>
     ensures { result ≡ type_of file_system (option_map (λ s. s.now) word.entry) }
@@ -161,46 +139,106 @@ fn head_of(file_system: FileSystem, kind: u8) -> Head
     }
 }
 
-// The reply to the saving of the bytes of a file beside the image.
-fn save_job_reply(alloc: Global, job: &Job, image: Vec<u8>, extra: &[u8]) -> Reply
-    requires { SavesFile (job_view job.now) }
-    ensures { IsReplyTo (job_view job.now) image.items (Some extra.now) result }
+// The file that the words of a saving and these bytes give.
+fn given_by<'a>(
+    file_system: FileSystem,
+    attributes: &SaveAttributes,
+    bytes: &'a [u8],
+) -> Result<GivenFile<'a>, Refusal>
+    ensures given { IfOk result (λ given. IsGiven file_system (attributes_view attributes.now) bytes.now (given_view given)) }
+    ensures refused { IfErr result (RefusesAttributes file_system (attributes_view attributes.now)) }
 {
-    let order = image_order(job);
+    let Some(kind) = kind_of(file_system, attributes.kind.as_deref()) else {
+        return Err(Refusal::Type);
+    };
+    let Some(date) = date(attributes.date.as_deref()) else {
+        return Err(Refusal::Date);
+    };
+    Ok(GivenFile {
+        kind,
+        aux: attributes.aux,
+        date,
+        head: head_of(file_system, kind),
+        bytes,
+    })
+}
+
+/// What a job that changes its volume asks of it, with the bytes of a file beside the image.
+///
+/// # Errors
+/// Of a saving alone: `Type` for a type that the file system does not have, then `Date` for a date that is none.
+pub fn volume_work<'a>(job: &'a Job, extra: &'a [u8]) -> Result<Work<'a>, Refusal>
+    requires { ChangesVolume (job_view job.now) }
+    ensures work { IfOk result (λ work. AsksFor (job_view job.now) extra.now (work_view work)) }
+    ensures refused { IfErr result (RefusesWords (job_view job.now)) }
+{
     match job {
+        Job::Optimize {
+            reclaim,
+            stop_after,
+            ..
+        } => Ok(Work::Optimize {
+            reclaim: *reclaim,
+            limit: limit_of(*stop_after),
+        }),
+        Job::Edit { name, edit, .. } => Ok(Work::Edit {
+            edit,
+            name: name.as_bytes(),
+        }),
         Job::Save {
             name,
             volume,
             attributes,
-            reserve,
             ..
-        } => {
-            let Some(kind) = kind_of(volume.file_system, attributes.kind.as_deref()) else {
-                return Reply::Refused(Refusal::Type);
-            };
-            let Some(date) = date(attributes.date.as_deref()) else {
-                return Reply::Refused(Refusal::Date);
-            };
-            let given = GivenFile {
-                kind,
-                aux: attributes.aux,
-                date,
-                head: head_of(volume.file_system, kind),
-                bytes: extra,
-            };
-            let work = Work::Save {
-                path: name.as_bytes(),
-                given,
-            };
-            volume_reply(alloc, work, image, order, *volume, reserve.as_deref())
-        }
+        } => Ok(Work::Save {
+            path: name.as_bytes(),
+            given: given_by(volume.file_system, attributes, extra)?,
+        }),
         _ => unreachable!(),
     }
 }
 
+// The volume that a job changes, and the places that it reserves there.
+fn changed_volume(job: &Job) -> (VolumeOptions, Option<&str>)
+    requires { ChangesVolume (job_view job.now) }
+    ensures { IsOnVolume (job_view job.now) result.0 (option_map (λ s. s.now) result.1) }
+{
+    match job {
+        Job::Optimize {
+            volume,
+            reserve,
+            ..
+        } => (*volume, reserve.as_deref()),
+        Job::Edit {
+            volume,
+            reserve,
+            ..
+        } => (*volume, reserve.as_deref()),
+        Job::Save {
+            volume,
+            reserve,
+            ..
+        } => (*volume, reserve.as_deref()),
+        _ => unreachable!(),
+    }
+}
+
+// The reply to a job that changes its volume, on the bytes of its image and of a file beside it.
+fn change_reply(alloc: Global, job: &Job, image: Vec<u8>, extra: &[u8]) -> Reply
+    requires { ChangesVolume (job_view job.now) }
+    ensures { IsReplyToBytes (job_view job.now) image.items (Some extra.now) result }
+{
+    let work = match volume_work(job, extra) {
+        Ok(work) => work,
+        Err(refusal) => return Reply::Refused(refusal),
+    };
+    let (volume, reserve) = changed_volume(job);
+    volume_reply(alloc, work, image, image_order(job), volume, reserve)
+}
+
 // The reply to a job on the bytes of its image, and of a file beside it.
 fn reply_to(alloc: Global, job: &Job, image: Vec<u8>, extra: &[u8]) -> Reply
-    ensures { IsReplyTo (job_view job.now) image.items (Some extra.now) result }
+    ensures { IsReplyToBytes (job_view job.now) image.items (Some extra.now) result }
 {
     let order = image_order(job);
     match job {
@@ -234,13 +272,14 @@ fn reply_to(alloc: Global, job: &Job, image: Vec<u8>, extra: &[u8]) -> Reply
         Job::Convert { to, volume, .. } => convert_reply(image, order, order_of(*to), *volume),
         Job::Identify { .. } => identify_reply(alloc, image.as_slice()),
         Job::Plan { .. } | Job::Verify { .. } => plan_job_reply(alloc, job, image, extra),
-        Job::Optimize { .. } | Job::Edit { .. } => change_reply(alloc, job, image),
-        Job::Save { .. } => save_job_reply(alloc, job, image, extra),
+        Job::Optimize { .. } | Job::Edit { .. } | Job::Save { .. } => {
+            change_reply(alloc, job, image, extra)
+        }
     }
 }
 
 /// Does a job on the image of a reader, tells it and hands the image that it makes to `out`: 0 done, 1 where something is found
-/// wrong, 3 refused, 4 where a reader, a writer or memory fails.
+/// wrong, 3 refused, 4 where a reader, a writer or memory fails. A job in place is refused with `InPlace` before anything is read.
 pub fn run_job<I: Read, E: Read, T: Write, O: Write>(
     alloc: Global,
     job: &Job,
@@ -252,11 +291,16 @@ pub fn run_job<I: Read, E: Read, T: Write, O: Write>(
     ensures status { IsStatus result }
     ensures answer { IfSome (I.remaining image.old) (λ bytes.
         IsAnswer (job_view job.now) bytes (E.remaining extra.old) result (held (T.contents text.old) (O.contents out.old)) (held (T.contents text.new) (O.contents out.new))) }
+    ensures in_place { IsInPlaceAnswer (job_view job.now) result (held (T.contents text.old) (O.contents out.old)) (held (T.contents text.new) (O.contents out.new)) }
     ensures dos_catalog { IfSome (I.remaining image.old) (λ bytes.
         IsDosCatalogAnswer (job_view job.now) bytes result (held (T.contents text.old) (O.contents out.old)) (held (T.contents text.new) (O.contents out.new))) }
+    ensures image { (image.new ≡ image.old) ⊎ ReadsImage (job_view job.now) }
     ensures extra { (extra.new ≡ extra.old) ⊎ ReadsExtra (job_view job.now) }
     ensures out { (out.new ≡ out.old) ⊎ (MakesImage (job_view job.now) × HandsOutFor (job_view job.now) result (T.contents text.old) (T.contents text.new)) }
 {
+    if is_in_place(job) {
+        return Reply::Refused(Refusal::InPlace).deliver(text, out);
+    }
     let bytes = match read_image(alloc, image, image_order(job)) {
         Ok(bytes) => bytes,
         Err(failure) => return Reply::Failed(failure).deliver(text, out),

@@ -9,4 +9,4 @@ mod input;
 mod job;
 
 pub use command::{run_command, tell_words_fault};
-pub use job::run_job;
+pub use job::{is_in_place, run_job, volume_work};

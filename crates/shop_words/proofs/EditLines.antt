@@ -4,13 +4,13 @@ use Rattle.clap.proofs.OnLiterals.{clap_on_literals}
 use Rattle.clap.specs.Simple.{Shape, built, label_of}
 use Rattle.clap.specs.Takes.{turn_passes}
 use Rattle.clap.specs.Walk.{answers_to, walk_from, walked, nothing_held}
-use Rattle.shop_words.specs.Table.{Text, edit_form, lock_form, unlock_form, delete_form, rename_form, file_system, order, out, data_disk, reserve}
+use Rattle.shop_words.specs.Table.{Text, edit_form, lock_form, unlock_form, delete_form, rename_form, file_system, order, out_file, in_place, data_disk, reserve}
 use Rattle.shop_words.specs.Plain.{Use, IsPlainLine}
-use Rattle.shop_words.specs.Job.{EditView, Rename, JobView, Said, change_of, edit_by, job_by, line_job, line_said, volume_by}
+use Rattle.shop_words.specs.Job.{EditView, Rename, JobView, Said, TargetView, change_of, edit_by, job_by, line_job, line_said, target_by, volume_by}
 use Rattle.shop_words.specs.declared.job.VolumeOptions.{VolumeOptions}
 use Rattle.shop_words.proofs.PlainForms.{IsKnown, Knows, shape_named, stopped_at, top_names, top_rules, whole}
 use Rattle.shop_words.proofs.PlainJobs.{HasPlainDefaults, HasVolume, volume_by-line}
-use Rattle.shop_words.proofs.PlainUsed.{needed_said}
+use Rattle.shop_words.proofs.PlainTarget.{HasTarget, target_by-line}
 
 -- what is built of such a command: the name alone is its own
 abbrev edit_shape : Text → Shape
@@ -28,14 +28,15 @@ edit_known command is =
     let s = edit_shape command in
     let knows_file_system : Knows s file_system = record { by_long = refl; by_id = refl; same = refl; long = refl; dashes = refl } in
     let knows_order : Knows s order = record { by_long = refl; by_id = refl; same = refl; long = refl; dashes = refl } in
-    let knows_out : Knows s out = record { by_long = refl; by_id = refl; same = refl; long = refl; dashes = refl } in
+    let knows_out : Knows s out_file = record { by_long = refl; by_id = refl; same = refl; long = refl; dashes = refl } in
+    let knows_in_place : Knows s in_place = record { by_long = refl; long = refl; dashes = refl } in
     let knows_data_disk : Knows s data_disk = record { by_long = refl; long = refl; dashes = refl } in
     let knows_reserve : Knows s reserve = record { by_long = refl; by_id = refl; same = refl; long = refl; dashes = refl } in
     record {
       named = is.named;
       met = is.met;
       first = is.first;
-      parameters = (tt, (tt, (knows_file_system, (knows_order, (knows_out, (knows_data_disk, (knows_reserve, tt)))))));
+      parameters = (tt, (tt, (knows_file_system, (knows_order, (knows_out, (knows_in_place, (knows_data_disk, (knows_reserve, tt))))))));
       positionals = (refl, refl, refl, (refl, refl, refl, tt));
       positional_parameters = refl;
       apart = refl;
@@ -61,14 +62,15 @@ rename_known =
     let s = shape_named (codes "rename") in
     let knows_file_system : Knows s file_system = record { by_long = refl; by_id = refl; same = refl; long = refl; dashes = refl } in
     let knows_order : Knows s order = record { by_long = refl; by_id = refl; same = refl; long = refl; dashes = refl } in
-    let knows_out : Knows s out = record { by_long = refl; by_id = refl; same = refl; long = refl; dashes = refl } in
+    let knows_out : Knows s out_file = record { by_long = refl; by_id = refl; same = refl; long = refl; dashes = refl } in
+    let knows_in_place : Knows s in_place = record { by_long = refl; long = refl; dashes = refl } in
     let knows_data_disk : Knows s data_disk = record { by_long = refl; long = refl; dashes = refl } in
     let knows_reserve : Knows s reserve = record { by_long = refl; by_id = refl; same = refl; long = refl; dashes = refl } in
     record {
       named = refl;
       met = refl;
       first = refl;
-      parameters = (tt, (tt, (tt, (knows_file_system, (knows_order, (knows_out, (knows_data_disk, (knows_reserve, tt))))))));
+      parameters = (tt, (tt, (tt, (knows_file_system, (knows_order, (knows_out, (knows_in_place, (knows_data_disk, (knows_reserve, tt)))))))));
       positionals = (refl, refl, refl, (refl, refl, refl, (refl, refl, refl, tt)));
       positional_parameters = refl;
       apart = refl;
@@ -90,10 +92,11 @@ rename_defaults = record { name = refl; options = refl; flags = refl }
 
 -- ---- the jobs
 
-change_there : (change : EditView) (image name file : Text) (volume : Option VolumeOptions) (places : Option Text) → is_some volume ≡ true
-    → is_some (change_of change (Some image) (Some name) volume (Some file) places) ≡ true
-change_there change image name file None places there = cc
-change_there change image name file (Some v) places there = refl
+change_there : (change : EditView) (image name : Text) (volume : Option VolumeOptions) (target : Option TargetView) (places : Option Text) → is_some volume ≡ true → is_some target ≡ true
+    → is_some (change_of change (Some image) (Some name) volume target places) ≡ true
+change_there change image name None target places a b = cc
+change_there change image name (Some v) None places a b = cc
+change_there change image name (Some v) (Some t) places a b = refl
 
 edit_volume : (command : Text) → HasVolume (edit_form command)
 edit_volume command = record {
@@ -103,6 +106,9 @@ edit_volume command = record {
   order_values = refl;
 }
 
+edit_target : (command : Text) → HasTarget (edit_form command)
+edit_target command = record { at = (5, omega arith, refl); flags = refl }
+
 -- a command whose job is an edit
 pub is_some-line_job-edit : (command : Text) (change : EditView) → ((said : Said) → job_by command said ≡ edit_by change said) → (positionals : List Text) (uses : List Use)
     → IsPlainLine (edit_form command) positionals uses → is_some (line_job (edit_form command) positionals uses) ≡ true
@@ -111,12 +117,15 @@ is_some-line_job-edit command change is (image ∷ []) uses plain = let same = p
 is_some-line_job-edit command change is (image ∷ name ∷ []) uses plain =
     let f = edit_form command in
     let said = line_said f (image ∷ name ∷ []) uses in
-    let file = needed_said f (image ∷ name ∷ []) uses out (record { at = (4, omega arith, refl); is = refl }) plain in
     let there : is_some (edit_by change said) ≡ true =
-    rw file.1 (change_there change image name file.0 (volume_by said) (said (codes "reserve"))
-    (volume_by-line f (image ∷ name ∷ []) uses said (edit_volume command) plain refl refl)) in
+    change_there change image name (volume_by said) (target_by said) (said (codes "reserve"))
+    (volume_by-line f (image ∷ name ∷ []) uses said (edit_volume command) plain refl refl)
+    (target_by-line f (image ∷ name ∷ []) uses said (edit_target command) plain refl refl) in
     ap (λ (job : Option JobView). is_some job) (is said) ∙ there
 is_some-line_job-edit command change is (a ∷ b ∷ c ∷ rest) uses plain = let same = plain.as_many in absurd (omega (arith, same))
+
+rename_target : HasTarget rename_form
+rename_target = record { at = (6, omega arith, refl); flags = refl }
 
 rename_volume : HasVolume rename_form
 rename_volume = record {
@@ -132,7 +141,7 @@ is_some-line_job-rename (image ∷ []) uses plain = let same = plain.as_many in 
 is_some-line_job-rename (image ∷ name ∷ []) uses plain = let same = plain.as_many in absurd (omega (arith, same))
 is_some-line_job-rename (image ∷ name ∷ new ∷ []) uses plain =
     let said = line_said rename_form (image ∷ name ∷ new ∷ []) uses in
-    let file = needed_said rename_form (image ∷ name ∷ new ∷ []) uses out (record { at = (5, omega arith, refl); is = refl }) plain in
-    rw file.1 (change_there (Rename new) image name file.0 (volume_by said) (said (codes "reserve"))
-    (volume_by-line rename_form (image ∷ name ∷ new ∷ []) uses said rename_volume plain refl refl))
+    change_there (Rename new) image name (volume_by said) (target_by said) (said (codes "reserve"))
+    (volume_by-line rename_form (image ∷ name ∷ new ∷ []) uses said rename_volume plain refl refl)
+    (target_by-line rename_form (image ∷ name ∷ new ∷ []) uses said rename_target plain refl refl)
 is_some-line_job-rename (a ∷ b ∷ c ∷ d ∷ rest) uses plain = let same = plain.as_many in absurd (omega (arith, same))

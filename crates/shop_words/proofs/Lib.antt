@@ -10,6 +10,7 @@ pub mod PlainTaken
 pub mod PlainValues
 pub mod PlainUsed
 pub mod PlainJobs
+pub mod PlainTarget
 pub mod CatalogLine
 pub mod CheckLine
 pub mod ReadLine

@@ -1,13 +1,14 @@
 -- The plain lists of `optimize`.
 use Rattle.std.proofs.Common.{◌≡◌, ℕ, refl, true, List, [], ◌∷◌, Option, Some, None, codes, is_some, option_map, arith}
 use Rattle.clap.proofs.OnLiterals.{clap_on_literals}
-use Rattle.shop_words.specs.Table.{Text, optimize_form, file_system, order, out, data_disk, reserve, reclaim, stop_after, cert, most_writes}
+use Rattle.shop_words.specs.Table.{Text, optimize_form, file_system, order, out_file, in_place, data_disk, reserve, reclaim, stop_after, cert, most_writes}
 use Rattle.shop_words.specs.Plain.{Use, IsPlainLine, is_number}
-use Rattle.shop_words.specs.Job.{OptimizationView, JobView, optimize, optimization_of, is_on, limit_named, line_job, line_said, value_of, volume_by}
+use Rattle.shop_words.specs.Job.{OptimizationView, JobView, TargetView, optimize, optimization_of, is_on, limit_named, line_job, line_said, target_by, value_of, volume_by}
 use Rattle.shop_words.specs.declared.job.VolumeOptions.{VolumeOptions}
 use Rattle.shop_words.proofs.PlainForms.{IsKnown, Knows, shape_named}
 use Rattle.shop_words.proofs.PlainJobs.{HasPlainDefaults, HasVolume, volume_by-line}
-use Rattle.shop_words.proofs.PlainUsed.{needed_said, number_ensures, takes_number, value_passes}
+use Rattle.shop_words.proofs.PlainTarget.{HasTarget, target_by-line}
+use Rattle.shop_words.proofs.PlainUsed.{number_ensures, takes_number, value_passes}
 
 pub optimize_known : IsKnown optimize_form (shape_named (codes "optimize"))
 unfolding clap_on_literals
@@ -15,7 +16,8 @@ optimize_known =
     let s = shape_named (codes "optimize") in
     let knows_file_system : Knows s file_system = record { by_long = refl; by_id = refl; same = refl; long = refl; dashes = refl } in
     let knows_order : Knows s order = record { by_long = refl; by_id = refl; same = refl; long = refl; dashes = refl } in
-    let knows_out : Knows s out = record { by_long = refl; by_id = refl; same = refl; long = refl; dashes = refl } in
+    let knows_out : Knows s out_file = record { by_long = refl; by_id = refl; same = refl; long = refl; dashes = refl } in
+    let knows_in_place : Knows s in_place = record { by_long = refl; long = refl; dashes = refl } in
     let knows_data_disk : Knows s data_disk = record { by_long = refl; long = refl; dashes = refl } in
     let knows_reserve : Knows s reserve = record { by_long = refl; by_id = refl; same = refl; long = refl; dashes = refl } in
     let knows_reclaim : Knows s reclaim = record { by_long = refl; long = refl; dashes = refl } in
@@ -25,7 +27,7 @@ optimize_known =
       named = refl;
       met = refl;
       first = refl;
-      parameters = (tt, (knows_file_system, (knows_order, (knows_out, (knows_data_disk, (knows_reserve, (knows_reclaim, (knows_stop_after, (knows_cert, tt)))))))));
+      parameters = (tt, (knows_file_system, (knows_order, (knows_out, (knows_in_place, (knows_data_disk, (knows_reserve, (knows_reclaim, (knows_stop_after, (knows_cert, tt))))))))));
       positionals = (refl, refl, refl, tt);
       positional_parameters = refl;
       apart = refl;
@@ -44,11 +46,15 @@ optimize_volume = record {
   order_values = refl;
 }
 
-optimization_there : (image file : Text) (volume : Option VolumeOptions) (limit : Option (Option ℕ)) (made : OptimizationView → JobView) → is_some volume ≡ true → is_some limit ≡ true
-    → is_some (option_map made (optimization_of (Some image) volume (Some file) limit)) ≡ true
-optimization_there image file None limit made a b = cc
-optimization_there image file (Some v) None made a b = cc
-optimization_there image file (Some v) (Some l) made a b = refl
+optimize_target : HasTarget optimize_form
+optimize_target = record { at = (4, omega arith, refl); flags = refl }
+
+optimization_there : (image : Text) (volume : Option VolumeOptions) (target : Option TargetView) (limit : Option (Option ℕ)) (made : OptimizationView → JobView) → is_some volume ≡ true → is_some target ≡ true → is_some limit ≡ true
+    → is_some (option_map made (optimization_of (Some image) volume target limit)) ≡ true
+optimization_there image None target limit made a b c = cc
+optimization_there image (Some v) None limit made a b c = cc
+optimization_there image (Some v) (Some t) None made a b c = cc
+optimization_there image (Some v) (Some t) (Some l) made a b c = refl
 
 limit_there : (said : Option Text) → ((v : Text) → said ≡ Some v → is_number most_writes v ≡ true) → is_some (limit_named said) ≡ true
 limit_there None is = refl
@@ -58,10 +64,10 @@ pub is_some-line_job-optimize : (positionals : List Text) (uses : List Use) → 
 is_some-line_job-optimize [] uses plain = let same = plain.as_many in absurd (omega (arith, same))
 is_some-line_job-optimize (image ∷ []) uses plain =
     let said = line_said optimize_form (image ∷ []) uses in
-    let file = needed_said optimize_form (image ∷ []) uses out (record { at = (3, omega arith, refl); is = refl }) plain in
     let limit : (v : Text) → value_of (codes "stop-after") uses ≡ Some v → is_number most_writes v ≡ true =
     value_passes optimize_form.parameters (codes "stop-after") (takes_number most_writes) (is_number most_writes) uses refl (number_ensures most_writes) refl plain.known in
-    rw file.1 (optimization_there image file.0 (volume_by said) (limit_named (value_of (codes "stop-after") uses))
+    optimization_there image (volume_by said) (target_by said) (limit_named (value_of (codes "stop-after") uses))
     (λ o. optimize o (said (codes "reserve")) (is_on (said (codes "reclaim"))) (said (codes "cert")))
-    (volume_by-line optimize_form (image ∷ []) uses said optimize_volume plain refl refl) (limit_there (value_of (codes "stop-after") uses) limit))
+    (volume_by-line optimize_form (image ∷ []) uses said optimize_volume plain refl refl)
+    (target_by-line optimize_form (image ∷ []) uses said optimize_target plain refl refl) (limit_there (value_of (codes "stop-after") uses) limit)
 is_some-line_job-optimize (a ∷ b ∷ rest) uses plain = let same = plain.as_many in absurd (omega (arith, same))

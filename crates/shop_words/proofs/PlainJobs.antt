@@ -23,7 +23,7 @@ abbrev pub option_names : List Text
 option_names = codes "image" ∷ codes "fs" ∷ codes "order" ∷ codes "to" ∷ codes "out" ∷ codes "volume" ∷ codes "reserve" ∷ codes "name" ∷ codes "new" ∷ codes "stop-after" ∷ codes "cert" ∷ codes "from" ∷ codes "type" ∷ codes "aux" ∷ codes "date" ∷ []
 
 abbrev pub flag_names : List Text
-flag_names = codes "data-disk" ∷ codes "whole" ∷ codes "reclaim" ∷ codes "words" ∷ []
+flag_names = codes "data-disk" ∷ codes "whole" ∷ codes "reclaim" ∷ codes "words" ∷ codes "in-place" ∷ []
 
 abbrev pub leaves_all_off : FormView → Test → List Text → Bool
 leaves_all_off f q names = list_all (λ id. list_all (leaves_off q id) (shape_named f.name).rules) names
@@ -60,6 +60,7 @@ job_by-same command s t options flags =
       flags (codes "whole") refl,
       flags (codes "reclaim") refl,
       flags (codes "words") refl,
+      flags (codes "in-place") refl,
     ) refl
 
 -- what clap finds under a name

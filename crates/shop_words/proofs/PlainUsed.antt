@@ -1,5 +1,5 @@
 -- What a plain list says under the name of an option that it has.
-use Rattle.std.proofs.Common.{◌≡◌, ◌∙◌, ℕ, ◌<◌, sym, ap, subst, refl, Bool, true, false, List, [], ◌∷◌, Some, cond, ◌||◌, ◌==◌, map, not, length, find, All, Contains, arith, eqb-true, option_map, slice_index_or, zero, suc}
+use Rattle.std.proofs.Common.{◌≡◌, ◌∙◌, ℕ, ◌<◌, sym, ap, subst, refl, Bool, true, false, List, [], ◌∷◌, Some, None, codes, cond, ◌||◌, ◌==◌, map, not, length, find, All, Contains, arith, eqb-true, option_map, slice_index_or, zero, suc}
 use Rattle.std.proofs.lemmas.List.Elements.{All-contains, All-head, All-tail}
 use Rattle.std.proofs.lemmas.List.Sums.{AllPass-from_list_all}
 use Rattle.std.proofs.lemmas.Slice.Eq.{bytes_eq-Decides}
@@ -7,7 +7,7 @@ use Rattle.std.specs.List.{list_all}
 use Rattle.std.specs.Str.{bytes_eq}
 use Rattle.shop_words.specs.Table.{Text, any, one_of, number, KindView, positional, needed, optional, flag, parameter, ParameterView, FormView}
 use Rattle.shop_words.specs.Plain.{Use, alone, valued, use_name, is_needed, is_number, IsPlainLine, IsUseOf, TakesValue}
-use Rattle.shop_words.specs.Job.{use_value, value_of}
+use Rattle.shop_words.specs.Job.{is_on, use_value, value_of}
 
 -- a test of an option's kind
 abbrev pub KindTest : Type 0
@@ -62,14 +62,29 @@ where_named : (b c : Bool) → (not b || c) ≡ true → b ≡ true → c ≡ tr
 where_named true c passes is = passes
 where_named false c passes is = cc
 
+-- a flag, and nothing with a value
+abbrev pub is_flag : KindTest
+is_flag flag = true
+is_flag _ = false
+
+flags_ensure : (test : Text → Bool) → Ensures is_flag test
+flags_ensure test positional value only takes = cc
+flags_ensure test (needed values) value only takes = cc
+flags_ensure test (optional values) value only takes = cc
+flags_ensure test flag value only takes = absurd takes
+
+-- what a flag says passes the test, where a flag does
+abbrev PassesFlag : KindTest → (Text → Bool) → Type 0
+PassesFlag only test = only flag ≡ true → test (codes "true") ≡ true
+
 -- a use of the name passes the test
-use_passes-named : (ps : List ParameterView) (name : Text) (only : KindTest) (test : Text → Bool) (u : Use) → only flag ≡ false → Ensures only test
+use_passes-named : (ps : List ParameterView) (name : Text) (only : KindTest) (test : Text → Bool) (u : Use) → PassesFlag only test → Ensures only test
     → list_all (named_only name only) ps ≡ true → IsUseOf ps u → use_name u ≡ name → UsePasses test u
-use_passes-named ps name only test (alone n) no_flag ensured named fits same =
+use_passes-named ps name only test (alone n) flagged ensured named fits same =
     let at : named_only name only (parameter n flag) ≡ true =
     All-contains (λ p. named_only name only p ≡ true) ps (parameter n flag) (AllPass-from_list_all (named_only name only) ps named) fits in
-    let never : only flag ≡ true = where_named (bytes_eq n name) (only flag) at ((bytes_eq-Decides n name).1 same) in cc
-use_passes-named ps name only test (valued n value) no_flag ensured named fits same =
+    flagged (where_named (bytes_eq n name) (only flag) at ((bytes_eq-Decides n name).1 same))
+use_passes-named ps name only test (valued n value) flagged ensured named fits same =
     let p = fits.0.1 in
     let at : named_only name only p ≡ true =
     All-contains (λ q. named_only name only q ≡ true) ps p (AllPass-from_list_all (named_only name only) ps named) (fits.0.0, fits.0.2, fits.0.3) in
@@ -81,19 +96,32 @@ contained_later : (first name : Text) (names : List Text) (k : ℕ) → k < leng
 contained_later first name names zero lt at other = let never : true ≡ false = sym ((bytes_eq-Decides first name).1 at) ∙ other in cc
 contained_later first name names (suc k) lt at other = (k, omega (arith, lt), at)
 
+contains_more : (first name : Text) (names : List Text) → Contains names name → Contains (first ∷ names) name
+contains_more first name names at = (suc at.0, omega (arith, at.1), at.2)
+
 -- what a name says passes the test
-pub value_passes : (ps : List ParameterView) (name : Text) (only : KindTest) (test : Text → Bool) (uses : List Use) → only flag ≡ false → Ensures only test
+said_passes : (ps : List ParameterView) (name : Text) (only : KindTest) (test : Text → Bool) (uses : List Use) → PassesFlag only test → Ensures only test
     → list_all (named_only name only) ps ≡ true → All (IsUseOf ps) uses → (v : Text) → value_of name uses ≡ Some v → test v ≡ true
-value_passes ps name only test [] no_flag ensured named known v said = cc
-value_passes ps name only test (u ∷ us) no_flag ensured named known v said =
+said_passes ps name only test [] flagged ensured named known v said = cc
+said_passes ps name only test (u ∷ us) flagged ensured named known v said =
     by_test (bytes_eq (use_name u) name) refl
-    (value_passes ps name only test us no_flag ensured named (All-tail (IsUseOf ps) u us known) v) said where
+    (said_passes ps name only test us flagged ensured named (All-tail (IsUseOf ps) u us known) v) said where
       by_test : (b : Bool) → bytes_eq (use_name u) name ≡ b → (value_of name us ≡ Some v → test v ≡ true)
           → option_map use_value (cond b (Some u) (find (λ x. bytes_eq (use_name x) name) us)) ≡ Some v → test v ≡ true
       by_test true same later is =
           let value : use_value u ≡ v = cc in
-          ap test (sym value) ∙ use_passes-named ps name only test u no_flag ensured named (All-head (IsUseOf ps) u us known) ((bytes_eq-Decides (use_name u) name).0 same)
+          ap test (sym value) ∙ use_passes-named ps name only test u flagged ensured named (All-head (IsUseOf ps) u us known) ((bytes_eq-Decides (use_name u) name).0 same)
       by_test false other later is = later is
+
+-- an option's value passes the test
+pub value_passes : (ps : List ParameterView) (name : Text) (only : KindTest) (test : Text → Bool) (uses : List Use) → only flag ≡ false → Ensures only test
+    → list_all (named_only name only) ps ≡ true → All (IsUseOf ps) uses → (v : Text) → value_of name uses ≡ Some v → test v ≡ true
+value_passes ps name only test uses no_flag = said_passes ps name only test uses (λ is. cc)
+
+-- a flag says `true`
+pub flag_says : (ps : List ParameterView) (name : Text) (uses : List Use) → list_all (named_only name is_flag) ps ≡ true → All (IsUseOf ps) uses
+    → (v : Text) → value_of name uses ≡ Some v → is_on (Some v) ≡ true
+flag_says ps name uses = said_passes ps name is_flag (λ v. is_on (Some v)) uses (λ is. refl) (flags_ensure (λ v. is_on (Some v)))
 
 -- a name that is used says something
 pub value_said : (name : Text) (uses : List Use) → Contains (map use_name uses) name → (v : Text) × (value_of name uses ≡ Some v)
@@ -106,6 +134,15 @@ value_said name (u ∷ us) at =
           → (v : Text) × (value_of name (u ∷ us) ≡ Some v)
       by_test true same later = (use_value u, rw same refl)
       by_test false other later = let rest = later other in (rest.0, rw other rest.1)
+
+-- a name that is not used says nothing
+pub nothing_said : (name : Text) (uses : List Use) → ¬ Contains (map use_name uses) name → value_of name uses ≡ None
+nothing_said name [] unused = refl
+nothing_said name (u ∷ us) unused =
+    by_test (bytes_eq (use_name u) name) refl (nothing_said name us (λ at. unused (contains_more (use_name u) name (map use_name us) at))) where
+      by_test : (b : Bool) → bytes_eq (use_name u) name ≡ b → value_of name us ≡ None → value_of name (u ∷ us) ≡ None
+      by_test true same later = absurd (unused (0, omega arith, (bytes_eq-Decides (use_name u) name).0 same))
+      by_test false other later = rw other later
 
 -- ---- the options of a form
 

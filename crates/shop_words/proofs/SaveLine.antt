@@ -1,12 +1,13 @@
 -- The plain lists of `save`.
 use Rattle.std.proofs.Common.{◌≡◌, ℕ, refl, true, List, [], ◌∷◌, Option, Some, None, codes, is_some, option_map, arith}
 use Rattle.clap.proofs.OnLiterals.{clap_on_literals}
-use Rattle.shop_words.specs.Table.{Text, save_form, file_system, order, from, out, type_of_file, aux, date, data_disk, reserve}
+use Rattle.shop_words.specs.Table.{Text, save_form, file_system, order, from, out_file, in_place, type_of_file, aux, date, data_disk, reserve}
 use Rattle.shop_words.specs.Plain.{Use, IsPlainLine, is_number}
-use Rattle.shop_words.specs.Job.{SaveView, JobView, save, saving_of, aux_named, line_job, line_said, value_of, volume_by}
+use Rattle.shop_words.specs.Job.{SaveView, JobView, TargetView, save, saving_of, aux_named, line_job, line_said, target_by, value_of, volume_by}
 use Rattle.shop_words.specs.declared.job.VolumeOptions.{VolumeOptions}
 use Rattle.shop_words.proofs.PlainForms.{IsKnown, Knows, shape_named}
 use Rattle.shop_words.proofs.PlainJobs.{HasPlainDefaults, HasVolume, volume_by-line}
+use Rattle.shop_words.proofs.PlainTarget.{HasTarget, target_by-line}
 use Rattle.shop_words.proofs.PlainUsed.{needed_said, number_ensures, takes_number, value_passes}
 
 pub save_known : IsKnown save_form (shape_named (codes "save"))
@@ -16,7 +17,8 @@ save_known =
     let knows_file_system : Knows s file_system = record { by_long = refl; by_id = refl; same = refl; long = refl; dashes = refl } in
     let knows_order : Knows s order = record { by_long = refl; by_id = refl; same = refl; long = refl; dashes = refl } in
     let knows_from : Knows s from = record { by_long = refl; by_id = refl; same = refl; long = refl; dashes = refl } in
-    let knows_out : Knows s out = record { by_long = refl; by_id = refl; same = refl; long = refl; dashes = refl } in
+    let knows_out : Knows s out_file = record { by_long = refl; by_id = refl; same = refl; long = refl; dashes = refl } in
+    let knows_in_place : Knows s in_place = record { by_long = refl; long = refl; dashes = refl } in
     let knows_type : Knows s type_of_file = record { by_long = refl; by_id = refl; same = refl; long = refl; dashes = refl } in
     let knows_aux : Knows s aux = record { by_long = refl; by_id = refl; same = refl; long = refl; dashes = refl } in
     let knows_date : Knows s date = record { by_long = refl; by_id = refl; same = refl; long = refl; dashes = refl } in
@@ -26,7 +28,7 @@ save_known =
       named = refl;
       met = refl;
       first = refl;
-      parameters = (tt, (tt, (knows_file_system, (knows_order, (knows_from, (knows_out, (knows_type, (knows_aux, (knows_date, (knows_data_disk, (knows_reserve, tt)))))))))));
+      parameters = (tt, (tt, (knows_file_system, (knows_order, (knows_from, (knows_out, (knows_in_place, (knows_type, (knows_aux, (knows_date, (knows_data_disk, (knows_reserve, tt))))))))))));
       positionals = (refl, refl, refl, (refl, refl, refl, tt));
       positional_parameters = refl;
       apart = refl;
@@ -45,11 +47,15 @@ save_volume = record {
   order_values = refl;
 }
 
-saving_there : (image name content file : Text) (volume : Option VolumeOptions) (kind : Option Text) (number : Option ℕ) (moment : Option Text) (made : SaveView → JobView)
-    → is_some volume ≡ true → is_some number ≡ true → is_some (option_map made (saving_of (Some image) (Some name) volume kind number moment (Some content) (Some file))) ≡ true
-saving_there image name content file None kind number moment made a b = cc
-saving_there image name content file (Some v) kind None moment made a b = cc
-saving_there image name content file (Some v) kind (Some n) moment made a b = refl
+save_target : HasTarget save_form
+save_target = record { at = (6, omega arith, refl); flags = refl }
+
+saving_there : (image name content : Text) (target : Option TargetView) (volume : Option VolumeOptions) (kind : Option Text) (number : Option ℕ) (moment : Option Text) (made : SaveView → JobView)
+    → is_some target ≡ true → is_some volume ≡ true → is_some number ≡ true → is_some (option_map made (saving_of (Some image) (Some name) volume kind number moment (Some content) target)) ≡ true
+saving_there image name content None volume kind number moment made a b c = cc
+saving_there image name content (Some t) None kind number moment made a b c = cc
+saving_there image name content (Some t) (Some v) kind None moment made a b c = cc
+saving_there image name content (Some t) (Some v) kind (Some n) moment made a b c = refl
 
 aux_there : (said : Option Text) → ((v : Text) → said ≡ Some v → is_number 65535 v ≡ true) → is_some (aux_named said) ≡ true
 aux_there None is = refl
@@ -61,10 +67,10 @@ is_some-line_job-save (image ∷ []) uses plain = let same = plain.as_many in ab
 is_some-line_job-save (image ∷ name ∷ []) uses plain =
     let said = line_said save_form (image ∷ name ∷ []) uses in
     let content = needed_said save_form (image ∷ name ∷ []) uses from (record { at = (4, omega arith, refl); is = refl }) plain in
-    let file = needed_said save_form (image ∷ name ∷ []) uses out (record { at = (5, omega arith, refl); is = refl }) plain in
     let number : (v : Text) → value_of (codes "aux") uses ≡ Some v → is_number 65535 v ≡ true =
     value_passes save_form.parameters (codes "aux") (takes_number 65535) (is_number 65535) uses refl (number_ensures 65535) refl plain.known in
-    rw (content.1, file.1) (saving_there image name content.0 file.0 (volume_by said) (said (codes "type")) (aux_named (value_of (codes "aux") uses)) (said (codes "date"))
+    rw content.1 (saving_there image name content.0 (target_by said) (volume_by said) (said (codes "type")) (aux_named (value_of (codes "aux") uses)) (said (codes "date"))
     (λ s. save s (said (codes "reserve")))
+    (target_by-line save_form (image ∷ name ∷ []) uses said save_target plain refl refl)
     (volume_by-line save_form (image ∷ name ∷ []) uses said save_volume plain refl refl) (aux_there (value_of (codes "aux") uses) number))
 is_some-line_job-save (a ∷ b ∷ c ∷ rest) uses plain = let same = plain.as_many in absurd (omega (arith, same))

@@ -15,6 +15,10 @@ use Rattle.shop_words.specs.declared.job.ImageOrder.TheVariants as orders
 use Rattle.shop_words.specs.declared.job.VolumeOptions.{VolumeOptions}
 use Rattle.shop_words.specs.declared.job.Edit.{Edit}
 use Rattle.shop_words.specs.declared.job.Edit.TheVariants as edits
+use Rattle.shop_words.specs.declared.job.Target.{Target}
+use Rattle.shop_words.specs.declared.job.Target.TheVariants as targets
+use Rattle.shop_words.specs.declared.target.TargetWords.{TargetWords}
+use Rattle.shop_words.specs.declared.target.TargetWords.TheVariants as said_targets
 use Rattle.shop_words.specs.declared.optimizing.Optimization.{Optimization}
 use Rattle.shop_words.specs.declared.saving.Saving.{Saving}
 use Rattle.shop_words.specs.declared.reading.Conversion.{Conversion}
@@ -32,15 +36,28 @@ pub record ConversionView : Type 0 where
 abbrev pub conversion_view : Conversion → ConversionView
 conversion_view c = record { image = c.image.now; order = c.order; to = c.to; out = c.out.now; volume = c.volume }
 
+-- where an image goes, as contracts see it
+pub data TargetView : Type 0 where
+  ToFile : Text → TargetView
+  InPlace : TargetView
+
+abbrev pub target_view : Target → TargetView
+target_view (targets.File path) = ToFile (string_bytes path)
+target_view targets.InPlace = InPlace
+
+abbrev pub target_said : TargetWords → TargetView
+target_said (said_targets.File path) = ToFile path.now
+target_said said_targets.InPlace = InPlace
+
 -- an optimization as contracts see it, but for its reserved places, whether it reclaims, and the file of its certificate
 pub record OptimizationView : Type 0 where
   pub image : Text
   pub volume : VolumeOptions
-  pub out : Text
+  pub target : TargetView
   pub stop_after : Option ℕ
 
 abbrev pub optimization_view : Optimization → OptimizationView
-optimization_view o = record { image = o.image.now; volume = o.volume; out = o.out.now; stop_after = o.stop_after }
+optimization_view o = record { image = o.image.now; volume = o.volume; target = target_said o.target; stop_after = o.stop_after }
 
 -- what is changed of a file, as contracts see it
 pub data EditView : Type 0 where
@@ -64,7 +81,7 @@ pub record SaveView : Type 0 where
   pub aux : ℕ
   pub date : Option Text
   pub from : Text
-  pub out : Text
+  pub target : TargetView
 
 abbrev pub saving_view : Saving → SaveView
 saving_view s = record {
@@ -75,7 +92,7 @@ saving_view s = record {
   aux = s.aux;
   date = option_map (λ w. w.now) s.date;
   from = s.from.now;
-  out = s.out.now;
+  target = target_said s.target;
 }
 
 -- a job as contracts see it
@@ -86,7 +103,7 @@ pub data JobView : Type 0 where
   convert : ConversionView → JobView
   plan : Text → VolumeOptions → Option Text → Bool → Bool → JobView
   optimize : OptimizationView → Option Text → Bool → Option Text → JobView
-  edit : Text → Text → VolumeOptions → EditView → Text → Option Text → JobView
+  edit : Text → Text → VolumeOptions → EditView → TargetView → Option Text → JobView
   save : SaveView → Option Text → JobView
   verify : Text → VolumeOptions → Text → Option Text → Bool → JobView
   identify : Text → JobView
@@ -103,11 +120,11 @@ job_view (jobs.Convert image order to out volume) = convert (record {
   volume = volume;
 })
 job_view (jobs.Plan image volume reserve reclaim in_words) = plan (string_bytes image) volume (option_map string_bytes reserve) reclaim in_words
-job_view (jobs.Optimize image volume out reserve reclaim stop_after cert) =
-    optimize (record { image = string_bytes image; volume = volume; out = string_bytes out; stop_after = stop_after })
+job_view (jobs.Optimize image volume target reserve reclaim stop_after cert) =
+    optimize (record { image = string_bytes image; volume = volume; target = target_view target; stop_after = stop_after })
     (option_map string_bytes reserve) reclaim (option_map string_bytes cert)
-job_view (jobs.Edit image name volume change out reserve) = edit (string_bytes image) (string_bytes name) volume (edit_view change) (string_bytes out) (option_map string_bytes reserve)
-job_view (jobs.Save image name volume attributes from out reserve) = save (record {
+job_view (jobs.Edit image name volume change target reserve) = edit (string_bytes image) (string_bytes name) volume (edit_view change) (target_view target) (option_map string_bytes reserve)
+job_view (jobs.Save image name volume attributes from target reserve) = save (record {
   image = string_bytes image;
   name = string_bytes name;
   volume = volume;
@@ -115,7 +132,7 @@ job_view (jobs.Save image name volume attributes from out reserve) = save (recor
   aux = attributes.aux;
   date = option_map string_bytes attributes.date;
   from = string_bytes from;
-  out = string_bytes out;
+  target = target_view target;
 }) (option_map string_bytes reserve)
 job_view (jobs.Verify image volume from reserve reclaim) = verify (string_bytes image) volume (string_bytes from) (option_map string_bytes reserve) reclaim
 job_view (jobs.Identify image) = identify (string_bytes image)
@@ -189,24 +206,34 @@ abbrev pub limit_named : Option Text → Option (Option ℕ)
 limit_named None = Some None
 limit_named (Some word) = option_map Some (number_named most_writes word)
 
+-- where an image goes: to the file that is said, or in place where a flag says so; of the two exactly one is said
+abbrev pub target_named : Option Text → Bool → Option TargetView
+target_named (Some file) false = Some (ToFile file)
+target_named None true = Some InPlace
+target_named (Some file) true = None
+target_named None false = None
+
+abbrev pub target_by : Said → Option TargetView
+target_by said = target_named (said (codes "out")) (is_on (said (codes "in-place")))
+
 -- an optimization, where each part of it is there
-abbrev pub optimization_of : Option Text → Option VolumeOptions → Option Text → Option (Option ℕ) → Option OptimizationView
-optimization_of (Some image) (Some volume) (Some out) (Some stop_after) = Some (record { image = image; volume = volume; out = out; stop_after = stop_after })
+abbrev pub optimization_of : Option Text → Option VolumeOptions → Option TargetView → Option (Option ℕ) → Option OptimizationView
+optimization_of (Some image) (Some volume) (Some target) (Some stop_after) = Some (record { image = image; volume = volume; target = target; stop_after = stop_after })
 optimization_of _ _ _ _ = None
 
 abbrev pub optimization_by : Said → Option OptimizationView
-optimization_by said = optimization_of (said (codes "image")) (volume_by said) (said (codes "out")) (limit_named (said (codes "stop-after")))
+optimization_by said = optimization_of (said (codes "image")) (volume_by said) (target_by said) (limit_named (said (codes "stop-after")))
 
 abbrev pub optimize_by : Said → Option JobView
 optimize_by said = option_map (λ optimization. optimize optimization (said (codes "reserve")) (is_on (said (codes "reclaim"))) (said (codes "cert"))) (optimization_by said)
 
 -- a change of a file, where each part of it is there; places to reserve are said or not
-abbrev pub change_of : EditView → Option Text → Option Text → Option VolumeOptions → Option Text → Option Text → Option JobView
-change_of change (Some image) (Some name) (Some volume) (Some out) reserve = Some (edit image name volume change out reserve)
+abbrev pub change_of : EditView → Option Text → Option Text → Option VolumeOptions → Option TargetView → Option Text → Option JobView
+change_of change (Some image) (Some name) (Some volume) (Some target) reserve = Some (edit image name volume change target reserve)
 change_of change _ _ _ _ reserve = None
 
 abbrev pub edit_by : EditView → Said → Option JobView
-edit_by change said = change_of change (said (codes "image")) (said (codes "name")) (volume_by said) (said (codes "out")) (said (codes "reserve"))
+edit_by change said = change_of change (said (codes "image")) (said (codes "name")) (volume_by said) (target_by said) (said (codes "reserve"))
 
 -- a file gets the new name that is said
 abbrev pub rename_by : Said → Option JobView
@@ -218,14 +245,14 @@ aux_named None = Some 0
 aux_named (Some word) = number_named 65535 word
 
 -- a new file, where each part of it that is needed is there; its type and its date are said or not
-abbrev pub saving_of : Option Text → Option Text → Option VolumeOptions → Option Text → Option ℕ → Option Text → Option Text → Option Text → Option SaveView
-saving_of (Some image) (Some name) (Some volume) kind (Some aux) date (Some from) (Some out) =
-    Some (record { image = image; name = name; volume = volume; kind = kind; aux = aux; date = date; from = from; out = out })
+abbrev pub saving_of : Option Text → Option Text → Option VolumeOptions → Option Text → Option ℕ → Option Text → Option Text → Option TargetView → Option SaveView
+saving_of (Some image) (Some name) (Some volume) kind (Some aux) date (Some from) (Some target) =
+    Some (record { image = image; name = name; volume = volume; kind = kind; aux = aux; date = date; from = from; target = target })
 saving_of _ _ _ kind _ date _ _ = None
 
 abbrev pub saving_by : Said → Option SaveView
 saving_by said = saving_of (said (codes "image")) (said (codes "name")) (volume_by said) (said (codes "type")) (aux_named (said (codes "aux"))) (said (codes "date"))
-    (said (codes "from")) (said (codes "out"))
+    (said (codes "from")) (target_by said)
 
 abbrev pub save_by : Said → Option JobView
 save_by said = option_map (λ saving. save saving (said (codes "reserve"))) (saving_by said)

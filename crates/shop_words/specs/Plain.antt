@@ -5,7 +5,7 @@ use Rattle.std.specs.List.{AllPass, IsDistinct, list_all}
 use Rattle.std.specs.Char.{is_ascii_digit}
 use Rattle.std.specs.Str.{bytes_eq}
 use Rattle.std.specs.Str.Parse.{digits_value}
-use Rattle.shop_words.specs.Table.{Text, ValuesView, any, one_of, number, KindView, positional, needed, optional, flag, ParameterView, FormView, forms, parameter}
+use Rattle.shop_words.specs.Table.{Text, ValuesView, any, one_of, number, KindView, positional, needed, optional, flag, ParameterView, FormView, forms, in_place, out_file, parameter}
 
 -- `-`
 abbrev pub hyphen : ℕ
@@ -70,7 +70,13 @@ IsUseOf parameters (alone name) = Contains parameters (parameter name flag)
 IsUseOf parameters (valued name value) =
     Any (λ p. (p.name ≡ name) × TakesValue p.kind value) parameters × (is_plain_word value ≡ true)
 
--- the positional words and uses are those of a plain list of the form
+-- one of the two names is used, and the other is not
+abbrev pub UsesOneOf : Text → Text → List Use → Type 0
+UsesOneOf one other uses =
+    (Contains (map use_name uses) one × ¬ Contains (map use_name uses) other)
+    ⊎ (Contains (map use_name uses) other × ¬ Contains (map use_name uses) one)
+
+-- the positional words and uses are those of a plain list of the form; where the image may be changed in place, exactly one of `--out` and `--in-place` is used
 pub record IsPlainLine (f : FormView) (positionals : List Text) (uses : List Use) : Type 0 where
   pub as_many : length positionals ≡ length (positional_names f)
   pub plain : AllPass is_plain_word positionals
@@ -78,6 +84,7 @@ pub record IsPlainLine (f : FormView) (positionals : List Text) (uses : List Use
   pub once : IsDistinct bytes_eq (map use_name uses)
   pub complete :
       All (λ p. is_needed p.kind ≡ true → Contains (map use_name uses) p.name) f.parameters
+  pub targeted : Contains f.parameters in_place → UsesOneOf out_file.name in_place.name uses
 
 -- the list that is printed from them
 abbrev pub line_words : FormView → List Text → List Use → List Text

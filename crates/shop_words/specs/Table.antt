@@ -111,6 +111,13 @@ to = parameter (codes "to") (needed (one_of order_words))
 abbrev pub out : ParameterView
 out = parameter (codes "out") (needed any)
 
+-- `--out FILE` or `--in-place`, of a command that may change its image in place
+abbrev pub out_file : ParameterView
+out_file = parameter (codes "out") (optional any)
+
+abbrev pub in_place : ParameterView
+in_place = parameter (codes "in-place") flag
+
 abbrev pub volume : ParameterView
 volume = parameter (codes "volume") (optional (number 255))
 
@@ -145,14 +152,14 @@ plan_form = record {
 abbrev pub optimize_form : FormView
 optimize_form = record {
   name = codes "optimize";
-  parameters = image ∷ file_system ∷ order ∷ out ∷ data_disk ∷ reserve ∷ reclaim ∷ stop_after ∷ cert ∷ [];
+  parameters = image ∷ file_system ∷ order ∷ out_file ∷ in_place ∷ data_disk ∷ reserve ∷ reclaim ∷ stop_after ∷ cert ∷ [];
 }
 
 -- a command that changes a file
 abbrev pub edit_form : Text → FormView
 edit_form command = record {
   name = command;
-  parameters = image ∷ name_of_file ∷ file_system ∷ order ∷ out ∷ data_disk ∷ reserve ∷ [];
+  parameters = image ∷ name_of_file ∷ file_system ∷ order ∷ out_file ∷ in_place ∷ data_disk ∷ reserve ∷ [];
 }
 
 abbrev pub lock_form : FormView
@@ -167,7 +174,7 @@ delete_form = edit_form (codes "delete")
 abbrev pub rename_form : FormView
 rename_form = record {
   name = codes "rename";
-  parameters = image ∷ name_of_file ∷ new_name ∷ file_system ∷ order ∷ out ∷ data_disk ∷ reserve ∷ [];
+  parameters = image ∷ name_of_file ∷ new_name ∷ file_system ∷ order ∷ out_file ∷ in_place ∷ data_disk ∷ reserve ∷ [];
 }
 
 -- `--type T`, `--aux N` and `--date D`
@@ -183,7 +190,7 @@ date = parameter (codes "date") (optional any)
 abbrev pub save_form : FormView
 save_form = record {
   name = codes "save";
-  parameters = image ∷ name_of_file ∷ file_system ∷ order ∷ from ∷ out ∷ type_of_file ∷ aux ∷ date ∷ data_disk ∷ reserve ∷ [];
+  parameters = image ∷ name_of_file ∷ file_system ∷ order ∷ from ∷ out_file ∷ in_place ∷ type_of_file ∷ aux ∷ date ∷ data_disk ∷ reserve ∷ [];
 }
 
 abbrev pub verify_form : FormView

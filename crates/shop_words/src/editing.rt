@@ -6,6 +6,7 @@ ghost use Rattle.shop_words.specs.Job.{edit_by, edit_view, job_view, rename_by};
 
 use crate::job::{Edit, Job};
 use crate::reading::{said, text_said, volume_in};
+use crate::target::{target_in, target_of};
 use clap::ArgMatches;
 use std::alloc::{AllocError, Global};
 
@@ -21,7 +22,7 @@ pub fn edit_in(
     let (Some(image), Some(name)) = (said(matches, "image"), said(matches, "name")) else {
         return Ok(None);
     };
-    let (Some(volume), Some(out)) = (volume_in(matches), said(matches, "out")) else {
+    let (Some(volume), Some(target)) = (volume_in(matches), target_in(matches)) else {
         return Ok(None);
     };
     Ok(Some(Job::Edit {
@@ -29,7 +30,7 @@ pub fn edit_in(
         name: name.to_string(alloc)?,
         volume,
         edit,
-        out: out.to_string(alloc)?,
+        target: target_of(alloc, target)?,
         reserve: text_said(alloc, matches, "reserve")?,
     }))
 }

@@ -53,6 +53,15 @@ pub struct SaveAttributes {
     pub date: Option<String>,
 }
 
+/// Where the image goes that a job makes.
+#[derive(Debug, PartialEq, Eq, Drop)]
+pub enum Target {
+    /// To the file of this path, as a whole.
+    File(String),
+    /// Into the image's own file, which is changed where it stands.
+    InPlace,
+}
+
 /// A command with its words.
 #[derive(Debug, PartialEq, Eq, Drop)]
 pub enum Job {
@@ -109,8 +118,7 @@ pub enum Job {
         /// The path of the image's file; `-` is standard input.
         image: String,
         volume: VolumeOptions,
-        /// The path of the file that is written.
-        out: String,
+        target: Target,
         /// The places that are kept for the system beside its own, as the words name them.
         reserve: Option<String>,
         /// Whether lost places are marked free.
@@ -128,8 +136,7 @@ pub enum Job {
         name: String,
         volume: VolumeOptions,
         edit: Edit,
-        /// The path of the file that is written.
-        out: String,
+        target: Target,
         /// The places that are kept for the system beside its own, as the words name them.
         reserve: Option<String>,
     },
@@ -143,8 +150,7 @@ pub enum Job {
         attributes: SaveAttributes,
         /// The path of the file whose bytes are saved.
         from: String,
-        /// The path of the file that is written.
-        out: String,
+        target: Target,
         /// The places that are kept for the system beside its own, as the words name them.
         reserve: Option<String>,
     },

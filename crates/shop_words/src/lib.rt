@@ -5,7 +5,8 @@
 //! stand in one table, from which `clap`'s commands are built, so a new command is a new row, a new
 //! variant of `Job` and its arm in `command_job`. A *plain list* is no word at all, or printed from a
 //! form: the command's name, its positional words, then its flags and options in any order, each
-//! option as `--name` and its value apart. With no word the job is that of
+//! option as `--name` and its value apart; a command that may change its image in place says
+//! exactly one of `--out` and `--in-place`. With no word the job is that of
 //! `catalog --fs dos --order dos -`.
 //!
 //! The words are read as they are. Only where they are refused, the text is made from the escaped
@@ -27,9 +28,10 @@ mod reading;
 mod refusal;
 mod saving;
 mod table;
+mod target;
 mod words;
 
 pub use escaping::escaped;
 pub use fault::WordsFault;
-pub use job::{Edit, FileSystem, ImageOrder, Job, SaveAttributes, VolumeOptions};
+pub use job::{Edit, FileSystem, ImageOrder, Job, SaveAttributes, Target, VolumeOptions};
 pub use words::parse_words;

@@ -74,12 +74,16 @@ Status:
   4  FAILED Input, Device or Memory: the file, a sector of the image or memory failed";
 
 const OPTIMIZE: &str = "\
-Example:
+Examples:
   a2shop optimize disk.dsk --fs dos --order dos --out ordered.dsk
+  a2shop optimize disk.dsk --fs dos --order dos --in-place
+
+With --in-place the image's own file is changed, unit by unit, and no new image is written.
 
 Status:
   0  the image is written, with the moves made up to --stop-after
-  3  REFUSED Reserve      the word of --reserve is no list of places
+  3  REFUSED InPlace      it is neither DOS 3.3 in DOS order nor ProDOS in ProDOS order, in a file
+     REFUSED Reserve      the word of --reserve is no list of places
      REFUSED Length       the image has another length than one in its order
      REFUSED Check        the volume has a fault; check tells which
      REFUSED Lost N       N places are marked used and belong to no file; see --reclaim
@@ -87,36 +91,48 @@ Status:
   4  FAILED Input, Device or Memory: a file, a sector of the image or memory failed";
 
 const LOCK: &str = "\
-Example:
+Examples:
   a2shop lock disk.dsk HELLO --fs dos --order dos --out locked.dsk
+  a2shop lock disk.dsk HELLO --fs dos --order dos --in-place
+
+With --in-place the image's own file is changed, unit by unit, and no new image is written.
 
 Status:
   0  the image is written, with the file locked
-  3  REFUSED Reserve   the word of --reserve is no list of places
+  3  REFUSED InPlace   it is neither DOS 3.3 in DOS order nor ProDOS in ProDOS order, in a file
+     REFUSED Reserve   the word of --reserve is no list of places
      REFUSED Length    the image has another length than one in its order
      REFUSED Check     the volume has a fault; check tells which
      REFUSED NotFound  no file has the name
   4  FAILED Input, Device or Memory: a file, a sector of the image or memory failed";
 
 const UNLOCK: &str = "\
-Example:
+Examples:
   a2shop unlock disk.dsk HELLO --fs dos --order dos --out unlocked.dsk
+  a2shop unlock disk.dsk HELLO --fs dos --order dos --in-place
+
+With --in-place the image's own file is changed, unit by unit, and no new image is written.
 
 Status:
   0  the image is written, with the file unlocked
-  3  REFUSED Reserve   the word of --reserve is no list of places
+  3  REFUSED InPlace   it is neither DOS 3.3 in DOS order nor ProDOS in ProDOS order, in a file
+     REFUSED Reserve   the word of --reserve is no list of places
      REFUSED Length    the image has another length than one in its order
      REFUSED Check     the volume has a fault; check tells which
      REFUSED NotFound  no file has the name
   4  FAILED Input, Device or Memory: a file, a sector of the image or memory failed";
 
 const DELETE: &str = "\
-Example:
+Examples:
   a2shop delete disk.dsk HELLO --fs dos --order dos --out without.dsk
+  a2shop delete disk.dsk HELLO --fs dos --order dos --in-place
+
+With --in-place the image's own file is changed, unit by unit, and no new image is written.
 
 Status:
   0  the image is written, without the file
-  3  REFUSED Reserve   the word of --reserve is no list of places
+  3  REFUSED InPlace   it is neither DOS 3.3 in DOS order nor ProDOS in ProDOS order, in a file
+     REFUSED Reserve   the word of --reserve is no list of places
      REFUSED Length    the image has another length than one in its order
      REFUSED Check     the volume has a fault; check tells which
      REFUSED NotFound  no file has the name
@@ -124,14 +140,17 @@ Status:
   4  FAILED Input, Device or Memory: a file, a sector of the image or memory failed";
 
 const RENAME: &str = "\
-Example:
+Examples:
   a2shop rename disk.dsk HELLO GREETING --fs dos --order dos --out renamed.dsk
+  a2shop rename disk.dsk HELLO GREETING --fs dos --order dos --in-place
 
 A file stays in its directory: the new name of a ProDOS file is the last of its path.
+With --in-place the image's own file is changed, unit by unit, and no new image is written.
 
 Status:
   0  the image is written, with the file under its new name
-  3  REFUSED Reserve   the word of --reserve is no list of places
+  3  REFUSED InPlace   it is neither DOS 3.3 in DOS order nor ProDOS in ProDOS order, in a file
+     REFUSED Reserve   the word of --reserve is no list of places
      REFUSED Length    the image has another length than one in its order
      REFUSED Check     the volume has a fault; check tells which
      REFUSED NotFound  no file has the name
@@ -143,13 +162,16 @@ Status:
 const SAVE: &str = "\
 Examples:
   a2shop save disk.dsk PICTURE --fs dos --order dos --from picture.bin --out saved.dsk --type B --aux 768
+  a2shop save disk.dsk NOTE --fs dos --order dos --from note.txt --in-place
   a2shop save disk.po NOTE --fs prodos --order prodos --from note.txt --out saved.po --type 04 --date 1986-05-01T12:30:00
 
 DOS 3.3 files of the types A, I and B get their head before the bytes: the address for B, and the length.
+With --in-place the image's own file is changed, unit by unit, and no new image is written.
 
 Status:
   0  the image is written, with the new file
-  3  REFUSED Type          the word of --type is no type in the file system
+  3  REFUSED InPlace       it is neither DOS 3.3 in DOS order nor ProDOS in ProDOS order, in a file
+     REFUSED Type          the word of --type is no type in the file system
      REFUSED Date          the word of --date is no date and time of 1940 to 2039
      REFUSED Reserve       the word of --reserve is no list of places
      REFUSED Length        the image has another length than one in its order

@@ -6,6 +6,7 @@ ghost use Rattle.shop_words.specs.Job.{job_by, job_view, limit_named, optimizati
 
 use crate::job::{Job, VolumeOptions};
 use crate::reading::{has_flag, number_named, said, text_said, volume_in};
+use crate::target::{TargetWords, target_in, target_of};
 use clap::ArgMatches;
 use std::alloc::{AllocError, Global};
 
@@ -14,7 +15,7 @@ use std::alloc::{AllocError, Global};
 struct Optimization<'a> {
     image: &'a str,
     volume: VolumeOptions,
-    out: &'a str,
+    target: TargetWords<'a>,
     stop_after: Option<u64>,
 }
 
@@ -34,7 +35,7 @@ fn optimization_in<'a>(matches: &ArgMatches<'a>) -> Option<Optimization<'a>>
     Some(Optimization {
         image: said(matches, "image")?,
         volume: volume_in(matches)?,
-        out: said(matches, "out")?,
+        target: target_in(matches)?,
         stop_after: limit_named(said(matches, "stop-after"))?,
     })
 }
@@ -49,7 +50,7 @@ pub fn optimize_in(alloc: Global, matches: &ArgMatches<'_>) -> Result<Option<Job
     Ok(Some(Job::Optimize {
         image: words.image.to_string(alloc)?,
         volume: words.volume,
-        out: words.out.to_string(alloc)?,
+        target: target_of(alloc, words.target)?,
         reserve: text_said(alloc, matches, "reserve")?,
         reclaim: has_flag(matches, "reclaim"),
         stop_after: words.stop_after,

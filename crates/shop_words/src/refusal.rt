@@ -6,7 +6,7 @@ ghost use Rattle.shop_words.specs.Fault.{IsFaultBy};
 use crate::escaping::{all_escaped, escaped};
 use crate::fault::WordsFault;
 use crate::grammar::{full_command, program};
-use crate::reading::{number_named, said};
+use crate::reading::{has_flag, number_named, said};
 use crate::table::{Form, Kind, Parameter, Values, table};
 use clap::error::ErrorKind;
 use clap::{ArgMatches, Error};
@@ -80,13 +80,19 @@ pub fn refusal(alloc: Global, words: &[String], error: &Error) -> WordsFault
     }
 }
 
-/// An option whose value it does not take.
+/// What is wrong with words of a command that clap takes.
 #[derive(Clone, Copy)]
-struct Misfit<'a> {
-    form: &'static Form,
-    name: &'static str,
-    values: Values,
-    value: &'a str,
+enum Misfit<'a> {
+    /// An option does not take its value.
+    Value {
+        name: &'static str,
+        values: Values,
+        value: &'a str,
+    },
+    /// The image is to go to a file and to be changed in place.
+    TwoTargets,
+    /// The words do not say where the image goes.
+    NoTarget,
 }
 
 /// Whether the word is one of the values.
@@ -99,11 +105,7 @@ fn takes(values: Values, word: &str) -> bool {
 }
 
 /// The parameter, where it does not take its value.
-fn misfit_of<'a>(
-    form: &'static Form,
-    parameter: &Parameter,
-    matches: &ArgMatches<'a>,
-) -> Option<Misfit<'a>> {
+fn value_misfit<'a>(parameter: &Parameter, matches: &ArgMatches<'a>) -> Option<Misfit<'a>> {
     let (Kind::Needed(values) | Kind::Optional(values)) = parameter.kind else {
         return None;
     };
@@ -111,21 +113,42 @@ fn misfit_of<'a>(
     if takes(values, value) {
         return None;
     }
-    Some(Misfit {
-        form,
+    Some(Misfit::Value {
         name: parameter.name,
         values,
         value,
     })
 }
 
-/// The first option of the command that does not take its value.
-fn misfit_in<'a>(matches: &ArgMatches<'a>) -> Option<Misfit<'a>> {
-    let (command, inner) = matches.subcommand()?;
-    let form = form_named(command)?;
-    form.parameters
+/// What is wrong with where the image goes, of a command that may change it in place.
+fn target_misfit<'a>(form: &Form, matches: &ArgMatches<'a>) -> Option<Misfit<'a>> {
+    if !form
+        .parameters
         .iter()
-        .find_map(|parameter| misfit_of(form, parameter, inner))
+        .any(|parameter| parameter.name == "in-place")
+    {
+        return None;
+    }
+    match (
+        said(matches, "out").is_some(),
+        has_flag(matches, "in-place"),
+    ) {
+        (true, true) => Some(Misfit::TwoTargets),
+        (false, false) => Some(Misfit::NoTarget),
+        (true, false) | (false, true) => None,
+    }
+}
+
+/// The first option of the command that does not take its value, or what is wrong with where its image goes.
+fn misfit_of<'a>(form: &Form, matches: &ArgMatches<'a>) -> Option<Misfit<'a>> {
+    let value = form
+        .parameters
+        .iter()
+        .find_map(|parameter| value_misfit(parameter, matches));
+    match value {
+        Some(misfit) => Some(misfit),
+        None => target_misfit(form, matches),
+    }
 }
 
 /// What an option takes, for the user.
@@ -141,24 +164,54 @@ fn wanted(alloc: Global, values: Values) -> Result<String, AllocError> {
 }
 
 impl Misfit<'_> {
-    /// What clap says of such a value, with the command's usage.
-    fn text(&self, alloc: Global) -> Result<String, AllocError> {
-        let name = self.name;
-        let value = escaped(alloc, self.value)?;
-        let wanted = wanted(alloc, self.values)?;
-        let message = format!(in alloc;
-            "invalid value '{value}' for '--{name} <{name}>'\n  {wanted}"
-        )?;
-        full_command(alloc, self.form)?
-            .error(ErrorKind::InvalidValue, message.as_str())?
+    fn kind(self) -> ErrorKind {
+        match self {
+            Misfit::Value { .. } => ErrorKind::InvalidValue,
+            Misfit::TwoTargets => ErrorKind::ArgumentConflict,
+            Misfit::NoTarget => ErrorKind::MissingRequiredArgument,
+        }
+    }
+
+    fn message(self, alloc: Global) -> Result<String, AllocError> {
+        match self {
+            Misfit::Value {
+                name,
+                values,
+                value,
+            } => {
+                let value = escaped(alloc, value)?;
+                let wanted = wanted(alloc, values)?;
+                format!(in alloc; "invalid value '{value}' for '--{name} <{name}>'\n  {wanted}")
+            }
+            Misfit::TwoTargets => {
+                "the argument '--out <out>' cannot be used with '--in-place'".to_string(alloc)
+            }
+            Misfit::NoTarget => "the following required arguments were not provided:\n  \
+                 <--out <out>|--in-place>"
+                .to_string(alloc),
+        }
+    }
+
+    /// What clap says of such words, with the command's usage.
+    fn text(self, alloc: Global, form: &Form) -> Result<String, AllocError> {
+        let message = self.message(alloc)?;
+        full_command(alloc, form)?
+            .error(self.kind(), message.as_str())?
             .to_string(alloc)
     }
 }
 
-/// What is wrong with words that clap takes, but of which an option does not take its value.
+/// The form of the command that clap finds, and what is wrong with its words.
+fn misfit_in<'a>(matches: &ArgMatches<'a>) -> Option<(&'static Form, Misfit<'a>)> {
+    let (command, inner) = matches.subcommand()?;
+    let form = form_named(command)?;
+    Some((form, misfit_of(form, inner)?))
+}
+
+/// What is wrong with words that clap takes, but that are no job.
 pub fn misfit_text(alloc: Global, matches: &ArgMatches<'_>) -> Result<String, AllocError> {
     match misfit_in(matches) {
-        Some(misfit) => misfit.text(alloc),
+        Some((form, misfit)) => misfit.text(alloc, form),
         None => NO_COMMAND.to_string(alloc),
     }
 }

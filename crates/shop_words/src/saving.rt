@@ -6,6 +6,7 @@ ghost use Rattle.shop_words.specs.Job.{aux_named, job_by, job_view, saving_by, s
 
 use crate::job::{Job, SaveAttributes, VolumeOptions};
 use crate::reading::{number_named, said, text_of, text_said, volume_in};
+use crate::target::{TargetWords, target_in, target_of};
 use clap::ArgMatches;
 use std::alloc::{AllocError, Global};
 
@@ -19,7 +20,7 @@ struct Saving<'a> {
     aux: u16,
     date: Option<&'a str>,
     from: &'a str,
-    out: &'a str,
+    target: TargetWords<'a>,
 }
 
 // The auxiliary type, 0 where none is said.
@@ -43,7 +44,7 @@ fn saving_in<'a>(matches: &ArgMatches<'a>) -> Option<Saving<'a>>
         aux: aux_named(said(matches, "aux"))?,
         date: said(matches, "date"),
         from: said(matches, "from")?,
-        out: said(matches, "out")?,
+        target: target_in(matches)?,
     })
 }
 
@@ -64,7 +65,7 @@ pub fn save_in(alloc: Global, matches: &ArgMatches<'_>) -> Result<Option<Job>, A
             date: text_of(alloc, words.date)?,
         },
         from: words.from.to_string(alloc)?,
-        out: words.out.to_string(alloc)?,
+        target: target_of(alloc, words.target)?,
         reserve: text_said(alloc, matches, "reserve")?,
     }))
 }

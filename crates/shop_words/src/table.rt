@@ -87,6 +87,18 @@ const OUT: Parameter = Parameter {
     help: "File that the image is written to",
 };
 
+const OUT_FILE: Parameter = Parameter {
+    name: "out",
+    kind: Kind::Optional(Values::Any),
+    help: "File that the image is written to; this or --in-place",
+};
+
+const IN_PLACE: Parameter = Parameter {
+    name: "in-place",
+    kind: Kind::Flag,
+    help: "Change the image in its own file; this or --out",
+};
+
 const VOLUME: Parameter = Parameter {
     name: "volume",
     kind: Kind::Optional(Values::Number { greatest: 255 }),
@@ -205,7 +217,8 @@ const FORMS: &[Form] = &[
             IMAGE,
             FILE_SYSTEM,
             ORDER,
-            OUT,
+            OUT_FILE,
+            IN_PLACE,
             DATA_DISK,
             RESERVE,
             RECLAIM,
@@ -216,17 +229,44 @@ const FORMS: &[Form] = &[
     },
     Form {
         name: "lock",
-        parameters: &[IMAGE, NAME, FILE_SYSTEM, ORDER, OUT, DATA_DISK, RESERVE],
+        parameters: &[
+            IMAGE,
+            NAME,
+            FILE_SYSTEM,
+            ORDER,
+            OUT_FILE,
+            IN_PLACE,
+            DATA_DISK,
+            RESERVE,
+        ],
         help: "Lock a file of a volume, so that it is not deleted, renamed or written",
     },
     Form {
         name: "unlock",
-        parameters: &[IMAGE, NAME, FILE_SYSTEM, ORDER, OUT, DATA_DISK, RESERVE],
+        parameters: &[
+            IMAGE,
+            NAME,
+            FILE_SYSTEM,
+            ORDER,
+            OUT_FILE,
+            IN_PLACE,
+            DATA_DISK,
+            RESERVE,
+        ],
         help: "Unlock a file of a volume",
     },
     Form {
         name: "delete",
-        parameters: &[IMAGE, NAME, FILE_SYSTEM, ORDER, OUT, DATA_DISK, RESERVE],
+        parameters: &[
+            IMAGE,
+            NAME,
+            FILE_SYSTEM,
+            ORDER,
+            OUT_FILE,
+            IN_PLACE,
+            DATA_DISK,
+            RESERVE,
+        ],
         help: "Delete a file of a volume",
     },
     Form {
@@ -237,7 +277,8 @@ const FORMS: &[Form] = &[
             NEW,
             FILE_SYSTEM,
             ORDER,
-            OUT,
+            OUT_FILE,
+            IN_PLACE,
             DATA_DISK,
             RESERVE,
         ],
@@ -251,7 +292,8 @@ const FORMS: &[Form] = &[
             FILE_SYSTEM,
             ORDER,
             CONTENT,
-            OUT,
+            OUT_FILE,
+            IN_PLACE,
             TYPE,
             AUX,
             DATE,

@@ -33,6 +33,20 @@ fn a_plan_in_words(rt: HostRuntime) -> Result<(), Fail> {
 }
 
 #[test]
+fn a_job_in_place_wants_a_file_of_its_own(rt: HostRuntime) -> Result<(), Fail> {
+    let image = hello(rt.alloc())?;
+    for line in [
+        "optimize a.dsk --fs dos --order dos --in-place",
+        "lock a.dsk HELLO --fs dos --order dos --in-place",
+        "save a.dsk NEW --fs dos --order dos --from b --type X --in-place",
+    ] {
+        let refused = "REFUSED InPlace\n";
+        tells(&rt, rt.alloc(), line, &mut image.as_slice(), 3, refused)?;
+    }
+    Ok(())
+}
+
+#[test]
 fn help_has_status_0(rt: HostRuntime) -> Result<(), Fail> {
     for line in ["--help", "help", "plan --help", "plan -h"] {
         let answer = Answer::to(rt.alloc(), line, &mut b"".as_slice(), &[])?;

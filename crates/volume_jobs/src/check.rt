@@ -11,8 +11,8 @@ use std::alloc::Global;
 use vol_check::{CheckError, Checked, check};
 use vol_format::Format;
 
-// The reply to an accepted volume.
-fn accepted_reply<V: Drop>(alloc: Global, checked: &Checked<V>) -> Reply
+/// The reply to an accepted volume.
+pub fn accepted_reply<V: Drop>(alloc: Global, checked: &Checked<V>) -> Reply
     ensures { TellsAccepted (told_of checked.now) result }
 {
     match accepted_line(alloc, checked) {
@@ -21,8 +21,8 @@ fn accepted_reply<V: Drop>(alloc: Global, checked: &Checked<V>) -> Reply
     }
 }
 
-// The reply to a volume that is not accepted, or that could not be checked.
-fn refused_reply(alloc: Global, form: PlaceForm, error: &CheckError) -> Reply
+/// The reply to a volume that is not accepted, or that could not be checked.
+pub fn refused_reply(alloc: Global, form: PlaceForm, error: &CheckError) -> Reply
     ensures { TellsRefusal form error.now result }
 {
     match error {

@@ -23,6 +23,11 @@ mod steps;
 mod verify;
 mod volume;
 
-pub use save::MOST_INPUT;
-pub use verify::MOST_CERTIFICATE;
-pub use volume::{Work, volume_reply};
+pub use check::{accepted_reply, refused_reply};
+pub use edit::edit_refusal_reply;
+pub use listing::{listing_reply, refusal_reply};
+pub use plan::{certificate_reply, unopened_reply};
+pub use plan_words::words_reply;
+pub use save::{MOST_INPUT, attributes_of};
+pub use verify::{MOST_CERTIFICATE, verdict_reply};
+pub use volume::{Work, form_of, reserve_reply, reserved_by, volume_reply};

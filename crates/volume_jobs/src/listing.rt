@@ -21,8 +21,8 @@ pub fn refusal_reply(error: CmdError) -> Reply
     }
 }
 
-// The text of a listing; volumes of blocks are those of ProDOS.
-fn listing_reply(alloc: Global, form: PlaceForm, listing: &Listing) -> Reply
+/// The text of a listing; volumes of blocks are those of ProDOS.
+pub fn listing_reply(alloc: Global, form: PlaceForm, listing: &Listing) -> Reply
     ensures { TellsListing form listing.now result }
 {
     let text = match form {

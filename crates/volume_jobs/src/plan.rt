@@ -26,8 +26,8 @@ pub fn unopened_reply(alloc: Global, error: &OpenError) -> Reply
     }
 }
 
-// The reply with the certificate of a plan.
-fn certificate_reply<V: Drop>(alloc: Global, opening: &Opening<V>) -> Reply
+/// The reply with the certificate of a plan.
+pub fn certificate_reply<V: Drop>(alloc: Global, opening: &Opening<V>) -> Reply
     requires { IsPlanOf opening.now.layout opening.now.plan }
     ensures { TellsPlan opening.now.layout opening.now.plan result }
 {

@@ -115,8 +115,8 @@ fn plan_text<F: FileFormat>(
     steps_text(alloc, format, &opening.volume, form, steps.as_slice())
 }
 
-// The reply with the plan of a volume.
-fn words_reply<F: FileFormat>(
+/// The reply with the plan of a volume.
+pub fn words_reply<F: FileFormat>(
     alloc: Global,
     format: &F,
     form: PlaceForm,

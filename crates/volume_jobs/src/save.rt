@@ -19,8 +19,8 @@ use std::alloc::Global;
 /// The most bytes of a file that is saved.
 pub const MOST_INPUT: usize = 16_777_216;
 
-// What its owner says of a file, and how many bytes it has.
-fn attributes_of(given: &GivenFile<'_>) -> Attributes
+/// What its owner says of a file, and how many bytes it has.
+pub fn attributes_of(given: &GivenFile<'_>) -> Attributes
     requires { length given.now.bytes.now ≤ most_input }
     ensures { result ≡ said_of (given_view given.now) }
 {

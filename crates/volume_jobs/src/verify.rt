@@ -63,8 +63,8 @@ fn no_text_reply(alloc: Global, error: CertError) -> Reply
     }
 }
 
-// The reply to a certificate's text, for a layout.
-fn verdict_reply(alloc: Global, layout: &Layout, text: &[u8]) -> Reply
+/// The reply to a certificate's text, for a layout.
+pub fn verdict_reply(alloc: Global, layout: &Layout, text: &[u8]) -> Reply
     ensures { IsVerdict layout.now text.now result }
 {
     let cert = match read(alloc, text) {

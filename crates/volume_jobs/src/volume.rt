@@ -31,8 +31,8 @@ use save_formats::SavableFormat;
 use shop_words::{Edit, FileSystem, VolumeOptions};
 use std::alloc::Global;
 
-// The reply to a text of places to reserve that is not taken.
-fn reserve_reply(error: ReserveError) -> Reply
+/// The reply to a text of places to reserve that is not taken.
+pub fn reserve_reply(error: ReserveError) -> Reply
     ensures { result ≡ reply_to_reserve error }
 {
     match error {
@@ -80,8 +80,8 @@ pub enum Work<'a> {
     },
 }
 
-// How the places of a file system are named.
-fn form_of(file_system: FileSystem) -> PlaceForm
+/// How the places of a file system are named.
+pub fn form_of(file_system: FileSystem) -> PlaceForm
     ensures { result ≡ form_by file_system }
 {
     match file_system {
@@ -90,8 +90,11 @@ fn form_of(file_system: FileSystem) -> PlaceForm
     }
 }
 
-// The places that the words reserve.
-fn reserved_by(
+/// The places that the words reserve.
+///
+/// # Errors
+/// `Syntax` where the words are no list of places; `Memory`.
+pub fn reserved_by(
     alloc: Global,
     form: PlaceForm,
     reserve: Option<&str>,

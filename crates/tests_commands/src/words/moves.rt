@@ -1,6 +1,6 @@
 // The words of plans, optimizations and verifications.
 use super::asks;
-use shop_words::{FileSystem, ImageOrder, Job, VolumeOptions, WordsFault};
+use shop_words::{FileSystem, ImageOrder, Job, Target, VolumeOptions, WordsFault};
 use std::alloc::Global;
 use std::process::Abort;
 use std::test::Fail;
@@ -51,7 +51,7 @@ fn optimizes(
     let job = Job::Optimize {
         image: "a.po".to_string(alloc)?,
         volume: PRODOS,
-        out: "b.po".to_string(alloc)?,
+        target: Target::File("b.po".to_string(alloc)?),
         reserve: None,
         reclaim: true,
         stop_after,
@@ -82,13 +82,30 @@ fn an_optimization_may_write_its_certificate(rt: HostRuntime) -> Result<(), Fail
     let job = Job::Optimize {
         image: "a.po".to_string(alloc)?,
         volume: PRODOS,
-        out: "b.po".to_string(alloc)?,
+        target: Target::File("b.po".to_string(alloc)?),
         reserve: None,
         reclaim: false,
         stop_after: None,
         cert: Some("a.cert".to_string(alloc)?),
     };
     let line = "optimize a.po --fs prodos --order prodos --cert a.cert --out b.po";
+    asks(&rt, alloc, line, job)?;
+    Ok(())
+}
+
+#[test]
+fn an_optimization_may_be_done_in_place(rt: HostRuntime) -> Result<(), Fail> {
+    let alloc = rt.alloc();
+    let job = Job::Optimize {
+        image: "a.po".to_string(alloc)?,
+        volume: PRODOS,
+        target: Target::InPlace,
+        reserve: None,
+        reclaim: false,
+        stop_after: None,
+        cert: None,
+    };
+    let line = "optimize a.po --in-place --fs prodos --order prodos";
     asks(&rt, alloc, line, job)?;
     Ok(())
 }

@@ -40,7 +40,16 @@ fn unknown_and_missing_words_are_refused(rt: HostRuntime) {
             "--out <out>",
             CONVERT_USAGE,
         ),
-        (PLAIN_OPTIMIZATION, "--out <out>", OPTIMIZE_USAGE),
+        (
+            PLAIN_OPTIMIZATION,
+            "<--out <out>|--in-place>",
+            OPTIMIZE_USAGE,
+        ),
+        (
+            "optimize a.po --fs prodos --order prodos --out b.po --in-place",
+            "'--out <out>' cannot be used with '--in-place'",
+            OPTIMIZE_USAGE,
+        ),
         (VERIFICATION, "--from <from>", "Usage: a2shop verify "),
     ] {
         refuses(&rt, rt.alloc(), line, wrong, usage);

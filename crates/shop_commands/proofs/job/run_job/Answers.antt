@@ -1,4 +1,4 @@
-use Rattle.std.proofs.Common.{◌≡◌, ◌+◌, ℕ, List, sym, subst, take}
+use Rattle.std.proofs.Common.{◌≡◌, ◌∙◌, ◌+◌, ℕ, List, sym, subst, take}
 use Rattle.std.specs.Prelude.{IfSome}
 use Rattle.shop_words.specs.Job.{job_view}
 use Rattle.volume_jobs.specs.VerifyReply.{most_certificate}
@@ -11,7 +11,7 @@ answered : goal.returns-clause-answer
 answered g c =
     job_answered (job_view c.args.job.now) (g.I.Read.remaining c.args.image.now) (g.E.Read.remaining c.args.extra.now) c.image_order.result c.in-Ok.bytes.items c.as_slice.result.now c.reply_to.result c.deliver-2.result
     (held (g.T.Write.contents c.args.text.now) (g.O.Write.contents c.args.out.now)) (held (g.T.Write.contents c.deliver-2.new.text) (g.O.Write.contents c.deliver-2.new.out))
-    c.image_order.ensures c.in-Ok.ensures.read
+    (sym c.is_in_place.ensures ∙ c.if-is_in_place.false) c.image_order.ensures c.in-Ok.ensures.read
     (λ reads. subst (λ (xs : List ℕ). IfSome (g.E.Read.remaining c.args.extra.now) (λ bytes. xs ≡ take (most_certificate + 1) bytes)) (sym c.as_slice.ensures.value) (c.in-Ok-extra_for.ensures.read reads)) c.reply_to.ensures c.deliver-2.ensures.told
 
 pub returns-clause-answer : goal.returns-clause-answer
@@ -26,4 +26,4 @@ returns-clause-dos_catalog g c =
 pub returns-clause-out : goal.returns-clause-out
 returns-clause-out g c =
     image_handed (job_view c.args.job.now) c.in-Ok.bytes.items c.as_slice.result.now c.reply_to.result c.deliver-2.result
-    (g.T.Write.contents c.args.text.now) (g.T.Write.contents c.deliver-2.new.text) c.args.out.now c.deliver-2.new.out c.reply_to.ensures c.deliver-2.ensures.out
+    (g.T.Write.contents c.args.text.now) (g.T.Write.contents c.deliver-2.new.text) c.args.out.now c.deliver-2.new.out (sym c.is_in_place.ensures ∙ c.if-is_in_place.false) c.reply_to.ensures c.deliver-2.ensures.out

@@ -1,0 +1,42 @@
+-- What becomes of a volume to which a file is saved where it stands.
+use Rattle.std.specs.Prelude.{◌≡◌, ◌⊎◌, ◌<◌, ◌≤◌, ℕ, List, length, IfErr, IfSome, IsTrue, OnOk, Result, Err}
+use Rattle.a2_device.specs.Device.{DeviceState}
+use Rattle.vol_format.specs.Meaning.{Meaning}
+use Rattle.file_edits.specs.Writes.{HasEdited}
+use Rattle.file_edits.specs.declared.error.EditError.{EditError}
+use Rattle.file_edits.specs.declared.error.EditError.TheVariants.{Device}
+use Rattle.file_saving.specs.Saved.{IsOldOrSaved, IsSaveRefusal}
+use Rattle.given_file.specs.Content.{GivenView, IsTooLongForHead, content, stored_units, unit_bytes}
+use Rattle.save_formats.specs.Saves.{SaveMeaning}
+use Rattle.job_reply.specs.declared.reply.Refusal.TheVariants as refusals
+use Rattle.job_reply.specs.declared.reply.Failure.TheVariants as failures
+use Rattle.job_reply.specs.declared.reply.Reply.TheVariants.{Refused, Failed}
+use Rattle.volume_jobs.specs.Refusals.{refusal_of_edit}
+use Rattle.volume_jobs.specs.SaveReply.{AreSaveWrites, HasGivenSaved, IsSaveCause, attributes_of, most_input}
+use Rattle.device_jobs.specs.EditOutcome.{TellsEdit}
+use Rattle.device_jobs.specs.declared.outcome.Outcome.{Outcome}
+use Rattle.device_jobs.specs.declared.outcome.Outcome.TheVariants.{Unfinished}
+
+-- the same store, or one with the files of before, or one with this file too
+abbrev pub IsOldOrGivenSaved : List ℕ → GivenView → SaveMeaning → Meaning → List (List ℕ) → List (List ℕ) → Type 0
+IsOldOrGivenSaved path given saves format old new =
+    IsOldOrSaved format saves path (attributes_of given) (stored_units format.unit_size (content given)) (unit_bytes format.unit_size (content given)) old new
+
+-- The saving was tried, and the outcome tells what was answered. Done, all its writes stand and nothing else has changed, and the files are those of before and this one. Stopped by a
+-- failure, one was met, a front of the writes stands, none was made after it, and the files are those of before, or those and this one. Refused, the refusal has its cause.
+pub record IsSaveTriedOutcome (path : List ℕ) (given : GivenView) (saves : SaveMeaning) (format : Meaning) (old new : DeviceState) (outcome : Outcome) : Type 0 where
+  pub result : Result (Unit {0}) EditError
+  pub told : TellsEdit result outcome
+  pub edited : HasEdited (AreSaveWrites path given saves format old.store) result old new
+  pub refusals : IfErr result IsSaveRefusal
+  pub saved : IsTrue old.honest → OnOk result (HasGivenSaved path given saves format old.store new.store)
+  pub stopped : IsTrue old.honest → result ≡ Err Device → IsOldOrGivenSaved path given saves format old.store new.store
+  pub caused : IsTrue old.honest → IfErr result (λ error. IfSome (refusal_of_edit error) (λ refusal. IsSaveCause refusal path given saves format old.store))
+
+-- More bytes than are read of a file, before a file that is too long for its head and want of memory for its units, before what the volume tells; until then the device is as it was.
+abbrev pub IsSaveOutcome : List ℕ → GivenView → SaveMeaning → Meaning → DeviceState → DeviceState → Outcome → Type 0
+IsSaveOutcome path given saves format old new outcome =
+    ((outcome ≡ Unfinished (Refused refusals.InputTooLong)) × (most_input < length given.bytes) × (new ≡ old))
+    ⊎ ((outcome ≡ Unfinished (Refused refusals.TooLong)) × (length given.bytes ≤ most_input) × IsTooLongForHead given × (new ≡ old))
+    ⊎ ((outcome ≡ Unfinished (Failed failures.Memory)) × (length given.bytes ≤ most_input) × (new ≡ old))
+    ⊎ ((length given.bytes ≤ most_input) × (¬ IsTooLongForHead given) × IsSaveTriedOutcome path given saves format old new outcome)
