@@ -1,5 +1,5 @@
 # make            builds the proved program to ./a2shop
-# make demo       builds it; lists, checks, plans and optimizes a DOS sample, and lists it again, from disk bytes too;
+# make demo       builds it; lists, checks, plans and optimizes a DOS sample, in place too, and lists it again, from disk bytes too;
 #                 saves a file to it and reads it back; unlocks, renames and deletes files; checks, plans and optimizes a ProDOS sample, lists it before and after, and verifies the plan
 # make test       runs the gate (every proof from nothing, the must-fail edits, all tests) and the end-to-end tests
 # make assure     tries the further edits, crates/*/assure, that the prover must refuse; each run of the gate tries a share
@@ -43,6 +43,9 @@ demo: a2shop
 	./a2shop optimize samples/hello.dsk --fs dos --order dos --out demo.dsk
 	./a2shop catalog demo.dsk --fs dos --order dos
 	./a2shop read demo.dsk HELLO --fs dos --order dos | od -A n -t x1
+	cp samples/hello.dsk demo.dsk
+	./a2shop optimize demo.dsk --fs dos --order dos --in-place
+	./a2shop check demo.dsk --fs dos --order dos
 	./a2shop convert demo.dsk --order dos --to nibble --out demo.nib
 	./a2shop catalog demo.nib --fs dos --order nibble
 	./a2shop catalog samples/work.po --fs prodos --order prodos
