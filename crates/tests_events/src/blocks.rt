@@ -8,15 +8,15 @@ use std::alloc::{AllocError, Global};
 use std::test::Fail;
 use test_volumes::{block_device, tree};
 
-// The body of `BIG`: zeros, and three letters behind them.
-fn big(alloc: Global) -> Result<Vec<u8>, AllocError> {
+/// The body of `BIG`: zeros, and three letters behind them.
+pub fn big(alloc: Global) -> Result<Vec<u8>, AllocError> {
     let mut body = vec![in alloc; 0; 131_072]?;
     body.extend_from_slice(b"abc")?;
     Ok(body)
 }
 
-// Whether the answers to events on the tree are those that were told, and how many writes the device counts.
-fn on_tree(alloc: Global, events: &[Event], told: &[Told]) -> Result<(bool, u64), Fail> {
+/// Whether the answers to events on the tree are those that were told, and how many writes the device counts.
+pub fn on_tree(alloc: Global, events: &[Event], told: &[Told]) -> Result<(bool, u64), Fail> {
     let format = Prodos::new(alloc, Reserved::none(alloc));
     let Some(device) = block_device(tree(alloc)?) else {
         return Err("no device".into());
