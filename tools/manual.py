@@ -21,7 +21,9 @@ ProDOS order and of disk bytes. It writes to standard output and to the files of
 .B \\-\\-out
 and
 .BR \\-\\-cert ,
-and to no other file.
+with
+.B \\-\\-in\\-place
+to the image's own file, and to no other file.
 .PP
 Without words it lists the DOS 3.3 volume of the image in DOS order on standard input.
 .PP
