@@ -11,6 +11,7 @@ use Rattle.vol_format.specs.Laws.{IsReadable, IsDirectory}
 use Rattle.vol_check.specs.declared.walk.Pending.{Pending}
 use Rattle.vol_check.specs.declared.walk.Pending.TheVariants.{Visit, Tell}
 use Rattle.vol_check.specs.Walk.{Lists, IsSound, noted, after_next, next_unit}
+use Rattle.vol_check.specs.Known.{none_known}
 use Rattle.vol_check.specs.Walking.{IsWalking, None}
 use Rattle.vol_check.proofs.Pushed.{in_none, at_end}
 use Rattle.vol_check.proofs.Steps.{fault_told}
@@ -19,7 +20,7 @@ use Rattle.vol_check.proofs.Room.{noted_sound}
 
 -- a walk that has seen nothing
 abbrev pub unseen : ℕ → Lists
-unseen places = record { parts = []; pending = []; faults = []; visited = replicate places false }
+unseen places = record { parts = []; pending = []; faults = []; visited = replicate places false; known = replicate places none_known }
 
 none_visited : (n place : ℕ) → get_or (replicate n false) place false ≡ false
 none_visited zero place = refl

@@ -1,4 +1,5 @@
 pub mod Pushed
+pub mod Telling
 pub mod Steps
 pub mod Visits
 pub mod Room

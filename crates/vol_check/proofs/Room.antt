@@ -15,7 +15,9 @@ use Rattle.vol_format.specs.Meaning.{Meaning}
 use Rattle.vol_format.specs.Laws.{IsReadable}
 use Rattle.vol_check.specs.declared.walk.Pending.{Pending}
 use Rattle.vol_check.specs.declared.walk.Pending.TheVariants.{Visit, Tell}
-use Rattle.vol_check.specs.Walk.{Lists, IsSound, is_visited, put_off, noted, followed, taken_up, after_visit, after_next}
+use Rattle.vol_check.specs.Walk.{Lists, IsSound, is_visited, put_off, noted, followed, taken_up, told, after_visit, after_next}
+use Rattle.vol_check.specs.declared.known.Known.{Known}
+use Rattle.vol_check.proofs.Telling.{when_told}
 use Rattle.vol_check.proofs.Pushed.{in_front, at_end, front_or_end, all_pairs_pushed}
 
 -- what is left to do, as a number
@@ -54,8 +56,8 @@ module _ (format : Meaning) (laws : IsReadable format) (directory : Directory) (
   }
 
   -- other faults were told
-  with_faults : (walk : Lists) (faults : List Fault) → IsSound format directory walk → IsSound format directory (record walk { faults = faults })
-  with_faults walk faults sound = record {
+  with_faults : (walk : Lists) (faults : List Fault) (known : List Known) → IsSound format directory walk → IsSound format directory (record walk { faults = faults; known = known })
+  with_faults walk faults known sound = record {
     size = sound.size;
     used = sound.used;
     part_place = sound.part_place;
@@ -138,24 +140,27 @@ module _ (format : Meaning) (laws : IsReadable format) (directory : Directory) (
 
     -- what is known, by the three outcomes
     by_outcome : (P : Lists → Type 0)
-        → ((faults : List Fault) → P (record { parts = walk.parts; pending = rest; faults = faults; visited = walk.visited }))
+        → ((faults : List Fault) (known : List Known) → P (record { parts = walk.parts; pending = rest; faults = faults; visited = walk.visited; known = known }))
         → ((faults : List Fault) → is_system directory part.place ≡ false → is_visited walk part.place ≡ false
         → P (followed (format.child directory.places part unit) part.place (format.pointers part)
-        (record { parts = walk.parts ++ part ∷ []; pending = rest; faults = faults; visited = set walk.visited part.place true })))
+        (record { parts = walk.parts ++ part ∷ []; pending = rest; faults = faults; visited = set walk.visited part.place true; known = walk.known })))
         → P (after_visit format directory part unit (record walk { pending = rest }))
     by_outcome P over up = by_tests (is_system directory part.place) (is_visited walk part.place) refl refl
       where
+        passed : (fault : Fault) → P (told fault (record walk { pending = rest }))
+        passed fault = when_told P fault (record walk { pending = rest }) (λ some. over walk.faults walk.known) (λ known. over (walk.faults ++ fault ∷ []) known)
+
         by_tests : (system visited : Bool) → is_system directory part.place ≡ system → is_visited walk part.place ≡ visited
             → P (if not system && not visited
             then followed (format.child directory.places part unit) part.place (format.pointers part)
-            (if system then (record walk { pending = rest; faults = walk.faults ++ InSystem part.place ∷ [] })
-            else (if visited then (record walk { pending = rest; faults = walk.faults ++ Shared part.place ∷ [] })
+            (if system then told (InSystem part.place) (record walk { pending = rest })
+            else (if visited then told (Shared part.place) (record walk { pending = rest })
             else taken_up directory part (record walk { pending = rest })))
-            else (if system then (record walk { pending = rest; faults = walk.faults ++ InSystem part.place ∷ [] })
-            else (if visited then (record walk { pending = rest; faults = walk.faults ++ Shared part.place ∷ [] })
+            else (if system then told (InSystem part.place) (record walk { pending = rest })
+            else (if visited then told (Shared part.place) (record walk { pending = rest })
             else taken_up directory part (record walk { pending = rest }))))
-        by_tests true visited system_is visited_is = over (walk.faults ++ InSystem part.place ∷ [])
-        by_tests false true system_is visited_is = over (walk.faults ++ Shared part.place ∷ [])
+        by_tests true visited system_is visited_is = passed (InSystem part.place)
+        by_tests false true system_is visited_is = passed (Shared part.place)
         by_tests false false system_is visited_is = up (if is_free directory part.place then walk.faults ++ MarkedFree part.place ∷ [] else walk.faults) system_is visited_is
 
     pub in_places : part.place < length walk.visited
@@ -163,7 +168,7 @@ module _ (format : Meaning) (laws : IsReadable format) (directory : Directory) (
 
     -- the part with those before it
     taken_sound : (faults : List Fault) → is_system directory part.place ≡ false → is_visited walk part.place ≡ false
-        → IsSound format directory (record { parts = walk.parts ++ part ∷ []; pending = rest; faults = faults; visited = set walk.visited part.place true })
+        → IsSound format directory (record { parts = walk.parts ++ part ∷ []; pending = rest; faults = faults; visited = set walk.visited part.place true; known = walk.known })
     taken_sound faults outside unvisited =
         let more = length-append walk.parts (part ∷ []) in
         let which = λ (p : Part) (h : Contains (walk.parts ++ part ∷ []) p). front_or_end walk.parts part p h in
@@ -202,16 +207,16 @@ module _ (format : Meaning) (laws : IsReadable format) (directory : Directory) (
 
     pub after_visit_sound : IsSound format directory (after_visit format directory part unit (record walk { pending = rest }))
     after_visit_sound = by_outcome (IsSound format directory)
-        (λ faults. with_faults (record walk { pending = rest }) faults (with_pending walk rest sound rest_fits))
+        (λ faults known. with_faults (record walk { pending = rest }) faults known (with_pending walk rest sound rest_fits))
         (λ faults outside unvisited.
         followed_sound part unit (format.pointers part) _ (taken_sound faults outside unvisited)
         (omega (arith, length-append walk.parts (part ∷ []), it_fits.1)) it_fits.2)
 
     pub after_visit_work : work (after_visit format directory part unit (record walk { pending = rest })) < work walk
     after_visit_work = by_outcome (λ after. work after < work walk)
-        (λ faults. omega (arith, more_pending))
+        (λ faults known. omega (arith, more_pending))
         (λ faults outside unvisited.
-        let taken : Lists = record { parts = walk.parts ++ part ∷ []; pending = rest; faults = faults; visited = set walk.visited part.place true } in
+        let taken : Lists = record { parts = walk.parts ++ part ∷ []; pending = rest; faults = faults; visited = set walk.visited part.place true; known = walk.known } in
         omega (
           arith,
           more_pending,
@@ -231,10 +236,17 @@ module _ (format : Meaning) (laws : IsReadable format) (directory : Directory) (
   pub next_sound : (walk : Lists) (rest : List Pending) (next : Pending) (unit : List ℕ) → IsSound format directory walk → walk.pending ≡ rest ++ next ∷ []
       → IsSound format directory (after_next format directory next unit (record walk { pending = rest }))
   next_sound walk rest (Visit part) unit sound on_top = after_visit_sound walk rest part unit sound on_top
-  next_sound walk rest (Tell fault) unit sound on_top = with_faults (record walk { pending = rest }) (walk.faults ++ fault ∷ [])
-      (with_pending walk rest sound (λ q h. waiting_fits walk sound q (subst (λ (qs : List Pending). Contains qs (Visit q)) (sym on_top) (in_front rest (Tell fault) (Visit q) h))))
+  next_sound walk rest (Tell fault) unit sound on_top = when_told (IsSound format directory) fault (record walk { pending = rest }) (λ some. left)
+      (λ known. with_faults (record walk { pending = rest }) (walk.faults ++ fault ∷ []) known left)
+    where
+      left : IsSound format directory (record walk { pending = rest })
+      left = with_pending walk rest sound
+          (λ q h. waiting_fits walk sound q (subst (λ (qs : List Pending). Contains qs (Visit q)) (sym on_top) (in_front rest (Tell fault) (Visit q) h)))
 
   pub next_work : (walk : Lists) (rest : List Pending) (next : Pending) (unit : List ℕ) → IsSound format directory walk → walk.pending ≡ rest ++ next ∷ []
       → work (after_next format directory next unit (record walk { pending = rest })) < work walk
   next_work walk rest (Visit part) unit sound on_top = after_visit_work walk rest part unit sound on_top
-  next_work walk rest (Tell fault) unit sound on_top = omega (arith, ap length on_top, length-append rest (Tell fault ∷ []))
+  next_work walk rest (Tell fault) unit sound on_top = when_told (λ after. work after < work walk) fault (record walk { pending = rest }) (λ some. less) (λ known. less)
+    where
+      less : work (record walk { pending = rest }) < work walk
+      less = omega (arith, ap length on_top, length-append rest (Tell fault ∷ []))

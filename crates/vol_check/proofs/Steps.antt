@@ -18,6 +18,8 @@ use Rattle.vol_check.specs.declared.walk.Pending.{Pending}
 use Rattle.vol_check.specs.declared.walk.Pending.TheVariants.{Visit, Tell}
 use Rattle.vol_check.specs.Walk.{Lists, put_off, noted, followed, told}
 use Rattle.vol_check.specs.Walking.{IsWalking, IsClean, IsKnown, IsFaultless, Apart, FirstOf, None}
+use Rattle.vol_check.specs.declared.known.Known.{Known}
+use Rattle.vol_check.proofs.Telling.{when_told}
 use Rattle.vol_check.proofs.Pushed.{in_front, at_end, front_or_end, none_after_push, all_pairs_pushed, all_pairs_front}
 
 module _ (format : Meaning) (laws : IsReadable format) (directory : Directory) (store : List (List ℕ)) where
@@ -42,22 +44,31 @@ module _ (format : Meaning) (laws : IsReadable format) (directory : Directory) (
   pub faulted : (roots : ℕ) (Open Open' : Part → ℕ → Type 0) (walk : Lists) (pending : List Pending) (fault : Fault)
       → IsWalking format directory store roots Open walk → PartFaultAt format directory store fault
       → ((p : Pending) → Contains pending p → Contains walk.pending p) → AllPairs (Apart format) pending
-      → IsWalking format directory store roots Open' (record walk { pending = pending; faults = walk.faults ++ fault ∷ [] })
-  faulted roots Open Open' walk pending fault walking found fewer stacked = record {
-    reached = walking.reached;
-    waiting = λ p h. walking.waiting p (fewer (Visit p) h);
-    parts_file = walking.parts_file;
-    waiting_file = λ p h. walking.waiting_file p (fewer (Visit p) h);
-    places = walking.places;
-    by_part = walking.by_part;
-    once = walking.once;
-    ordered = walking.ordered;
-    later = λ p q has h. walking.later p q has (fewer (Visit q) h);
-    stacked = stacked;
-    faults = λ f h. ⊎_elim (λ old. walking.faults f old) (λ new. subst (PartFaultAt format directory store) (sym new) found) (front_or_end walk.faults fault f h);
-    waiting_faults = λ f h. walking.waiting_faults f (fewer (Tell f) h);
-    clean = λ none. absurd (none_after_push walk.faults fault none.none_told);
-  }
+      → IsWalking format directory store roots Open' (told fault (record walk { pending = pending }))
+  faulted roots Open Open' walk pending fault walking found fewer stacked =
+      when_told (IsWalking format directory store roots Open') fault (record walk { pending = pending })
+      (λ some. with_faults walk.faults walk.known walking.faults some) (λ known. with_faults (walk.faults ++ fault ∷ []) known each (none_after_push walk.faults fault))
+    where
+      each : (f : Fault) → Contains (walk.faults ++ fault ∷ []) f → PartFaultAt format directory store f
+      each f h = ⊎_elim (λ old. walking.faults f old) (λ new. subst (PartFaultAt format directory store) (sym new) found) (front_or_end walk.faults fault f h)
+
+      with_faults : (faults : List Fault) (known : List Known) → ((f : Fault) → Contains faults f → PartFaultAt format directory store f) → faults ≢ []
+          → IsWalking format directory store roots Open' (record walk { pending = pending; faults = faults; known = known })
+      with_faults faults known there some = record {
+        reached = walking.reached;
+        waiting = λ p h. walking.waiting p (fewer (Visit p) h);
+        parts_file = walking.parts_file;
+        waiting_file = λ p h. walking.waiting_file p (fewer (Visit p) h);
+        places = walking.places;
+        by_part = walking.by_part;
+        once = walking.once;
+        ordered = walking.ordered;
+        later = λ p q has h. walking.later p q has (fewer (Visit q) h);
+        stacked = stacked;
+        faults = there;
+        waiting_faults = λ f h. walking.waiting_faults f (fewer (Tell f) h);
+        clean = λ none. absurd (some none.none_told);
+      }
 
   -- a fault is put off
   pub fault_put_off : (roots roots' : ℕ) (Open Open' : Part → ℕ → Type 0) (walk : Lists) (fault : Fault)

@@ -17,7 +17,7 @@ use Rattle.vol_format.specs.Accepted.{PartFaultAt, IsAccepted}
 use Rattle.vol_format.specs.Laws.{IsReadable, IsDirectory}
 use Rattle.vol_check.specs.declared.walk.Pending.{Pending}
 use Rattle.vol_check.specs.declared.walk.Pending.TheVariants.{Visit, Tell}
-use Rattle.vol_check.specs.Walk.{Lists, is_visited, noted, followed, after_visit}
+use Rattle.vol_check.specs.Walk.{Lists, is_visited, told, noted, followed, after_visit}
 use Rattle.vol_check.specs.Walking.{IsWalking, IsClean, IsKnown, IsFaultless, Apart, FirstOf, None}
 use Rattle.vol_check.proofs.Steps.{not_before_itself, same_visit, not_a_visit, faulted, fault_put_off, pushed, unchanged, clean_goes_on, follow_all, all_closed, stacked_below, still_waits, next_waits, IsFollowing}
 use Rattle.vol_check.proofs.Pushed.{in_front, at_end, front_or_end, in_none, none_after_push, all_pairs_pushed, all_pairs_last}
@@ -43,7 +43,7 @@ module _ (format : Meaning) (laws : IsReadable format) (directory : Directory) (
 
     -- it is passed over
     passed_over : (fault : Fault) → PartFaultAt format directory store fault
-        → IsWalking format directory store roots None (record walk { pending = rest; faults = walk.faults ++ fault ∷ [] })
+        → IsWalking format directory store roots None (told fault (record walk { pending = rest }))
     passed_over fault found = (faulted format laws directory store) roots None None walk rest fault walking found waits stacked_rest
 
     shared : is_visited walk part.place ≡ true → PartFaultAt format directory store (Shared part.place)
@@ -69,7 +69,7 @@ module _ (format : Meaning) (laws : IsReadable format) (directory : Directory) (
       taken : (faults : List Fault) → ((f : Fault) → Contains faults f → PartFaultAt format directory store f)
           → (faults ≡ [] → (walk.faults ≡ []) × (is_system directory part.place ≡ false) × (is_free directory part.place ≡ false))
           → IsWalking format directory store roots (FirstOf part (format.pointers part))
-          (record { parts = walk.parts ++ part ∷ []; pending = rest; faults = faults; visited = set walk.visited part.place true })
+          (record { parts = walk.parts ++ part ∷ []; pending = rest; faults = faults; visited = set walk.visited part.place true; known = walk.known })
       taken faults found clean =
           let in_parts = λ (p : Part) (h : Contains (walk.parts ++ part ∷ []) p). front_or_end walk.parts part p h in
           record {
@@ -109,10 +109,10 @@ module _ (format : Meaning) (laws : IsReadable format) (directory : Directory) (
           clean_now : (faults : List Fault) → ((f : Fault) → Contains rest (Tell f) → ⊥)
               → (walk.faults ≡ []) × (is_system directory part.place ≡ false) × (is_free directory part.place ≡ false)
               → IsClean format directory store roots (FirstOf part (format.pointers part))
-              (record { parts = walk.parts ++ part ∷ []; pending = rest; faults = faults; visited = set walk.visited part.place true })
+              (record { parts = walk.parts ++ part ∷ []; pending = rest; faults = faults; visited = set walk.visited part.place true; known = walk.known })
           clean_now faults none clean =
               let was = walking.clean (record { none_told = clean.0; none_waits = no_fault_waits none }) in
-              let now : Lists = record { parts = walk.parts ++ part ∷ []; pending = rest; faults = faults; visited = set walk.visited part.place true } in
+              let now : Lists = record { parts = walk.parts ++ part ∷ []; pending = rest; faults = faults; visited = set walk.visited part.place true; known = walk.known } in
               let waits_or_is : (c : Part) → Contains walk.pending (Visit c) → Contains rest (Visit c) ⊎ (c ≡ part) =
               λ c h. ⊎_elim inl (λ new. inr ((same_visit format laws directory store) c part new)) (front_or_end rest (Visit part) (Visit c) (subst (λ (qs : List Pending). Contains qs (Visit c)) on_top h)) in
               let known : (c : Part) → IsKnown walk c → IsKnown now c =
@@ -152,6 +152,7 @@ module _ (format : Meaning) (laws : IsReadable format) (directory : Directory) (
         pending = rest;
         faults = if free then walk.faults ++ MarkedFree part.place ∷ [] else walk.faults;
         visited = set walk.visited part.place true;
+        known = walk.known;
       }
 
       found : (free : Bool) → is_free directory part.place ≡ free → (f : Fault)
@@ -179,10 +180,10 @@ module _ (format : Meaning) (laws : IsReadable format) (directory : Directory) (
           → IsWalking format directory store roots None
           (if not system && not visited
           then followed (format.child directory.places part (unit_at store part.place)) part.place (format.pointers part)
-          (if system then (record walk { pending = rest; faults = walk.faults ++ InSystem part.place ∷ [] })
-          else (if visited then (record walk { pending = rest; faults = walk.faults ++ Shared part.place ∷ [] }) else free_walk free))
-          else (if system then (record walk { pending = rest; faults = walk.faults ++ InSystem part.place ∷ [] })
-          else (if visited then (record walk { pending = rest; faults = walk.faults ++ Shared part.place ∷ [] }) else free_walk free)))
+          (if system then told (InSystem part.place) (record walk { pending = rest })
+          else (if visited then told (Shared part.place) (record walk { pending = rest }) else free_walk free))
+          else (if system then told (InSystem part.place) (record walk { pending = rest })
+          else (if visited then told (Shared part.place) (record walk { pending = rest }) else free_walk free)))
       by_tests true visited free system_is visited_is free_is =
           passed_over roots walk rest part walking on_top fits (InSystem part.place) (part, reach_top roots walk rest part walking on_top fits, refl, system_is)
       by_tests false true free system_is visited_is free_is =

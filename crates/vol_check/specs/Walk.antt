@@ -1,5 +1,5 @@
 -- A walk over the parts of all files: what is known of it whatever the device tells, and what each step does.
-use Rattle.std.specs.Prelude.{◌≡◌, ◌≢◌, ◌<◌, ◌≤◌, ℕ, zero, suc, ◌+◌, Bool, true, false, not, ◌&&◌, if◌then◌else◌, List, [], ◌∷◌, ◌++◌, length, slice_index_or, slice_set, count_by, AllPairs, Contains}
+use Rattle.std.specs.Prelude.{◌≡◌, ◌≢◌, ◌<◌, ◌≤◌, ◌==◌, ℕ, zero, suc, ◌+◌, Bool, true, false, not, ◌&&◌, if◌then◌else◌, List, [], ◌∷◌, ◌++◌, length, slice_index_or, slice_set, count_by, AllPairs, Contains}
 use Rattle.a2_device.specs.Device.{unit_at}
 use Rattle.vol_parts.specs.declared.part.Part.{Part}
 use Rattle.vol_parts.specs.declared.fault.Fault.{Fault}
@@ -8,23 +8,32 @@ use Rattle.vol_format.specs.declared.link.Link.{Link}
 use Rattle.vol_format.specs.declared.link.Link.TheVariants.{Null, Wild, Directory as ToDirectory, OtherType, To}
 use Rattle.vol_format.specs.Directory.{Directory, entries, is_system, is_free}
 use Rattle.vol_format.specs.Meaning.{Meaning}
+use Rattle.vol_check.specs.Known.{is_known, knowing}
+use Rattle.vol_check.specs.declared.known.Known.{Known}
 use Rattle.vol_check.specs.declared.walk.Pending.{Pending}
 use Rattle.vol_check.specs.declared.walk.Pending.TheVariants.{Visit, Tell}
 use Rattle.vol_check.specs.declared.walk.Walk.{Walk}
 
--- the parts so far, what is to do next with the first of it last, the faults so far, and which places were met
+-- the parts so far, what is to do next with the first of it last, the faults so far, which places were met, and which faults of them are known
 pub record Lists : Type 0 where
   pub parts : List Part
   pub pending : List Pending
   pub faults : List Fault
   pub visited : List Bool
+  pub known : List Known
 
 abbrev pub lists : {A : Type 0} → Walk A → Lists
-lists walk = record { parts = walk.parts.items; pending = walk.pending.items; faults = walk.faults.items; visited = walk.visited.items }
+lists walk = record { parts = walk.parts.items; pending = walk.pending.items; faults = walk.faults.items; visited = walk.visited.items; known = walk.known.items }
 
 -- whether a place was met
 abbrev pub is_visited : Lists → ℕ → Bool
 is_visited walk place = slice_index_or walk.visited place false
+
+-- a fault is told, unless it was told before
+abbrev pub told : Fault → Lists → Lists
+told fault walk =
+    if not (length walk.faults == 0) && is_known walk.known fault then walk
+    else (record walk { faults = walk.faults ++ fault ∷ []; known = knowing walk.known fault })
 
 -- a part is taken up
 abbrev pub taken_up : Directory → Part → Lists → Lists
@@ -40,8 +49,8 @@ is_admitted directory part walk = not (is_system directory part.place) && not (i
 
 abbrev pub admitted : Directory → Part → Lists → Lists
 admitted directory part walk =
-    if is_system directory part.place then (record walk { faults = walk.faults ++ InSystem part.place ∷ [] })
-    else (if is_visited walk part.place then (record walk { faults = walk.faults ++ Shared part.place ∷ [] })
+    if is_system directory part.place then told (InSystem part.place) walk
+    else (if is_visited walk part.place then told (Shared part.place) walk
     else taken_up directory part walk)
 
 -- What holds of a walk whatever the device tells: each part that was taken up has used a place up, stands there alone, and not on one of the
@@ -82,10 +91,6 @@ after_visit format directory part unit walk =
     if is_admitted directory part walk
     then followed (format.child directory.places part unit) part.place (format.pointers part) (admitted directory part walk)
     else admitted directory part walk
-
--- a fault is told
-abbrev pub told : Fault → Lists → Lists
-told fault walk = record walk { faults = walk.faults ++ fault ∷ [] }
 
 -- what is next is done
 abbrev pub after_next : Meaning → Directory → Pending → List ℕ → Lists → Lists

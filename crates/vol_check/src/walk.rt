@@ -5,9 +5,11 @@ ghost use Rattle.vol_format.specs.Directory.{entries};
 ghost use Rattle.vol_parts.specs.Stop.{is_device_stop};
 ghost use Rattle.vol_parts.specs.declared.part.Part.{Part};
 ghost use Rattle.vol_check.specs.declared.walk.Pending.TheVariants.{Visit};
+ghost use Rattle.vol_check.specs.Known.{none_known};
 ghost use Rattle.vol_check.specs.Walking.{IsWalking, None};
-ghost use Rattle.vol_check.specs.Walk.{lists, IsSound, is_admitted, admitted, noted, followed, after_visit, after_next, next_unit};
+ghost use Rattle.vol_check.specs.Walk.{lists, IsSound, is_admitted, admitted, told, noted, followed, after_visit, after_next, next_unit};
 
+use crate::known::{Known, is_known, note_known};
 use a2_device::Device;
 use std::alloc::{AllocError, Allocator};
 use vol_format::{Format, Link};
@@ -20,25 +22,39 @@ pub enum Pending {
     Tell(Fault),
 }
 
-/// The parts so far, what is to do next with the first of it last, the faults so far, and which places were met.
+/// The parts so far, what is to do next with the first of it last, the faults so far, which places were met, and which faults of them are known.
 #[derive(Drop)]
 pub struct Walk<A: Allocator> {
     pub parts: Vec<Part, A>,
     pub pending: Vec<Pending, A>,
     pub faults: Vec<Fault, A>,
     pub visited: Vec<bool, A>,
+    pub known: Vec<Known, A>,
 }
 
 // A walk that has seen nothing.
 fn start<A: Allocator + Copy>(alloc: A, places: u32) -> Result<Walk<A>, AllocError>
-    ensures { IfOk result (λ walk. lists walk ≡ record { parts = []; pending = []; faults = []; visited = replicate places false }) }
+    ensures { IfOk result (λ walk. lists walk ≡ record { parts = []; pending = []; faults = []; visited = replicate places false; known = replicate places none_known }) }
 {
     Ok(Walk {
         parts: Vec::new(alloc),
         pending: Vec::new(alloc),
         faults: Vec::new(alloc),
         visited: vec![in alloc; false; places as usize]?,
+        known: vec![in alloc; Known::nothing(); places as usize]?,
     })
+}
+
+// Tells a fault, unless it was told before.
+fn tell<A: Allocator>(walk: &mut Walk<A>, fault: Fault) -> Result<(), AllocError>
+    ensures { OnOk result (lists walk.new ≡ told fault (lists walk.old)) }
+{
+    if !walk.faults.is_empty() && is_known(walk.known.as_slice(), fault) {
+        return Ok(());
+    }
+    walk.faults.push(fault)?;
+    note_known(walk.known.as_mut_slice(), fault);
+    Ok(())
 }
 
 // Takes a part up, unless its place is the system's or was met before.
@@ -55,11 +71,11 @@ fn admit<F: Format, A: Allocator>(
     ensures walk { OnOk result (lists walk.new ≡ admitted (F.directory format.now volume.now) part (lists walk.old)) }
 {
     if format.index(volume, part.place).is_none() {
-        walk.faults.push(Fault::InSystem(part.place))?;
+        tell(walk, Fault::InSystem(part.place))?;
         return Ok(false);
     }
     if walk.visited[part.place as usize] {
-        walk.faults.push(Fault::Shared(part.place))?;
+        tell(walk, Fault::Shared(part.place))?;
         return Ok(false);
     }
     if format.is_free(volume, part.place) {
@@ -159,10 +175,7 @@ fn go_on<D: Device, F: Format, A: Allocator>(
 {
     match next {
         Pending::Visit(part) => visit(device, format, volume, part, unit, walk),
-        Pending::Tell(fault) => {
-            walk.faults.push(fault)?;
-            Ok(())
-        }
+        Pending::Tell(fault) => Ok(tell(walk, fault)?),
     }
 }
 
