@@ -20,8 +20,9 @@ use Rattle.file_cmds.specs.Files.{FileMeaning}
 use Rattle.file_cmds.specs.FileList.{IsTextOfFirst}
 use Rattle.file_cmds.proofs.ByList.{text_by_list}
 use Rattle.event_replay.specs.Moments.{HasSession, Moment}
-use Rattle.event_replay.specs.Runs.{IsRun, IsTurn, KeepsAll, KeepsVolume, LosesFew, Reads, ReadsFile, Steps, Stops, wrote, read_failed, write_failed, write_failed_and_stands, nothing_left, not_open, gave, no_file, failed, no_memory, no_session, opened, refused}
-use Rattle.event_replay.specs.Volumes.{HasDeficit, HasFewLost, Opens, Writes}
+use Rattle.event_replay.specs.Runs.{IsRun, IsTurn, AllReopen, KeepsAll, KeepsVolume, LosesFew, Reads, ReadsFile, Reopens, Steps, Stops, wrote, read_failed, write_failed, write_failed_and_stands, nothing_left, not_open, gave, no_file, failed, no_memory, no_session, opened, refused}
+use Rattle.event_replay.specs.Volumes.{HasDeficit, HasFewLost, HasRoom, Opens, Writes}
+use Rattle.event_replay.proofs.Rooms.{room_kept, room_opens}
 use Rattle.event_replay.specs.declared.event.Answer.{Answer}
 use Rattle.event_replay.specs.declared.event.Answer.TheVariants.{Stepped, Bytes, Refused, NoMemory}
 use Rattle.event_replay.specs.declared.event.Event.{Event}
@@ -102,6 +103,7 @@ module _ (A : Type 0) (format : Meaning) (laws : IsReadable format) (movable : I
       files = has_files;
       same = same_volume-trans format laws first.store old.store new.store keeps.files.directory keeps.files.accepted.described keeps.same writes.same;
       deficit = has_deficit;
+      room = λ at_first. room_kept format laws old new writes (keeps.room at_first);
     }
 
   keeps_along : (old new : Moment) → KeepsVolume format all first old → new.store ≡ old.store → new.moves ≡ old.moves → KeepsVolume format all first new
@@ -111,6 +113,7 @@ module _ (A : Type 0) (format : Meaning) (laws : IsReadable format) (movable : I
     deficit = λ deficit is.
         let before = keeps.deficit deficit is in
         (before.0, subst (λ s. HasDeficit format s before.0) (sym store) before.1, omega (arith, before.2, moves));
+    room = λ at_first. subst (HasRoom format) (sym store) (keeps.room at_first);
   }
 
   keeps_turn : (old new : Moment) → KeepsVolume format all first old → Moves format old new → KeepsVolume format all first new
@@ -205,11 +208,33 @@ module _ (A : Type 0) (format : Meaning) (laws : IsReadable format) (movable : I
   reads_run old (event ∷ events) [] run keeps is = absurd is
   reads_run old (event ∷ events) (answer ∷ answers) [] keeps is = absurd is
 
+  reopens : (old : Moment) (event : Event) (answer : Answer A) (new : Moment) → HasRoom format old.store → IsTurn format files old event answer new → Reopens old event new
+  reopens old Stop answer new room (opened lost writes opens) = inl tt
+  reopens old Stop answer new room (failed ordered) = inr ordered
+  reopens old Stop answer new room (refused error can) = absurd (room_opens format laws old.store error room can)
+  reopens old Step answer new room turn = tt
+  reopens old (Read path) answer new room turn = tt
+  reopens old FailRead answer new room turn = tt
+  reopens old (FailWrite took) answer new room turn = tt
+
+  reopen_run : (old : Moment) (events : List Event) (answers : List (Answer A)) (run : List Moment) → HasRoom format first.store → KeepsVolume format all first old
+      → IsRun format files old events answers run → AllReopen old events run
+  reopen_run old [] [] [] room keeps is = tt
+  reopen_run old (event ∷ events) (answer ∷ answers) (new ∷ run) room keeps is = (
+    reopens old event answer new (keeps.room room) is.0,
+    reopen_run new events answers run room (keeps_turn old new keeps (turn_moves A format files old event answer new is.0)) is.1,
+  )
+  reopen_run old [] [] (new ∷ run) room keeps is = absurd is
+  reopen_run old [] (answer ∷ answers) run room keeps is = absurd is
+  reopen_run old (event ∷ events) [] run room keeps is = absurd is
+  reopen_run old (event ∷ events) (answer ∷ answers) [] room keeps is = absurd is
+
   starts : HasFiles format first.store all → first.moves ≡ 0 → KeepsVolume format all first first
   starts has none = record {
     files = has;
     same = same_volume-refl format laws first.store;
     deficit = λ deficit is. (deficit, is, omega (arith, none));
+    room = λ at_first. at_first;
   }
 
   pub keeps_all : (events : List Event) (answers : List (Answer A)) (run : List Moment) → HasFiles format first.store all → first.moves ≡ 0
@@ -218,4 +243,5 @@ module _ (A : Type 0) (format : Meaning) (laws : IsReadable format) (movable : I
     volumes = keeps_run first events answers run (starts has none) is;
     lost = λ there. few_run first events answers run (few there) is;
     reads = reads_run first events answers run (starts has none) is;
+    reopens = λ room. reopen_run first events answers run room (starts has none) is;
   }

@@ -6,5 +6,6 @@ pub mod StepTurns
 pub mod ReadTurns
 pub mod StopTurns
 pub mod Turns
+pub mod Rooms
 pub mod Keeping
 pub mod WholeRuns

@@ -1,9 +1,10 @@
 -- A step of a replay is a line of a run.
-use Rattle.std.specs.Prelude.{◌≡◌, ◌⊎◌, ℕ, ◌+◌, true, false, List, [], ◌∷◌, length, slice_set, Result, Ok, Err, None, Some}
+use Rattle.std.specs.Prelude.{◌≡◌, ◌⊎◌, ℕ, ◌+◌, true, false, List, [], ◌∷◌, length, slice_set, Contains, Result, Ok, Err, None, Some}
 use Rattle.std.proofs.Common.{refl, sym, ◌∙◌, ap, subst, arith, inl, inr}
 use Rattle.vol_format.specs.Accepted.{IsVolume}
 use Rattle.vol_format.specs.Laws.{IsMovable, IsReadable}
 use Rattle.vol_format.specs.Meaning.{Meaning}
+use Rattle.vol_format.specs.Standing.{IsLost}
 use Rattle.vol_files.specs.Layout.{HasLayout}
 use Rattle.plan_writes.specs.Tasks.{Task, Map, Copy, Pointer, course_after}
 use Rattle.vol_mover.specs.Open.{IsOpen}
@@ -18,6 +19,7 @@ use Rattle.vol_mover.proofs.Stepping.{first_task}
 use Rattle.event_replay.specs.Holds.{ASession, step_answer}
 use Rattle.event_replay.specs.Moments.{Moment, Open, Closed, IsNotOpen}
 use Rattle.event_replay.specs.Runs.{Steps, wrote, read_failed, write_failed, write_failed_and_stands, nothing_left, not_open}
+use Rattle.event_replay.specs.Volumes.{IsInOrder}
 use Rattle.event_replay.specs.declared.event.Answer.{Answer}
 use Rattle.event_replay.specs.declared.event.Answer.TheVariants.{Stepped, Refused}
 use Rattle.event_replay.proofs.Devices.{has_written, later, read_failed as device_read_failed, write_failed as device_write_failed}
@@ -39,6 +41,9 @@ advanced_tasks : (old : Present) (task : Task) (rest : List Task) → (advanced 
 advanced_tasks old (Map at marks) rest = refl
 advanced_tasks old (Copy move) rest = refl
 advanced_tasks old (Pointer move) rest = refl
+
+none_there : (place : ℕ) → Contains [] place → ⊥
+none_there place has = omega (arith, has.1)
 
 rest_of : (task other : Task) (rest more : List Task) → task ∷ rest ≡ other ∷ more → rest ≡ more
 rest_of task other rest more same = cc (same)
@@ -68,6 +73,13 @@ module _ (A : Type 0) (format : Meaning) (laws : IsReadable format) (movable : I
     was_open : IsOpen format old.opening old.device.store old.parts opened.course
     was_open = opened.is.is_open device.honest opened.not_closed
 
+    layout : HasLayout format old.device.store opened.course.at
+    layout = open_layout format movable old.opening old.device.store old opened.course was_open
+
+    same_directory : layout.directory ≡ was_open.directory
+    same_directory =
+        laws.one_directory old.device.store layout.directory was_open.directory layout.accepted.described was_open.accepted.described
+
     done_line : IsStep format old new (Ok Done) → IsLine Stepped
     done_line step =
         let same : new ≡ old = step.still (inr refl) in
@@ -75,12 +87,14 @@ module _ (A : Type 0) (format : Meaning) (laws : IsReadable format) (movable : I
         let all = step.all_done refl opened.course opened.is in
         let left_is : now.session ≡ Open 0 = opened.left ∙ ap (λ (tasks : List Task). Open (length tasks)) none in (
           now,
-          nothing_left left_is (record {
+          nothing_left left_is (subst (IsInOrder format) device.stands (record {
             at = opened.course.at;
-            layout = subst (λ s. HasLayout format s opened.course.at) device.stands
-                (open_layout format movable old.opening old.device.store old opened.course was_open);
+            layout = layout;
             target = all.target;
-          }),
+            none_lost = λ place lost. none_there place
+                (subst (λ (places : List ℕ). Contains places place) all.found
+                ((was_open.lost place).1 (subst (λ d. IsLost format d old.device.store place) same_directory lost)));
+          })),
           (unchanged same, (volume, inl (subst (λ p. IsOpenAt format p now.session now.opened now.writes now.moves) (sym same) opened))),
         )
 

@@ -3,14 +3,7 @@ use Rattle.std.specs.Prelude.{◌≡◌, ◌⊎◌, ◌<◌, ℕ, suc, zero, ◌
 use Rattle.std.proofs.Common.{refl, sym, ◌∙◌, ap, subst, arith, inl, inr, get_or}
 use Rattle.std.proofs.lemmas.List.{take_more}
 use Rattle.a2_device.specs.Device.{DeviceState, OnlyReads}
-use Rattle.vol_parts.specs.declared.part.Part.{Part}
-use Rattle.move_plan.specs.Planning.{LacksFreePlace}
-use Rattle.vol_format.specs.Reach.{IsPartsOf}
-use Rattle.vol_format.specs.Standing.{layout_of}
-use Rattle.vol_files.proofs.OneList.{one_parts}
-use Rattle.vol_opening.specs.declared.error.OpenError.{OpenError}
-use Rattle.vol_opening.specs.declared.error.OpenError.TheVariants.{Check, Lost, NoFreePlace, Device, Memory}
-use Rattle.event_replay.specs.Volumes.{CantOpen, HasRoom}
+use Rattle.event_replay.specs.Volumes.{HasRoom}
 use Rattle.vol_format.specs.Laws.{IsMovable, IsReadable}
 use Rattle.vol_format.specs.Meaning.{Meaning}
 use Rattle.vol_files.specs.Files.{File, HasFiles}
@@ -25,6 +18,7 @@ use Rattle.event_replay.specs.declared.event.Event.{Event}
 use Rattle.event_replay.specs.declared.event.Event.TheVariants.{Step, Stop}
 use Rattle.event_replay.proofs.Devices.{only_read}
 use Rattle.event_replay.proofs.Keeping.{few_opened, keeps_all}
+use Rattle.event_replay.proofs.Rooms.{room_opens}
 use Rattle.event_replay.proofs.Turns.{last_on, run_on, turn_line}
 
 -- the first that was not answered
@@ -106,24 +100,10 @@ module _ (A : Type 0) (format : Meaning) (laws : IsReadable format) (movable : I
   first_few store first (opened lost writes opens) there = few_opened A format laws movable files [] (first_moment store Absent 0) store lost writes opens 0 0
   first_few store first (refused error can) there = absurd there
 
-  -- a volume with room is opened
-  has_room : (store : List (List ℕ)) (error : OpenError A) → HasRoom format store → CantOpen format store error → ⊥
-  has_room store (Check faults) room can = can.refused room.directory room.accepted
-  has_room store NoFreePlace room can =
-      let same : room.directory ≡ can.directory = laws.one_directory store room.directory can.directory room.accepted.described can.accepted.described in
-      let parts : room.parts ≡ can.told.parts =
-      one_parts format can.directory store room.parts can.told.parts (subst (λ d. IsPartsOf format d store room.parts) same room.are_parts) can.parts in
-      let free = subst (λ (ps : List Part). ¬ LacksFreePlace (record { at = layout_of can.directory ps; places = length can.directory.available })) parts
-      (subst (λ d. ¬ LacksFreePlace (record { at = layout_of d room.parts; places = length d.available })) same room.free) in
-      free (subst LacksFreePlace can.is_told.layout can.refuses.1)
-  has_room store (Lost count) room can = can
-  has_room store Device room can = can
-  has_room store Memory room can = can
-
   first_session : (store : List (List ℕ)) (answers : List (Answer A)) (first : Moment) → Begins A format store first ⊎ ((answers ≡ []) × (first ≡ first_moment store Absent 0))
       → HasRoom format store → (answers ≡ []) ⊎ HasSession first.session
   first_session store answers first (inl (opened lost writes opens)) room = inr tt
-  first_session store answers first (inl (refused error can)) room = absurd (has_room store error room can)
+  first_session store answers first (inl (refused error can)) room = absurd (room_opens format laws store error room can)
   first_session store answers first (inr none) room = inl none.0
 
   first_store : (store : List (List ℕ)) (first : Moment) → Begins A format store first → (first.store ≡ store) × (first.moves ≡ 0)

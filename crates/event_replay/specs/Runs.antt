@@ -17,7 +17,7 @@ use Rattle.event_replay.specs.declared.event.Event.{Event}
 use Rattle.event_replay.specs.declared.event.Event.TheVariants.{Step, Read, FailRead, FailWrite, Stop}
 
 -- A step of an open session makes one unit write; or a read or a write met the failure that was ordered, and a failed write closes the session; or nothing is left to
--- write, and each part stands at its target. Without an open session a step is refused.
+-- write, each part stands at its target and no place is lost. Without an open session a step is refused.
 pub data Steps {A : Type 0} (format : Meaning) (old : Moment) : Answer A → Moment → Type 0 where
   wrote : (left : ℕ) (new : Moment) → old.session ≡ Open (left + 1) → Writes format old new → Steps format old Stepped (record new { session = Open left })
   read_failed : (left : ℕ) → old.session ≡ Open (left + 1) → old.fails_read ≡ true → Steps format old Refused (record old { fails_read = false })
@@ -78,22 +78,35 @@ abbrev pub ReadsFile : {A : Type 0} → Meaning → FileMeaning → List File �
 ReadsFile format files all (Read path) (Bytes bytes) = IsTextOfFirst files format.unit_size all path.now false bytes.items
 ReadsFile format files all event answer = Unit {0}
 
--- What holds of each moment of a run whose first store is a volume with these files: the store is a volume, with the same files and the same units of the system; and the
--- changes of its layout and the deficit now are together the deficit at first.
+-- What holds of each moment of a run whose first store is a volume with these files: the store is a volume, with the same files and the same units of the system; the
+-- changes of its layout and the deficit now are together the deficit at first; and where it had a free place at first, or was in order, it has one now, or is.
 pub record KeepsVolume (format : Meaning) (all : List File) (first now : Moment) : Type 0 where
   pub files : HasFiles format now.store all
   pub same : SameVolume format first.store now.store
   pub deficit : (deficit : ℕ) → HasDeficit format first.store deficit → (left : ℕ) × HasDeficit format now.store left × (now.moves + left ≡ deficit)
+  pub room : HasRoom format first.store → HasRoom format now.store
 
 -- few places are lost, as at the last opening
 abbrev pub LosesFew : Meaning → Moment → Type 0
 LosesFew format now = HasFewLost format now.opened now.store now.writes now.moves
 
--- What holds of a run from a volume with these files.
+-- a stop opens a session, unless it met the failure that was ordered
+abbrev pub Reopens : Moment → Event → Moment → Type 0
+Reopens old Stop new = HasSession new.session ⊎ (old.fails_read ≡ true)
+Reopens old event new = Unit {0}
+
+-- so does each stop of a run
+abbrev pub AllReopen : Moment → List Event → List Moment → Type 0
+AllReopen old [] [] = Unit {0}
+AllReopen old (event ∷ events) (new ∷ run) = Reopens old event new × AllReopen new events run
+AllReopen old events run = ⊥
+
+-- What holds of a run from a volume with these files. Where that has a free place, or is in order, the volume itself is never a reason not to open a session.
 pub record KeepsAll {A : Type 0} (format : Meaning) (files : FileMeaning) (all : List File) (first : Moment) (events : List Event) (answers : List (Answer A)) (run : List Moment) : Type 0 where
   pub volumes : All (KeepsVolume format all first) (first ∷ run)
   pub lost : HasSession first.session → All (LosesFew format) (first ∷ run)
   pub reads : AllZip (ReadsFile format files all) events answers
+  pub reopens : HasRoom format first.store → AllReopen first events run
 
 -- The events that were answered, a front of the list; the moments of their run; and that it leads from the store of the device that was handed in to that of the device that
 -- is handed back, whose count of writes rose by the unit writes that stand. On a volume with a free place, or in order, a session is open at first.

@@ -20,11 +20,12 @@ use Rattle.vol_mover.specs.Steps.{MovesOne}
 use Rattle.vol_mover.specs.Volume.{SameVolume}
 use Rattle.event_replay.specs.Moments.{Moment, Opened}
 
--- each part of an accepted volume stands at its target
+-- each part of an accepted volume stands at its target, and no place is lost
 pub record IsInOrder (format : Meaning) (store : List (List ℕ)) : Type 0 where
   pub at : List ℕ
   pub layout : HasLayout format store at
   pub target : IsTarget at
+  pub none_lost : (place : ℕ) → ¬ IsLost format layout.directory store place
 
 -- the deficit of a volume's layout
 pub record HasDeficit (format : Meaning) (store : List (List ℕ)) (deficit : ℕ) : Type 0 where
