@@ -117,8 +117,8 @@ fn three_with_one_list(alloc: Global) -> Result<Vec<u8>, AllocError>
 }
 
 #[test]
-fn files_that_share_a_list_are_told_once_each(rt: HostRuntime) -> Result<(), Fail> {
-    let faults = [Fault::Shared(62), Fault::Shared(62)];
+fn a_list_that_three_files_share_is_told_once(rt: HostRuntime) -> Result<(), Fail> {
+    let faults = [Fault::Shared(62)];
     assert!(rt; refuses(rt.alloc(), three_with_one_list(rt.alloc())?, &faults));
     Ok(())
 }
