@@ -25,13 +25,12 @@ fn given_unit<A: Allocator>(
     ensures value { IfOk result (λ unit. unit.items ≡ given_unit size stored.now units.now number) }
     ensures size { IfOk result (λ unit. length unit.items ≡ size) }
 {
-    let mut unit = vec![in alloc; 0; size]?;
     let number = number as usize;
     if number < stored.len() && stored[number] {
         let from = size * number;
-        unit.copy_from_slice(&units[from..from + size]);
+        return Vec::from_slice(alloc, &units[from..from + size]);
     }
-    Ok(unit)
+    vec![in alloc; 0; size]
 }
 
 // The unit of a table.

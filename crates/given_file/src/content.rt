@@ -38,6 +38,9 @@ pub struct FileUnits {
 /// The greatest length that two bytes say.
 const LONGEST: usize = 65_535;
 
+/// Room for a head, and for the zeros behind the last byte of a block.
+const SPARE: usize = 4 + 511;
+
 // Whether the head of a file cannot say its length.
 fn is_too_long(given: &GivenFile<'_>) -> bool
     ensures { IsTrue result ↔ IsTooLongForHead (given_view given.now) }
@@ -78,7 +81,7 @@ fn content(alloc: Global, given: &GivenFile<'_>) -> Result<Vec<u8>, GivenError>
     if is_too_long(given) {
         return Err(GivenError::TooLong);
     }
-    let mut bytes = Vec::new(alloc);
+    let mut bytes = Vec::with_capacity(alloc, given.bytes.len() + SPARE)?;
     push_head(&mut bytes, given)?;
     bytes.extend_from_slice(given.bytes)?;
     Ok(bytes)
