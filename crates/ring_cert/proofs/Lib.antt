@@ -1,4 +1,5 @@
 pub mod Boards
+pub mod ClaimFaults
 pub mod Distinct
 pub mod Faults
 pub mod LineForms

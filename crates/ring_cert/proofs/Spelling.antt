@@ -12,7 +12,7 @@ use Rattle.std.proofs.lemmas.Bool.{cases_lt}
 use Rattle.std.proofs.lemmas.Str.{digit_value_digit}
 use Rattle.std.proofs.lemmas.Int.Digits.{digits_value_more}
 use Rattle.ring_cert.specs.Certificates.{IsSmall, IsRingTold, word, line, ring_line}
-use Rattle.ring_cert.specs.Reading.{AreDigits, BeginsWithNoDigit, Lacks, LacksTwo, LacksWord}
+use Rattle.ring_cert.specs.Reading.{AreDigits, BeginsWithNoDigit, HasWords, Lacks, LacksTwo, LacksWord}
 
 pub own : IsNumeralModel AreDigits (digits_value 10)
 own = numerals_by_value AreDigits tells_by_index
@@ -219,21 +219,16 @@ words_same (m ∷ ms) (n ∷ ns) more rest small small' end none e =
     let tails : ms ≡ ns = rest_of.0 in
     (cc, rest_of.1)
 
--- the bytes are those of a ring's line so far: its name and words
-pub record HasWords (bytes parts rest : List ℕ) : Type 0 where
-  pub is : bytes ≡ codes "RING" ++ (flat_map word parts ++ rest)
-  pub small : All IsSmall parts
-  pub end : parts ≢ [] → BeginsWithNoDigit rest
-
-pub HasWords-none : (bytes rest : List ℕ) → bytes ≡ codes "RING" ++ rest → HasWords bytes [] rest
-HasWords-none bytes rest is = record { is = is; small = All-nil IsSmall; end = λ some. absurd (some refl) }
+-- words that were read
+pub HasWords-none : (bytes : List ℕ) → HasWords bytes [] bytes
+HasWords-none bytes = record { is = refl; small = All-nil IsSmall; end = λ some. absurd (some refl) }
 
 pub HasWords-more :
     (bytes parts rest : List ℕ) (n : ℕ) (next : List ℕ) → HasWords bytes parts rest → rest ≡ word n ++ next → IsSmall n → BeginsWithNoDigit next
     → HasWords bytes (parts ++ n ∷ []) next
 HasWords-more bytes parts rest n next before found small end =
     record {
-      is = before.is ∙ ap (λ xs. codes "RING" ++ xs) (ap (λ xs. flat_map word parts ++ xs) found
+      is = before.is ∙ (ap (λ xs. flat_map word parts ++ xs) found
           ∙ (sym (append_assoc (flat_map word parts) (word n) next) ∙ ap (λ xs. xs ++ next) (flat_map_more word [] parts n)));
       small = All-push IsSmall parts n before.small small;
       end = λ some. end;
@@ -247,25 +242,23 @@ word_longer rest n next is = omega (arith, ap length is, length-append (decimal 
 pub ring_no_name : (bytes : List ℕ) → ((rest : List ℕ) → bytes ≢ codes "RING" ++ rest) → Lacks IsRingTold ring_line bytes
 ring_no_name bytes none ring more told e = none (flat_map word ring ++ 10 ∷ more) (e ∙ line_apart (codes "RING") ring more)
 
--- the words of a ring's line are those that were read, and then the line ends
-ring_same :
-    (bytes parts rest ring more : List ℕ) → HasWords bytes parts rest → LacksWord rest → IsRingTold ring → bytes ≡ ring_line ring ++ more
-    → (ring ≡ parts) × (10 ∷ more ≡ rest)
-ring_same bytes parts rest ring more has none told e =
-    words_same ring parts more rest told.parts has.small has.end none
-    (append_cancel_left (codes "RING") (flat_map word ring ++ 10 ∷ more) (flat_map word parts ++ rest)
-    (sym (line_apart (codes "RING") ring more) ∙ (sym e ∙ has.is)))
+-- behind the name of a ring's line these words were read
+module _ (bytes named parts rest : List ℕ) (name : bytes ≡ codes "RING" ++ named) (has : HasWords named parts rest) where
+  ring_read : bytes ≡ codes "RING" ++ (flat_map word parts ++ rest)
+  ring_read = name ∙ ap (λ xs. codes "RING" ++ xs) has.is
 
-pub ring_no_end :
-    (bytes parts rest : List ℕ) → HasWords bytes parts rest → LacksWord rest → ((next : List ℕ) → rest ≢ (10 ∷ []) ++ next)
-    → Lacks IsRingTold ring_line bytes
-ring_no_end bytes parts rest has none end ring more told e = end more (sym (ring_same bytes parts rest ring more has none told e).1)
+  -- the words of a ring's line are those that were read, and then the line ends
+  ring_same : LacksWord rest → (ring more : List ℕ) → IsRingTold ring → bytes ≡ ring_line ring ++ more → (ring ≡ parts) × (10 ∷ more ≡ rest)
+  ring_same none ring more told e =
+      words_same ring parts more rest told.parts has.small has.end none
+      (append_cancel_left (codes "RING") (flat_map word ring ++ 10 ∷ more) (flat_map word parts ++ rest)
+      (sym (line_apart (codes "RING") ring more) ∙ (sym e ∙ ring_read)))
 
-pub ring_no_part :
-    (bytes parts rest : List ℕ) → HasWords bytes parts rest → LacksWord rest → parts ≡ [] → Lacks IsRingTold ring_line bytes
-ring_no_part bytes parts rest has none empty ring more told e = told.some ((ring_same bytes parts rest ring more has none told e).0 ∙ empty)
+  pub ring_no_end : LacksWord rest → ((next : List ℕ) → rest ≢ (10 ∷ []) ++ next) → Lacks IsRingTold ring_line bytes
+  ring_no_end none end ring more told e = end more (sym (ring_same none ring more told e).1)
 
-pub ring_found :
-    (bytes parts rest next : List ℕ) → HasWords bytes parts rest → rest ≡ (10 ∷ []) ++ next → bytes ≡ ring_line parts ++ next
-ring_found bytes parts rest next has end =
-    has.is ∙ (ap (λ xs. codes "RING" ++ (flat_map word parts ++ xs)) end ∙ sym (line_apart (codes "RING") parts next))
+  pub ring_no_part : LacksWord rest → parts ≡ [] → Lacks IsRingTold ring_line bytes
+  ring_no_part none empty ring more told e = told.some ((ring_same none ring more told e).0 ∙ empty)
+
+  pub ring_found : (next : List ℕ) → rest ≡ (10 ∷ []) ++ next → bytes ≡ ring_line parts ++ next
+  ring_found next end = ring_read ∙ (ap (λ xs. codes "RING" ++ (flat_map word parts ++ xs)) end ∙ sym (line_apart (codes "RING") parts next))

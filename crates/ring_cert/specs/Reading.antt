@@ -1,6 +1,7 @@
 -- What the readers of words and lines answer.
 use Rattle.std.specs.Prelude.{◌≡◌, ◌≢◌, ℕ, ◌<◌, List, [], ◌∷◌, ◌++◌, length, slice_index, All}
 use Rattle.std.specs.Int.{IsInRange}
+use Rattle.std.specs.List.{flat_map}
 use Rattle.vol_layout.specs.declared.moves.Move.{Move}
 use Rattle.ring_cert.specs.declared.sections.Stop.{Stop}
 use Rattle.ring_cert.specs.declared.sections.Stop.TheVariants.{Fault, OutOfMemory}
@@ -22,6 +23,12 @@ Lacks {X} Fits text bytes = (x : X) (more : List ℕ) → Fits x → bytes ≡ t
 -- they do not begin with a word, where a word ends before what is no digit
 abbrev pub LacksWord : List ℕ → Type 0
 LacksWord bytes = (n : ℕ) (more : List ℕ) → IsSmall n → BeginsWithNoDigit more → bytes ≡ word n ++ more → ⊥
+
+-- they are words of numbers, and what follows the last of them, which begins with no digit
+pub record HasWords (bytes numbers rest : List ℕ) : Type 0 where
+  pub is : bytes ≡ flat_map word numbers ++ rest
+  pub small : All IsSmall numbers
+  pub end : numbers ≢ [] → BeginsWithNoDigit rest
 
 -- they do not begin with a line of two numbers, with these names
 abbrev pub LacksTwo : List ℕ → List ℕ → List ℕ → Type 0

@@ -2,7 +2,8 @@
 
 ghost use Rattle.std.specs.Prelude.{◌≡◌, ◌≢◌, ◌+◌, ◌^◌, ◌<◌, ◌++◌, [], All, OnOk, IfOk, length};
 ghost use Rattle.std.specs.Fmt.{decimal};
-ghost use Rattle.ring_cert.specs.Certificates.{HasText, IsMoveTold, IsSmall, certificate_of, certificate_text, claim_text, layout_text, line, plan_text, size_line, word};
+ghost use Rattle.std.specs.List.{flat_map};
+ghost use Rattle.ring_cert.specs.Certificates.{HasText, IsMoveTold, IsSmall, certificate_of, certificate_text, claim_text, layout_text, line, off_line, plan_text, ring_line, size_line, word};
 ghost use Rattle.ring_cert.specs.Reading.{LayoutFits};
 
 use crate::words::MOST_DIGITS;
@@ -57,13 +58,34 @@ fn push_claim<A: Allocator, B: Allocator>(
     ensures small { OnOk result (All IsSmall misplaced.now) }
     ensures rings { OnOk result (All (All IsSmall) rings.now) }
 {
+    push_misplaced(text, misplaced)?;
+    push_rings(text, rings)?;
+    push_line(text, b"BOUND", &[(misplaced.len() + rings.len()) as u32])
+}
+
+/// The lines of misplaced parts.
+fn push_misplaced<A: Allocator>(text: &mut Vec<u8, A>, misplaced: &[u32]) -> Result<(), AllocError>
+    ensures text { OnOk result (text.new.items ≡ text.old.items ++ flat_map off_line misplaced.now) }
+    ensures small { OnOk result (All IsSmall misplaced.now) }
+{
     for part in misplaced {
         push_line(text, b"OFF", &[*part])?;
     }
+    Ok(())
+}
+
+/// The lines of rings.
+fn push_rings<A: Allocator, B: Allocator>(
+    text: &mut Vec<u8, A>,
+    rings: &[Ring<B>],
+) -> Result<(), AllocError>
+    ensures text { OnOk result (text.new.items ≡ text.old.items ++ flat_map ring_line rings.now) }
+    ensures small { OnOk result (All (All IsSmall) rings.now) }
+{
     for ring in rings {
         push_line(text, b"RING", ring.parts())?;
     }
-    push_line(text, b"BOUND", &[(misplaced.len() + rings.len()) as u32])
+    Ok(())
 }
 
 /// The lines of a plan, and the last line.

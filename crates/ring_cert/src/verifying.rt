@@ -8,7 +8,7 @@ ghost use Rattle.vol_layout.specs.declared.moves.Move.{Move};
 ghost use Rattle.std.specs.List.{concat};
 ghost use Rattle.ring_cert.specs.Good.{AddsUp, IsFirstFault, IsFirstNot, IsGood, IsOfLayout, IsRightSoFar};
 ghost use Rattle.ring_cert.specs.MoveFaults.{IsFaultOfMove};
-ghost use Rattle.ring_cert.specs.RingFaults.{IsFaultOfRings};
+ghost use Rattle.ring_cert.specs.RingFaults.{IsFaultOfParts, IsFaultOfRings};
 ghost use Rattle.ring_cert.specs.Seen.{HasMet};
 ghost use Rattle.ring_cert.specs.Told.{told};
 
@@ -59,11 +59,31 @@ fn weigh_claim<A: Allocator + Copy, B: Allocator, C: Allocator>(
     if let Some(part) = part_at_home(layout.at(), cert.off.as_slice()) {
         return Err(CertFault::NotMisplaced(part));
     }
-    let mut seen = Seen::new(alloc, layout.at().len())?;
-    if let Some(part) = seen.repeat_in(cert.off.as_slice())? {
+    weigh_parts(
+        alloc,
+        layout.at(),
+        cert.off.as_slice(),
+        cert.rings.as_slice(),
+    )
+}
+
+/// Whether no part is told twice, and the rings are rings.
+fn weigh_parts<A: Allocator + Copy, B: Allocator>(
+    alloc: A,
+    at: &[u32],
+    off: &[u32],
+    rings: &[Parts<B>],
+) -> Result<(), CertFault>
+    ensures off { OnOk result (AreDistinct off.now) }
+    ensures once { OnOk result (AreDistinct (concat rings.now)) }
+    ensures rings { OnOk result (All (IsRing at.now) rings.now) }
+    ensures fault { IfErr result (IsFaultOfParts at.now off.now rings.now) }
+{
+    let mut seen = Seen::new(alloc, at.len())?;
+    if let Some(part) = seen.repeat_in(off)? {
         return Err(CertFault::Repeated(part));
     }
-    weigh_rings(layout.at(), cert.rings.as_slice(), &mut seen)
+    weigh_rings(at, rings, &mut seen)
 }
 
 /// Whether the moves can be made and bring each part home, and the bound adds up.

@@ -4,7 +4,7 @@ ghost use Rattle.std.specs.Prelude.{◌≡◌, ℕ, ◌<◌, ◌≤◌, ◌∷�
 ghost use Rattle.std.specs.Fmt.{decimal};
 ghost use Rattle.std.specs.Str.Parse.{digits_value};
 ghost use Rattle.ring_cert.specs.Certificates.{IsRingTold, IsSmall, line, ring_line, word};
-ghost use Rattle.ring_cert.specs.Reading.{AreDigits, BeginsWithNoDigit, Lacks, LacksTwo, LacksWord};
+ghost use Rattle.ring_cert.specs.Reading.{AreDigits, BeginsWithNoDigit, HasWords, Lacks, LacksTwo, LacksWord};
 
 use crate::parts::Parts;
 use std::alloc::{AllocError, Allocator};
@@ -117,6 +117,20 @@ pub fn two_numbers_at<'a>(
     Some((first, second, next))
 }
 
+/// The words at the front, as many as there are, and what follows them.
+fn words_at<A: Allocator>(alloc: A, bytes: &[u8]) -> Result<(Vec<u32, A>, &[u8]), AllocError>
+    ensures words { IfOk result (λ x. HasWords bytes.now x.0.items x.1.now) }
+    ensures end { IfOk result (λ x. LacksWord x.1.now) }
+{
+    let mut numbers = Vec::new(alloc);
+    let mut rest = bytes;
+    while let Some((number, next)) = word_at(rest) {
+        numbers.push(number)?;
+        rest = next;
+    }
+    Ok((numbers, rest))
+}
+
 /// The line of a ring at the front, and what follows it.
 pub fn ring_at<A: Allocator>(
     alloc: A,
@@ -126,14 +140,10 @@ pub fn ring_at<A: Allocator>(
     ensures told { IfOk result (λ found. IfSome found (λ x. IsRingTold x.0)) }
     ensures none { IfOk result (λ found. IfNone found (Lacks IsRingTold ring_line bytes.now)) }
 {
-    let Some(mut rest) = after(bytes, b"RING") else {
+    let Some(named) = after(bytes, b"RING") else {
         return Ok(None);
     };
-    let mut parts = Vec::new(alloc);
-    while let Some((part, next)) = word_at(rest) {
-        parts.push(part)?;
-        rest = next;
-    }
+    let (parts, rest) = words_at(alloc, named)?;
     let Some(next) = after(rest, b"\n") else {
         return Ok(None);
     };

@@ -1,7 +1,13 @@
-use Rattle.std.proofs.Common.{arith}
+use Rattle.std.proofs.Common.{◌++◌, arith}
 use Rattle.std.proofs.lemmas.List.{take_all}
-use Rattle.ring_cert.proofs.Written.{line_written}
+use Rattle.ring_cert.specs.Certificates.{word}
+use Rattle.ring_cert.proofs.Written.{line_written, run_written}
 use Rattle.ring_cert.proofs.printing.push_line.Goals as goal
+
+pub loop-number-preserved : goal.loop-number-preserved
+loop-number-preserved g c =
+    run_written word (c.args.text.now.items ++ c.args.name.now) c.args.numbers.now c.loop-number.number-index 0 c.loop-number.text.items c.push_word.new.text.items
+    c.loop-number-test.true c.loop-number.invariant c.in_ok-push_word.ensures
 
 pub returns-clause-text : goal.returns-clause-text
 returns-clause-text g c =
