@@ -7,6 +7,7 @@ use Rattle.vol_layout.specs.declared.moves.Move.{Move}
 use Rattle.vol_layout.specs.Layouts.{Placement, AreDistinct, IsTarget}
 use Rattle.vol_layout.specs.Plans.{IsLegal, IsPlan, after, moved}
 use Rattle.vol_layout.specs.Rings.{IsRing, turned}
+use Rattle.ring_cert.specs.Good.{IsFirstIllegal}
 use Rattle.vol_layout.proofs.RingLemmas.{length_turned}
 use Rattle.vol_layout.proofs.PlanLemmas.{IsPlan-push, after-push}
 
@@ -54,4 +55,19 @@ ReachesTo-more start now new moves i d within before legal is =
       legal = subst (IsPlan start.at start.places) (sym more) (IsPlan-push start.at start.places (take i moves) m before.legal can);
       reached = ap (λ p. p.at) is ∙ (ap (λ at. moved at m) before.reached ∙ (sym (after-push start.at (take i moves) m) ∙ ap (after start.at) (sym more)));
       places = ap (λ p. p.places) is ∙ before.places;
+    }
+
+-- the first move that cannot be made
+pub ReachesTo-illegal :
+    (start now : Placement) (moves : List Move) (i : ℕ) (d : Move)
+    → i < length moves → ReachesTo start now moves i → (IsLegal now.at now.places (get_or moves i d) → ⊥) → IsFirstIllegal start moves i
+ReachesTo-illegal start now moves i d within before not =
+    record {
+      within = within;
+      before = before.legal;
+      here = λ e legal.
+          let m = get_or moves i e in
+          let here = subst (λ p. IsLegal (after start.at (take i moves)) p m) (sym before.places) legal in
+          let now_here = subst (λ at. IsLegal at now.places m) (sym before.reached) here in
+          not (subst (IsLegal now.at now.places) (get_or_default moves i e d within) now_here);
     }
