@@ -6,8 +6,8 @@ ghost use Rattle.clap.specs.Simple.{app_of};
 ghost use Rattle.shop_words.specs.Grammar.{rule_of_parameter, leaf_app, shop};
 ghost use Rattle.shop_words.specs.Table.{parameter_view, form_view, forms};
 
-use crate::notes;
 use crate::table::{Form, Kind, Parameter, table};
+use crate::{help, notes};
 use clap::{Arg, ArgAction, Command};
 use std::alloc::{AllocError, Global};
 
@@ -19,7 +19,7 @@ fn argument<'a>(alloc: Global, parameter: &Parameter) -> Arg<'a>
     ensures rule { rule_of result ≡ rule_of_parameter (parameter_view parameter.now) }
     ensures local { result.global ≡ false }
 {
-    let argument = Arg::new(alloc, parameter.name).help(parameter.help);
+    let argument = Arg::new(alloc, parameter.name).help(parameter.help.text());
     match parameter.kind {
         Kind::Positional => argument.required(true),
         Kind::Needed(_) => argument.long(parameter.name).required(true),
@@ -34,7 +34,7 @@ fn command_of<'a>(alloc: Global, form: &Form) -> Result<Command<'a>, AllocError>
     ensures local { IfOk result (λ c. (out-Command c).has_globals ≡ false) }
 {
     let mut command = Command::new(alloc, form.name)
-        .about(form.help)
+        .about(help::of(form.name))
         .after_help(notes::of(form.name));
     for parameter in form.parameters {
         command = command.arg(argument(alloc, parameter))?;

@@ -21,6 +21,7 @@ mod editing;
 mod escaping;
 mod fault;
 mod grammar;
+mod help;
 mod job;
 mod notes;
 mod optimizing;

@@ -9,7 +9,7 @@ use crate::grammar::{full_command, program};
 use crate::reading::{has_flag, number_named, said};
 use crate::table::{Form, Kind, Parameter, Values, table};
 use clap::error::ErrorKind;
-use clap::{ArgMatches, Error};
+use clap::{ArgMatches, Command, Error};
 use std::alloc::{AllocError, Global};
 
 /// The form of the command with this name.
@@ -22,12 +22,17 @@ fn form_named(name: &str) -> Option<&'static Form> {
     None
 }
 
+/// The command that the words name, or the program.
+fn command_meant<'a>(alloc: Global, words: &[String]) -> Result<Command<'a>, AllocError> {
+    match words.first().and_then(|word| form_named(word.as_str())) {
+        Some(form) => full_command(alloc, form),
+        None => program(alloc),
+    }
+}
+
 /// The usage of the command that the words name, or of the program.
 fn usage_of(alloc: Global, words: &[String]) -> Result<String, AllocError> {
-    match words.first().and_then(|word| form_named(word.as_str())) {
-        Some(form) => full_command(alloc, form)?.render_usage(),
-        None => program(alloc)?.render_usage(),
-    }
+    command_meant(alloc, words)?.render_usage()
 }
 
 /// What clap says of the words, with a usage where it shows none.
@@ -43,12 +48,18 @@ fn clap_text(alloc: Global, words: &[String], error: &Error) -> Result<String, A
 /// What is told where the words are those of no command, and nothing more is known.
 const NO_COMMAND: &str = "error: the words are those of no command\n";
 
+/// The error that clap has for the words.
+fn clap_error(alloc: Global, words: &[String]) -> Result<Option<Error>, AllocError> {
+    let matches = program(alloc)?.try_get_matches_from(words);
+    Ok(matches.err())
+}
+
 /// What clap says of refused words. It repeats some of them, so it is asked of the escaped ones.
 fn refused_text(alloc: Global, words: &[String]) -> Result<String, AllocError> {
     let shown = all_escaped(alloc, words)?;
-    match program(alloc)?.try_get_matches_from(shown.as_slice()) {
-        Ok(_) => NO_COMMAND.to_string(alloc),
-        Err(error) => match error.kind() {
+    match clap_error(alloc, shown.as_slice())? {
+        None => NO_COMMAND.to_string(alloc),
+        Some(error) => match error.kind() {
             ErrorKind::OutOfMemory => Err(AllocError),
             _ => clap_text(alloc, shown.as_slice(), &error),
         },
@@ -163,6 +174,16 @@ fn wanted(alloc: Global, values: Values) -> Result<String, AllocError> {
     }
 }
 
+/// The error that clap has for words of this command that are wrong in this way.
+fn command_error(
+    alloc: Global,
+    form: &Form,
+    kind: ErrorKind,
+    message: &str,
+) -> Result<Error, AllocError> {
+    full_command(alloc, form)?.error(kind, message)
+}
+
 impl Misfit<'_> {
     fn kind(self) -> ErrorKind {
         match self {
@@ -195,9 +216,8 @@ impl Misfit<'_> {
     /// What clap says of such words, with the command's usage.
     fn text(self, alloc: Global, form: &Form) -> Result<String, AllocError> {
         let message = self.message(alloc)?;
-        full_command(alloc, form)?
-            .error(self.kind(), message.as_str())?
-            .to_string(alloc)
+        let error = command_error(alloc, form, self.kind(), message.as_str())?;
+        error.to_string(alloc)
     }
 }
 

@@ -2,6 +2,8 @@
 ghost use Rattle.std.specs.Prelude.{◌≡◌, map};
 ghost use Rattle.shop_words.specs.Table.{form_view, forms};
 
+use crate::help::Help;
+
 /// What words an option takes.
 #[derive(Clone, Copy)]
 pub enum Values {
@@ -26,45 +28,43 @@ pub enum Kind {
     Flag,
 }
 
-/// A parameter of a command.
+/// A parameter of a command. Its help says nothing that is read.
 #[derive(Clone, Copy)]
 pub struct Parameter {
     pub name: &'static str,
     pub kind: Kind,
-    pub help: &'static str,
+    pub help: Help,
 }
 
-/// A command's name and its parameters; the positional ones are in the order of their words. The
-/// texts of its help say nothing that is read.
+/// A command's name and its parameters; the positional ones are in the order of their words.
 #[derive(Clone, Copy)]
 pub struct Form {
     pub name: &'static str,
     pub parameters: &'static [Parameter],
-    pub help: &'static str,
 }
 
 const IMAGE: Parameter = Parameter {
     name: "image",
     kind: Kind::Positional,
-    help: "File of the disk image; '-' is standard input",
+    help: Help::Image,
 };
 
 const NAME: Parameter = Parameter {
     name: "name",
     kind: Kind::Positional,
-    help: "Name of the file in the volume",
+    help: Help::Name,
 };
 
 const NEW: Parameter = Parameter {
     name: "new",
     kind: Kind::Positional,
-    help: "New name of the file; in ProDOS the last of its path, without a slash",
+    help: Help::NewName,
 };
 
 const FILE_SYSTEM: Parameter = Parameter {
     name: "fs",
     kind: Kind::Needed(Values::OneOf(&["dos", "prodos"])),
-    help: "File system of the volume, or auto for the one that identify names: dos, prodos or auto",
+    help: Help::FileSystem,
 };
 
 const ORDERS: Values = Values::OneOf(&["dos", "prodos", "nibble"]);
@@ -72,131 +72,127 @@ const ORDERS: Values = Values::OneOf(&["dos", "prodos", "nibble"]);
 const ORDER: Parameter = Parameter {
     name: "order",
     kind: Kind::Needed(ORDERS),
-    help: "Order of the sectors in the image, or auto for the one that identify names: dos, prodos, nibble or auto",
+    help: Help::Order,
 };
 
 const TO: Parameter = Parameter {
     name: "to",
     kind: Kind::Needed(ORDERS),
-    help: "Order of the sectors in the image that is written: dos, prodos or nibble",
+    help: Help::To,
 };
 
 const OUT: Parameter = Parameter {
     name: "out",
     kind: Kind::Needed(Values::Any),
-    help: "File that the image is written to",
+    help: Help::Out,
 };
 
 const OUT_FILE: Parameter = Parameter {
     name: "out",
     kind: Kind::Optional(Values::Any),
-    help: "File that the image is written to; this or --in-place",
+    help: Help::OutOrInPlace,
 };
 
 const IN_PLACE: Parameter = Parameter {
     name: "in-place",
     kind: Kind::Flag,
-    help: "Change the image in its own file; this or --out",
+    help: Help::InPlace,
 };
 
 const VOLUME: Parameter = Parameter {
     name: "volume",
     kind: Kind::Optional(Values::Number { greatest: 255 }),
-    help: "Volume number of the tracks that are made, 0 to 255; 254 if left out",
+    help: Help::Volume,
 };
 
 const DATA_DISK: Parameter = Parameter {
     name: "data-disk",
     kind: Kind::Flag,
-    help: "Tracks 1 and 2 hold files, as on a disk without DOS",
+    help: Help::DataDisk,
 };
 
 const RESERVE: Parameter = Parameter {
     name: "reserve",
     kind: Kind::Optional(Values::Any),
-    help: "Places that no file may stand at beside those of the system, as 3/14,4/0 or 7,280",
+    help: Help::Reserve,
 };
 
 const RECLAIM: Parameter = Parameter {
     name: "reclaim",
     kind: Kind::Flag,
-    help: "Mark the places free that are marked used and belong to no file",
+    help: Help::Reclaim,
 };
 
 const STOP_AFTER: Parameter = Parameter {
     name: "stop-after",
     kind: Kind::Optional(Values::Number { greatest: u64::MAX }),
-    help: "Stop after so many writes; without it, when all is done",
+    help: Help::StopAfter,
 };
 
 const CERT: Parameter = Parameter {
     name: "cert",
     kind: Kind::Optional(Values::Any),
-    help: "File that the certificate is written to, for verify --from",
+    help: Help::Cert,
 };
 
 const WORDS: Parameter = Parameter {
     name: "words",
     kind: Kind::Flag,
-    help: "Tell the moves in words, and not as a certificate",
+    help: Help::Words,
 };
 
 const FROM: Parameter = Parameter {
     name: "from",
     kind: Kind::Needed(Values::Any),
-    help: "File of the certificate, as optimize --cert and plan write it",
+    help: Help::Certificate,
 };
 
 const CONTENT: Parameter = Parameter {
     name: "from",
     kind: Kind::Needed(Values::Any),
-    help: "File whose bytes are saved",
+    help: Help::Content,
 };
 
 const TYPE: Parameter = Parameter {
     name: "type",
     kind: Kind::Optional(Values::Any),
-    help: "Type of the file: a letter T I A B S R for DOS 3.3, T if left out; two hexadecimal digits for ProDOS, 06 if left out",
+    help: Help::Type,
 };
 
 const AUX: Parameter = Parameter {
     name: "aux",
     kind: Kind::Optional(Values::Number { greatest: 65535 }),
-    help: "Auxiliary type, 0 to 65535; for DOS 3.3 the address of a binary file; 0 if left out",
+    help: Help::Aux,
 };
 
 const DATE: Parameter = Parameter {
     name: "date",
     kind: Kind::Optional(Values::Any),
-    help: "Date and time of its creation, for ProDOS, as 1986-05-01T12:30; none if left out",
+    help: Help::Date,
 };
 
 const WHOLE: Parameter = Parameter {
     name: "whole",
     kind: Kind::Flag,
-    help: "Take all bytes of the file's sectors, and not its content alone",
+    help: Help::Whole,
 };
 
 const FORMS: &[Form] = &[
     Form {
         name: "catalog",
         parameters: &[IMAGE, FILE_SYSTEM, ORDER, DATA_DISK],
-        help: "List the files of a volume",
     },
     Form {
         name: "check",
         parameters: &[IMAGE, FILE_SYSTEM, ORDER, DATA_DISK, RESERVE],
-        help: "Tell whether a volume is sound, or what is wrong with it",
     },
     Form {
         name: "read",
         parameters: &[IMAGE, NAME, FILE_SYSTEM, ORDER, WHOLE, DATA_DISK],
-        help: "Write the bytes of a file of a volume to standard output",
     },
     Form {
         name: "convert",
         parameters: &[IMAGE, ORDER, TO, OUT, VOLUME, DATA_DISK],
-        help: "Write the sectors of an image in another order; tracks that it makes are of volume 254 without --volume",
     },
     Form {
         name: "plan",
@@ -209,7 +205,6 @@ const FORMS: &[Form] = &[
             RECLAIM,
             WORDS,
         ],
-        help: "Tell the fewest moves that bring the files of a volume into order, as a certificate or in words",
     },
     Form {
         name: "optimize",
@@ -225,7 +220,6 @@ const FORMS: &[Form] = &[
             STOP_AFTER,
             CERT,
         ],
-        help: "Bring the files of a volume into order, by the fewest moves",
     },
     Form {
         name: "lock",
@@ -239,7 +233,6 @@ const FORMS: &[Form] = &[
             DATA_DISK,
             RESERVE,
         ],
-        help: "Lock a file of a volume, so that it is not deleted, renamed or written",
     },
     Form {
         name: "unlock",
@@ -253,7 +246,6 @@ const FORMS: &[Form] = &[
             DATA_DISK,
             RESERVE,
         ],
-        help: "Unlock a file of a volume",
     },
     Form {
         name: "delete",
@@ -267,7 +259,6 @@ const FORMS: &[Form] = &[
             DATA_DISK,
             RESERVE,
         ],
-        help: "Delete a file of a volume",
     },
     Form {
         name: "rename",
@@ -282,7 +273,6 @@ const FORMS: &[Form] = &[
             DATA_DISK,
             RESERVE,
         ],
-        help: "Rename a file of a volume",
     },
     Form {
         name: "save",
@@ -300,17 +290,14 @@ const FORMS: &[Form] = &[
             DATA_DISK,
             RESERVE,
         ],
-        help: "Save a new file to a volume",
     },
     Form {
         name: "verify",
         parameters: &[IMAGE, FILE_SYSTEM, ORDER, FROM, DATA_DISK, RESERVE, RECLAIM],
-        help: "Tell whether a certificate shows that no shorter plan brings a volume into order",
     },
     Form {
         name: "identify",
         parameters: &[IMAGE],
-        help: "Tell in which file systems and orders an image can be read, and which is best",
     },
 ];
 

@@ -1,0 +1,88 @@
+//! What help tells of each command and of each of its words, in a line.
+
+/// What is told of a parameter.
+#[derive(Clone, Copy)]
+pub enum Help {
+    Image,
+    Name,
+    NewName,
+    FileSystem,
+    Order,
+    To,
+    Out,
+    OutOrInPlace,
+    InPlace,
+    Volume,
+    DataDisk,
+    Reserve,
+    Reclaim,
+    StopAfter,
+    Cert,
+    Words,
+    Certificate,
+    Content,
+    Type,
+    Aux,
+    Date,
+    Whole,
+}
+
+impl Help {
+    pub fn text(self) -> &'static str {
+        match self {
+            Help::Image => "File of the disk image; '-' is standard input",
+            Help::Name => "Name of the file in the volume",
+            Help::NewName =>
+                "New name of the file; in ProDOS the last of its path, without a slash",
+            Help::FileSystem =>
+                "File system of the volume, or auto for the one that identify names: dos, prodos or auto",
+            Help::Order =>
+                "Order of the sectors in the image, or auto for the one that identify names: dos, prodos, nibble or auto",
+            Help::To => "Order of the sectors in the image that is written: dos, prodos or nibble",
+            Help::Out => "File that the image is written to",
+            Help::OutOrInPlace => "File that the image is written to; this or --in-place",
+            Help::InPlace => "Change the image in its own file; this or --out",
+            Help::Volume => "Volume number of the tracks that are made, 0 to 255; 254 if left out",
+            Help::DataDisk => "Tracks 1 and 2 hold files, as on a disk without DOS",
+            Help::Reserve =>
+                "Places that no file may stand at beside those of the system, as 3/14,4/0 or 7,280",
+            Help::Reclaim => "Mark the places free that are marked used and belong to no file",
+            Help::StopAfter => "Stop after so many writes; without it, when all is done",
+            Help::Cert => "File that the certificate is written to, for verify --from",
+            Help::Words => "Tell the moves in words, and not as a certificate",
+            Help::Certificate => "File of the certificate, as optimize --cert and plan write it",
+            Help::Content => "File whose bytes are saved",
+            Help::Type =>
+                "Type of the file: a letter T I A B S R for DOS 3.3, T if left out; two hexadecimal digits for ProDOS, 06 if left out",
+            Help::Aux =>
+                "Auxiliary type, 0 to 65535; for DOS 3.3 the address of a binary file; 0 if left out",
+            Help::Date =>
+                "Date and time of its creation, for ProDOS, as 1986-05-01T12:30; none if left out",
+            Help::Whole => "Take all bytes of the file's sectors, and not its content alone",
+        }
+    }
+}
+
+/// What the command with this name does.
+pub fn of(command: &str) -> &'static str {
+    match command {
+        "catalog" => "List the files of a volume",
+        "check" => "Tell whether a volume is sound, or what is wrong with it",
+        "read" => "Write the bytes of a file of a volume to standard output",
+        "convert" =>
+            "Write the sectors of an image in another order; tracks that it makes are of volume 254 without --volume",
+        "plan" =>
+            "Tell the fewest moves that bring the files of a volume into order, as a certificate or in words",
+        "optimize" => "Bring the files of a volume into order, by the fewest moves",
+        "lock" => "Lock a file of a volume, so that it is not deleted, renamed or written",
+        "unlock" => "Unlock a file of a volume",
+        "delete" => "Delete a file of a volume",
+        "rename" => "Rename a file of a volume",
+        "save" => "Save a new file to a volume",
+        "verify" =>
+            "Tell whether a certificate shows that no shorter plan brings a volume into order",
+        "identify" =>
+            "Tell in which file systems and orders an image can be read, and which is best",
+        _ => "",
+    }
+}
