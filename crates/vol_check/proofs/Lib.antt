@@ -1,3 +1,4 @@
+pub mod Admitting
 pub mod Pushed
 pub mod Telling
 pub mod Steps

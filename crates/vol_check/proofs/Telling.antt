@@ -1,5 +1,5 @@
 -- What a fault that is told, or was told before, leaves.
-use Rattle.std.proofs.Common.{◌≡◌, ◌≢◌, ℕ, Bool, true, false, List, [], ◌∷◌, ◌++◌, length, refl, ap}
+use Rattle.std.proofs.Common.{◌≡◌, ◌≢◌, Bool, true, false, List, [], ◌∷◌, ◌++◌, length, refl, ap}
 use Rattle.std.specs.Prelude.{◌==◌, not, ◌&&◌, if◌then◌else◌}
 use Rattle.vol_parts.specs.declared.fault.Fault.{Fault}
 use Rattle.vol_check.specs.Known.{is_known, knowing}

@@ -1,5 +1,5 @@
 -- A walk over the parts of all files: what is known of it whatever the device tells, and what each step does.
-use Rattle.std.specs.Prelude.{◌≡◌, ◌≢◌, ◌<◌, ◌≤◌, ◌==◌, ℕ, zero, suc, ◌+◌, Bool, true, false, not, ◌&&◌, if◌then◌else◌, List, [], ◌∷◌, ◌++◌, length, slice_index_or, slice_set, count_by, AllPairs, Contains}
+use Rattle.std.specs.Prelude.{◌≡◌, ◌≢◌, ◌<◌, ◌≤◌, ◌==◌, ℕ, zero, suc, ◌+◌, Bool, true, false, not, ◌&&◌, if◌then◌else◌, List, [], ◌∷◌, ◌++◌, Option, Some, None, length, slice_index_or, slice_set, count_by, AllPairs, Contains}
 use Rattle.a2_device.specs.Device.{unit_at}
 use Rattle.vol_parts.specs.declared.part.Part.{Part}
 use Rattle.vol_parts.specs.declared.fault.Fault.{Fault}
@@ -42,6 +42,13 @@ taken_up directory part walk = record walk {
   visited = slice_set walk.visited part.place true;
   faults = if is_free directory part.place then walk.faults ++ MarkedFree part.place ∷ [] else walk.faults;
 }
+
+-- the fault of a part that cannot be: its place is the system's or was met before
+abbrev pub hindrance_of : Directory → Part → Lists → Option Fault
+hindrance_of directory part walk =
+    if is_system directory part.place then Some (InSystem part.place)
+    else (if is_visited walk part.place then Some (Shared part.place)
+    else None)
 
 -- it is not where its place is the system's or was met before
 abbrev pub is_admitted : Directory → Part → Lists → Bool

@@ -1,13 +1,13 @@
 // The walk over the parts of all files.
-ghost use Rattle.std.specs.Prelude.{◌≡◌, ◌<◌, ◌≤◌, ◌+◌, [], false, replicate, length, OnOk, IfOk, IsTrue};
+ghost use Rattle.std.specs.Prelude.{◌≡◌, ◌==◌, ◌&&◌, ◌<◌, ◌≤◌, ◌+◌, [], false, not, replicate, length, OnOk, IfOk, IsTrue};
 ghost use Rattle.a2_device.specs.Device.{OnlyReads, unit_at};
 ghost use Rattle.vol_format.specs.Directory.{entries};
 ghost use Rattle.vol_parts.specs.Stop.{is_device_stop};
 ghost use Rattle.vol_parts.specs.declared.part.Part.{Part};
 ghost use Rattle.vol_check.specs.declared.walk.Pending.TheVariants.{Visit};
-ghost use Rattle.vol_check.specs.Known.{none_known};
+ghost use Rattle.vol_check.specs.Known.{is_known as is_in, none_known};
 ghost use Rattle.vol_check.specs.Walking.{IsWalking, None};
-ghost use Rattle.vol_check.specs.Walk.{lists, IsSound, is_admitted, admitted, told, noted, followed, after_visit, after_next, next_unit};
+ghost use Rattle.vol_check.specs.Walk.{lists, IsSound, hindrance_of, is_admitted, admitted, taken_up, told, noted, followed, after_visit, after_next, next_unit};
 
 use crate::known::{Known, is_known, note_known};
 use a2_device::Device;
@@ -45,11 +45,18 @@ fn start<A: Allocator + Copy>(alloc: A, places: u32) -> Result<Walk<A>, AllocErr
     })
 }
 
+// Whether a fault was told before.
+fn is_told<A: Allocator>(walk: &Walk<A>, fault: Fault) -> bool
+    ensures { result ≡ (not (length walk.now.faults.items == 0) && is_in walk.now.known.items fault) }
+{
+    !walk.faults.is_empty() && is_known(walk.known.as_slice(), fault)
+}
+
 // Tells a fault, unless it was told before.
 fn tell<A: Allocator>(walk: &mut Walk<A>, fault: Fault) -> Result<(), AllocError>
     ensures { OnOk result (lists walk.new ≡ told fault (lists walk.old)) }
 {
-    if !walk.faults.is_empty() && is_known(walk.known.as_slice(), fault) {
+    if is_told(walk, fault) {
         return Ok(());
     }
     walk.faults.push(fault)?;
@@ -70,20 +77,53 @@ fn admit<F: Format, A: Allocator>(
     ensures taken { IfOk result (λ taken. taken ≡ is_admitted (F.directory format.now volume.now) part (lists walk.old)) }
     ensures walk { OnOk result (lists walk.new ≡ admitted (F.directory format.now volume.now) part (lists walk.old)) }
 {
-    if format.index(volume, part.place).is_none() {
-        tell(walk, Fault::InSystem(part.place))?;
+    if let Some(fault) = hindrance(format, volume, part, walk) {
+        tell(walk, fault)?;
         return Ok(false);
+    }
+    take_up(format, volume, part, walk)?;
+    Ok(true)
+}
+
+// The fault of a part that cannot be taken up: its place is the system's or was met before.
+fn hindrance<F: Format, A: Allocator>(
+    format: &F,
+    volume: &F::Volume,
+    part: Part,
+    walk: &Walk<A>,
+) -> Option<Fault>
+    requires place { part.place < (F.directory format.now volume.now).places }
+    requires visited { length walk.now.visited.items ≡ (F.directory format.now volume.now).places }
+
+    ensures { result ≡ hindrance_of (F.directory format.now volume.now) part (lists walk.now) }
+{
+    if format.index(volume, part.place).is_none() {
+        return Some(Fault::InSystem(part.place));
     }
     if walk.visited[part.place as usize] {
-        tell(walk, Fault::Shared(part.place))?;
-        return Ok(false);
+        return Some(Fault::Shared(part.place));
     }
+    None
+}
+
+// Takes a part up, and tells that the map has its place as free, if it does.
+fn take_up<F: Format, A: Allocator>(
+    format: &F,
+    volume: &F::Volume,
+    part: Part,
+    walk: &mut Walk<A>,
+) -> Result<(), AllocError>
+    requires place { part.place < (F.directory format.now volume.now).places }
+    requires visited { length walk.old.visited.items ≡ (F.directory format.now volume.now).places }
+
+    ensures { OnOk result (lists walk.new ≡ taken_up (F.directory format.now volume.now) part (lists walk.old)) }
+{
     if format.is_free(volume, part.place) {
         walk.faults.push(Fault::MarkedFree(part.place))?;
     }
     walk.parts.push(part)?;
     walk.visited[part.place as usize] = true;
-    Ok(true)
+    Ok(())
 }
 
 // Notes what one pointer names.
