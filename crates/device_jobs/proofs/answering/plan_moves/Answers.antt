@@ -1,5 +1,6 @@
-use Rattle.std.proofs.Common.{inl}
+use Rattle.std.proofs.Common.{inl, inr}
 use Rattle.vol_opening.specs.Opening.{told_in}
+use Rattle.device_jobs.proofs.Unopened.{unopened_well}
 use Rattle.device_jobs.proofs.answering.plan_moves.Goals as goal
 
 pub returns-in-Ok-clause-told : goal.returns-in-Ok-clause-told
@@ -21,3 +22,7 @@ returns-in-Ok-clause-told g c = λ honest well.
       shortest = read.plan;
       told = c.certificate_reply.ensures;
     })
+
+pub returns-in-Err-clause-told : goal.returns-in-Err-clause-told
+returns-in-Err-clause-told g c = λ honest well.
+    inr (unopened_well c.args.reclaim (g.F.Format.meaning c.args.format.now) _ c.in-Err.error c.unopened_reply.result well (c.in-Err.ensures.refused honest) c.unopened_reply.ensures)
