@@ -3,6 +3,7 @@ ghost use Rattle.std.specs.Prelude.{◌≡◌, ◌<◌, vec_len, IfOk};
 ghost use Rattle.a2_device.specs.Device.{DeviceState};
 
 use crate::dos_listings::dos_33;
+use crate::pieces::{Piece, hello_with, put_pieces};
 use crate::runs::are_runs;
 use a2_device::{Device, ImageDevice};
 use a2_image::{Image, Order};
@@ -10,7 +11,7 @@ use file_cmds::{CmdError, read};
 use refusing::Refusing;
 use std::alloc::{AllocError, Allocator, Global};
 use std::test::Fail;
-use test_volumes::{FIRST_CATALOG, dos_device, dos_volume, hello, put, put_entry};
+use test_volumes::{FIRST_CATALOG, dos_device, dos_volume, hello, put_entry};
 
 /// The runs of the body of HELLO.
 static HELLO_BODY: [(usize, u8); 3] = [(1, 169), (1, 0), (1, 96)];
@@ -64,18 +65,23 @@ fn reads_the_whole(rt: HostRuntime) -> Result<(), Fail> {
     Ok(())
 }
 
+/// The two lists and the two units of GAPS.
+static GAPS: [Piece; 6] = [
+    (60, 0x01, &[3, 14]),
+    (60, 0x0c, &[3, 13]),
+    (61, 0x00, &[1; 256]),
+    (62, 0x05, &[0x7a]),
+    (62, 0x0c, &[3, 15]),
+    (63, 0x00, &[2; 256]),
+];
+
 /// The volume with the one file `GAPS`, whose two lists have one unit each.
 fn gaps(alloc: Global) -> Result<Vec<u8>, AllocError>
     ensures { IfOk result (λ image. vec_len image ≡ 143360) }
 {
     let mut image = dos_volume(alloc, [0x0f, 0xff])?;
     put_entry(&mut image, FIRST_CATALOG, 0, [3, 12], 0x00, b"GAPS", 4);
-    put(&mut image, 60, 0x01, &[3, 14]);
-    put(&mut image, 60, 0x0c, &[3, 13]);
-    put(&mut image, 61, 0x00, &[1; 256]);
-    put(&mut image, 62, 0x05, &[0x7a]);
-    put(&mut image, 62, 0x0c, &[3, 15]);
-    put(&mut image, 63, 0x00, &[2; 256]);
+    put_pieces(&mut image, 256, &GAPS);
     Ok(image)
 }
 
@@ -86,60 +92,67 @@ fn reads_kind(
     bytes: [u8; 7],
     runs: &[(usize, u8)],
 ) -> Result<bool, AllocError> {
-    let mut image = hello(alloc)?;
-    put(&mut image, FIRST_CATALOG, 0x0d, &[kind]);
-    put(&mut image, 63, 0x00, &bytes);
+    let image = hello_with(alloc, &[(FIRST_CATALOG, 0x0d, &[kind]), (63, 0x00, &bytes)])?;
     Ok(reads(alloc, image, false, runs))
 }
 
+/// A kind, the first bytes of the unit, and the runs of the body: of programs that are cut, of binary files that are, and of other
+/// files, which are left.
+static KINDS: [(u8, [u8; 7], &[(usize, u8)]); 8] = [
+    (0x02, [2, 0, 7, 8, 9, 9, 0], &[(1, 7), (1, 8)]),
+    (0x81, [3, 0, 7, 8, 9, 9, 0], &[(1, 7), (1, 8), (1, 9)]),
+    (0x01, [0, 0, 7, 8, 9, 9, 0], &[]),
+    (
+        0x02,
+        [255, 0, 7, 8, 9, 9, 0],
+        &[(1, 7), (1, 8), (2, 9), (250, 0)],
+    ),
+    (0x04, [1, 2, 1, 0, 9, 9, 0], &[(1, 9)]),
+    (0x84, [1, 2, 0, 1, 9, 9, 0], &[(2, 9), (250, 0)]),
+    (
+        0x00,
+        [1, 1, 1, 0, 9, 9, 0],
+        &[(3, 1), (1, 0), (2, 9), (250, 0)],
+    ),
+    (
+        0x88,
+        [1, 1, 1, 0, 9, 9, 0],
+        &[(3, 1), (1, 0), (2, 9), (250, 0)],
+    ),
+];
+
 #[test]
-fn cuts_the_body_of_a_program(rt: HostRuntime) -> Result<(), Fail> {
-    let alloc = rt.alloc();
-    assert!(rt; reads_kind(alloc, 0x02, [2, 0, 7, 8, 9, 9, 0], &[(1, 7), (1, 8)])?);
-    assert!(rt;
-        reads_kind(
-            alloc,
-            0x81,
-            [3, 0, 7, 8, 9, 9, 0],
-            &[(1, 7), (1, 8), (1, 9)]
-        )?
-    );
-    assert!(rt; reads_kind(alloc, 0x01, [0, 0, 7, 8, 9, 9, 0], &[])?);
-    let long = [(1, 7), (1, 8), (2, 9), (250, 0)];
-    assert!(rt; reads_kind(alloc, 0x02, [255, 0, 7, 8, 9, 9, 0], &long)?);
+fn cuts_the_body_by_its_kind(rt: HostRuntime) -> Result<(), Fail> {
+    for (kind, bytes, runs) in &KINDS {
+        assert!(rt;
+            reads_kind(rt.alloc(), *kind, *bytes, runs)?,
+            "{kind} {bytes:?}"
+        );
+    }
     Ok(())
 }
 
-#[test]
-fn cuts_the_body_of_a_binary_file(rt: HostRuntime) -> Result<(), Fail> {
-    let alloc = rt.alloc();
-    assert!(rt; reads_kind(alloc, 0x04, [1, 2, 1, 0, 9, 9, 0], &[(1, 9)])?);
-    let long = [(2, 9), (250, 0)];
-    assert!(rt; reads_kind(alloc, 0x84, [1, 2, 0, 1, 9, 9, 0], &long)?);
-    Ok(())
-}
-
-#[test]
-fn leaves_the_body_of_other_files(rt: HostRuntime) -> Result<(), Fail> {
-    let body = [(3, 1), (1, 0), (2, 9), (250, 0)];
-    assert!(rt; reads_kind(rt.alloc(), 0x00, [1, 1, 1, 0, 9, 9, 0], &body)?);
-    assert!(rt; reads_kind(rt.alloc(), 0x88, [1, 1, 1, 0, 9, 9, 0], &body)?);
-    Ok(())
-}
-
-/// The volume whose file has a list without a unit.
-fn without_units(alloc: Global) -> Result<Vec<u8>, AllocError>
-    ensures { IfOk result (λ image. vec_len image ≡ 143360) }
-{
-    let mut image = hello(alloc)?;
-    put(&mut image, 62, 0x0c, &[0, 15]);
-    Ok(image)
-}
+/// A list without a unit.
+static WITHOUT_UNITS: [Piece; 1] = [(62, 0x0c, &[0, 15])];
 
 #[test]
 fn a_file_without_units_is_empty(rt: HostRuntime) -> Result<(), Fail> {
-    assert!(rt; reads(rt.alloc(), without_units(rt.alloc())?, true, &[]));
-    assert!(rt; reads(rt.alloc(), without_units(rt.alloc())?, false, &[]));
+    assert!(rt;
+        reads(
+            rt.alloc(),
+            hello_with(rt.alloc(), &WITHOUT_UNITS)?,
+            true,
+            &[]
+        )
+    );
+    assert!(rt;
+        reads(
+            rt.alloc(),
+            hello_with(rt.alloc(), &WITHOUT_UNITS)?,
+            false,
+            &[]
+        )
+    );
     Ok(())
 }
 

@@ -7,7 +7,6 @@ use std::io::{self, Empty, ErrorKind, Read, Seek, SeekFrom, Write};
 use std::os::unix::fs::PermissionsExt;
 use std::path::PathBuf;
 use std::rt::Files;
-use std::test::Fail;
 
 /// The access mode of a file that is opened anew.
 const MODE_OF_NEW: u32 = 0o600;
@@ -75,6 +74,10 @@ impl Entry {
             Kind::Link => Metadata::of_symlink(length),
         }
     }
+
+    fn is(&self, name: &[u8], mode: u32, text: &[u8]) -> bool {
+        self.name.as_slice() == name && self.mode == mode && self.text.as_slice() == text
+    }
 }
 
 fn entry_at<'e>(entries: &'e [Entry], name: &[u8]) -> io::Result<&'e Entry> {
@@ -98,12 +101,25 @@ fn entry_at_mut<'e>(entries: &'e mut [Entry], name: &[u8]) -> io::Result<&'e mut
 // Whether entries have these names, access modes and texts.
 fn are_entries(entries: &[Entry], stated: &[(&str, u32, &str)]) -> bool {
     for (entry, (name, mode, text)) in entries.iter().zip(stated) {
-        let is_it = entry.name.as_slice() == name.as_bytes() && entry.mode == *mode;
-        if !is_it || entry.text.as_slice() != text.as_bytes() {
+        if !entry.is(name.as_bytes(), *mode, text.as_bytes()) {
             return false;
         }
     }
     entries.len() == stated.len()
+}
+
+// Whether entries have the names, access modes and texts of others.
+fn are_alike(entries: &[Entry], others: &[Entry]) -> bool {
+    for (entry, other) in entries.iter().zip(others) {
+        if !entry.is(other.name.as_slice(), other.mode, other.text.as_slice()) {
+            return false;
+        }
+    }
+    entries.len() == others.len()
+}
+
+fn remove(entries: &mut Vec<Entry>, name: &[u8]) {
+    entries.retain(|entry| entry.name.as_slice() != name);
 }
 
 // What a name leads to. No link leads to a link.
@@ -153,22 +169,19 @@ impl Folder {
         self.calls.get()
     }
 
-    /// All bytes of what stands there: each name in the order in which it was put there, its access mode and its text.
-    pub fn bytes(&self) -> Result<Vec<u8>, Fail> {
-        let mut bytes = Vec::new(self.alloc);
-        for entry in self.entries.try_borrow()?.iter() {
-            bytes.extend_from_slice(entry.name.as_slice())?;
-            bytes.extend_from_slice(&entry.mode.to_le_bytes())?;
-            bytes.extend_from_slice(entry.text.as_slice())?;
-        }
-        Ok(bytes)
-    }
-
     /// Whether these names stand there, in the order in which they were put there, each with this access mode and this text.
     pub fn holds(&self, stated: &[(&str, u32, &str)]) -> bool {
         match self.entries.try_borrow() {
             Ok(entries) => are_entries(&entries, stated),
             Err(_) => false,
+        }
+    }
+
+    /// Whether the same stands there as in another folder, in the same order.
+    pub fn is_like(&self, other: &Folder) -> bool {
+        match (self.entries.try_borrow(), other.entries.try_borrow()) {
+            (Ok(entries), Ok(others)) => are_alike(&entries, &others),
+            _ => false,
         }
     }
 
@@ -237,7 +250,7 @@ impl<'a> Files for Mounted<'a> {
         let name = Vec::from_slice(self.0.alloc, to.as_bytes())?;
         let mut entries = self.0.entries.try_borrow_mut()?;
         entry_at(&entries, from.as_bytes())?;
-        entries.retain(|entry| entry.name.as_slice() != to.as_bytes());
+        remove(&mut entries, to.as_bytes());
         entry_at_mut(&mut entries, from.as_bytes())?.name = name;
         Ok(())
     }
@@ -246,7 +259,7 @@ impl<'a> Files for Mounted<'a> {
         self.0.count()?;
         let mut entries = self.0.entries.try_borrow_mut()?;
         entry_at(&entries, path.as_bytes())?;
-        entries.retain(|entry| entry.name.as_slice() != path.as_bytes());
+        remove(&mut entries, path.as_bytes());
         Ok(())
     }
 

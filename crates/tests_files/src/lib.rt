@@ -12,9 +12,13 @@ mod dos_reads;
 #[cfg(test)]
 mod folder;
 #[cfg(test)]
+mod jobs;
+#[cfg(test)]
 mod late_failures;
 #[cfg(test)]
 mod locks;
+#[cfg(test)]
+mod pieces;
 #[cfg(test)]
 mod prodos_files;
 #[cfg(test)]

@@ -3,18 +3,47 @@ ghost use Rattle.std.specs.Prelude.{◌≡◌, ◌<◌, ◌≤◌, vec_len, IfOk
 ghost use Rattle.a2_device.specs.Device.{DeviceState};
 
 use crate::dos_listings::dos_33;
-use a2_device::{Device, FaultDevice, ImageDevice};
+use crate::pieces::{hello_with, sub_with};
+use a2_device::{Device, FaultDevice};
 use file_edits::{EditError, lock, unlock};
 use pro_format::Prodos;
 use refusing::Refusing;
 use reserved_places::Reserved;
 use std::alloc::{AllocError, Allocator, Global};
 use std::test::Fail;
-use test_volumes::{
-    FIRST_CATALOG, block_device, dos_device, hello, put, put_in_block, tree_and_subdirectory,
-};
+use test_volumes::{FIRST_CATALOG, block_device, dos_device, hello, tree_and_subdirectory};
 
-/// Why a file of a DOS 3.3 volume is not locked, or unlocked; `None` where it is.
+/// Why a file of a DOS 3.3 volume is not locked; `None` where it is.
+fn lock_on<A: Allocator + Copy, D: Device>(
+    alloc: A,
+    device: &mut D,
+    path: &[u8],
+) -> Option<EditError>
+    requires unit { (D.state device.old).unit_size ≡ 256 }
+    requires places { (D.state device.old).places ≡ 560 }
+{
+    match dos_33(alloc) {
+        Ok(format) => lock(alloc, device, &format, path).err(),
+        Err(_) => Some(EditError::Memory),
+    }
+}
+
+/// Why it is not unlocked.
+fn unlock_on<A: Allocator + Copy, D: Device>(
+    alloc: A,
+    device: &mut D,
+    path: &[u8],
+) -> Option<EditError>
+    requires unit { (D.state device.old).unit_size ≡ 256 }
+    requires places { (D.state device.old).places ≡ 560 }
+{
+    match dos_33(alloc) {
+        Ok(format) => unlock(alloc, device, &format, path).err(),
+        Err(_) => Some(EditError::Memory),
+    }
+}
+
+/// Why it is not locked, or unlocked.
 fn relock_on<A: Allocator + Copy, D: Device>(
     alloc: A,
     device: &mut D,
@@ -24,36 +53,33 @@ fn relock_on<A: Allocator + Copy, D: Device>(
     requires unit { (D.state device.old).unit_size ≡ 256 }
     requires places { (D.state device.old).places ≡ 560 }
 {
-    let Ok(format) = dos_33(alloc) else {
-        return Some(EditError::Memory);
-    };
-    let done = if on {
-        lock(alloc, device, &format, path)
+    if on {
+        lock_on(alloc, device, path)
     } else {
-        unlock(alloc, device, &format, path)
-    };
-    match done {
-        Ok(()) => None,
-        Err(error) => Some(error),
+        unlock_on(alloc, device, path)
     }
 }
 
-/// Why a file of a volume is not locked, or unlocked, and the bytes of the image then.
-fn relocked(alloc: Global, image: Vec<u8>, path: &[u8], on: bool) -> (Option<EditError>, Vec<u8>)
+/// Why a file of a volume is not locked, or unlocked, and whether the image then has these bytes.
+fn relocked(
+    alloc: Global,
+    image: Vec<u8>,
+    path: &[u8],
+    on: bool,
+    wanted: &[u8],
+) -> (Option<EditError>, bool)
     requires { vec_len image ≡ 143360 }
 {
     let mut device = dos_device(image);
     let error = relock_on(alloc, &mut device, path, on);
-    (error, device.into_image().into_bytes())
+    (error, device.into_image().into_bytes().as_slice() == wanted)
 }
 
 /// The volume HELLO, whose file has this kind.
 fn hello_of_kind(alloc: Global, kind: u8) -> Result<Vec<u8>, AllocError>
     ensures { IfOk result (λ image. vec_len image ≡ 143360) }
 {
-    let mut image = hello(alloc)?;
-    put(&mut image, FIRST_CATALOG, 0x0d, &[kind]);
-    Ok(image)
+    hello_with(alloc, &[(FIRST_CATALOG, 0x0d, &[kind])])
 }
 
 /// A kind, whether its file is locked or unlocked, and the kind then.
@@ -68,34 +94,29 @@ static KINDS: [(u8, bool, u8); 6] = [
 
 #[test]
 fn a_dos_file_is_locked_and_unlocked(rt: HostRuntime) -> Result<(), Fail> {
-    let alloc = rt.alloc();
     for (old, on, new) in &KINDS {
-        let (error, image) = relocked(alloc, hello_of_kind(alloc, *old)?, b"HELLO", *on);
-        let wanted = hello_of_kind(alloc, *new)?;
-        assert!(rt;
-            error.is_none() && image.as_slice() == wanted.as_slice(),
-            "{old}"
-        );
+        let image = hello_of_kind(rt.alloc(), *old)?;
+        let wanted = hello_of_kind(rt.alloc(), *new)?;
+        let answer = relocked(rt.alloc(), image, b"HELLO", *on, wanted.as_slice());
+        assert!(rt; answer == (None, true), "{old}");
     }
     Ok(())
 }
 
-/// The volume HELLO, whose list leads to itself.
-fn looped(alloc: Global) -> Result<Vec<u8>, AllocError>
-    ensures { IfOk result (λ image. vec_len image ≡ 143360) }
-{
-    let mut image = hello(alloc)?;
-    put(&mut image, 62, 0x01, &[3, 14]);
-    Ok(image)
-}
+/// A path, the first bytes of the list of HELLO, which leads to no list or to itself, and why the file is not unlocked.
+static REFUSALS: [(&[u8], [u8; 3], EditError); 2] = [
+    (b"NONE", [0, 0, 0], EditError::NotFound),
+    (b"HELLO", [0, 3, 14], EditError::Check),
+];
 
 #[test]
 fn a_refused_lock_writes_nothing(rt: HostRuntime) -> Result<(), Fail> {
-    let alloc = rt.alloc();
-    let (error, image) = relocked(alloc, hello(alloc)?, b"NONE", false);
-    assert!(rt; error == Some(EditError::NotFound) && image.as_slice() == hello(alloc)?.as_slice());
-    let (error, image) = relocked(alloc, looped(alloc)?, b"HELLO", false);
-    assert!(rt; error == Some(EditError::Check) && image.as_slice() == looped(alloc)?.as_slice());
+    for (path, list, wanted) in &REFUSALS {
+        let image = hello_with(rt.alloc(), &[(62, 0x00, list)])?;
+        let old = hello_with(rt.alloc(), &[(62, 0x00, list)])?;
+        let answer = relocked(rt.alloc(), image, path, false, old.as_slice());
+        assert!(rt; answer == (Some(*wanted), true), "{wanted}");
+    }
     Ok(())
 }
 
@@ -106,35 +127,39 @@ enum Failure {
     Write { took: bool },
 }
 
-/// Why HELLO is not unlocked on a device with a failure to come, and the bytes of the image then.
+/// Why HELLO is not unlocked on a device with a failure to come, and whether the image then has these bytes.
 fn unlocked_failing(
     alloc: Global,
+    image: Vec<u8>,
     failure: Failure,
-) -> Result<(Option<EditError>, Vec<u8>), AllocError> {
-    let mut device = FaultDevice::new(dos_device(hello(alloc)?));
+    wanted: &[u8],
+) -> (Option<EditError>, bool)
+    requires { vec_len image ≡ 143360 }
+{
+    let mut device = FaultDevice::new(dos_device(image));
     match failure {
         Failure::Read => device.fail_read(),
         Failure::Write { took } => device.fail_write(took),
     }
     let error = relock_on(alloc, &mut device, b"HELLO", false);
-    Ok((error, device.into_inner().into_image().into_bytes()))
+    let image = device.into_inner().into_image().into_bytes();
+    (error, image.as_slice() == wanted)
 }
+
+/// Failures, and the kind of HELLO then.
+static FAILURES: [(Failure, u8); 3] = [
+    (Failure::Read, 0x84),
+    (Failure::Write { took: false }, 0x84),
+    (Failure::Write { took: true }, 0x04),
+];
 
 #[test]
 fn a_failure_leaves_the_file_or_the_file_unlocked(rt: HostRuntime) -> Result<(), Fail> {
-    let alloc = rt.alloc();
-    let failures = [
-        (Failure::Read, 0x84),
-        (Failure::Write { took: false }, 0x84),
-        (Failure::Write { took: true }, 0x04),
-    ];
-    for (failure, kind) in failures {
-        let (error, image) = unlocked_failing(alloc, failure)?;
-        let wanted = hello_of_kind(alloc, kind)?;
-        assert!(rt;
-            error == Some(EditError::Device) && image.as_slice() == wanted.as_slice(),
-            "{kind}"
-        );
+    for (failure, kind) in &FAILURES {
+        let wanted = hello_of_kind(rt.alloc(), *kind)?;
+        let image = hello(rt.alloc())?;
+        let answer = unlocked_failing(rt.alloc(), image, *failure, wanted.as_slice());
+        assert!(rt; answer == (Some(EditError::Device), true), "{kind}");
     }
     Ok(())
 }
@@ -161,26 +186,35 @@ fn each_block_refused_to_a_lock_is_memory(rt: HostRuntime) -> Result<(), Fail> {
     Ok(())
 }
 
-/// The bytes of a ProDOS volume once a file of it is locked or unlocked; `None` where it is not.
-fn pro_relocked(alloc: Global, image: Vec<u8>, path: &[u8], on: bool) -> Option<Vec<u8>> {
-    let mut device = block_device(image)?;
+/// Why a file of a ProDOS volume is not locked, or unlocked; `None` where it is.
+fn relock_on_blocks<D: Device>(
+    alloc: Global,
+    device: &mut D,
+    path: &[u8],
+    on: bool,
+) -> Option<EditError>
+    requires unit { (D.state device.old).unit_size ≡ 512 }
+    requires places { (16 ≤ (D.state device.old).places) × ((D.state device.old).places < 65536) }
+{
     let format = Prodos::new(alloc, Reserved::none(alloc));
-    let done = if on {
-        lock(alloc, &mut device, &format, path)
+    if on {
+        lock(alloc, device, &format, path).err()
     } else {
-        unlock(alloc, &mut device, &format, path)
-    };
-    match done {
-        Ok(()) => Some(device.into_image().into_bytes()),
-        Err(_) => None,
+        unlock(alloc, device, &format, path).err()
     }
 }
 
-/// The volume with a subdirectory, whose file SUB/A has these access bits.
-fn sub_of_access(alloc: Global, access: u8) -> Result<Vec<u8>, AllocError> {
-    let mut image = tree_and_subdirectory(alloc)?;
-    put_in_block(&mut image, 10, 0x49, &[access]);
-    Ok(image)
+/// The same, and whether the image then has these bytes; `None` where there is no image.
+fn pro_relocked(
+    alloc: Global,
+    image: Vec<u8>,
+    path: &[u8],
+    on: bool,
+    wanted: &[u8],
+) -> Option<(Option<EditError>, bool)> {
+    let mut device = block_device(image)?;
+    let error = relock_on_blocks(alloc, &mut device, path, on);
+    Some((error, device.into_image().into_bytes().as_slice() == wanted))
 }
 
 /// Access bits, whether their file is locked or unlocked, and the bits then.
@@ -193,14 +227,20 @@ static ACCESS: [(u8, bool, u8); 4] = [
 
 #[test]
 fn a_prodos_file_is_locked_and_unlocked(rt: HostRuntime) -> Result<(), Fail> {
-    let alloc = rt.alloc();
     for (old, on, new) in &ACCESS {
-        let wanted = sub_of_access(alloc, *new)?;
-        match pro_relocked(alloc, sub_of_access(alloc, *old)?, b"sub/a", *on) {
-            Some(image) => assert!(rt; image.as_slice() == wanted.as_slice(), "{old}"),
-            None => return Err("it is not locked".into()),
-        }
+        let image = sub_with(rt.alloc(), &[(10, 0x49, &[*old])])?;
+        let wanted = sub_with(rt.alloc(), &[(10, 0x49, &[*new])])?;
+        let answer = pro_relocked(rt.alloc(), image, b"sub/a", *on, wanted.as_slice());
+        assert!(rt; answer == Some((None, true)), "{old}");
     }
-    assert!(rt; pro_relocked(alloc, tree_and_subdirectory(alloc)?, b"SUB", true).is_none());
+    Ok(())
+}
+
+#[test]
+fn a_directory_is_not_locked(rt: HostRuntime) -> Result<(), Fail> {
+    let image = tree_and_subdirectory(rt.alloc())?;
+    let old = tree_and_subdirectory(rt.alloc())?;
+    let answer = pro_relocked(rt.alloc(), image, b"SUB", true, old.as_slice());
+    assert!(rt; matches!(answer, Some((Some(_), true))));
     Ok(())
 }

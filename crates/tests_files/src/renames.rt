@@ -1,51 +1,61 @@
 //! Files that are renamed: `rename`.
-ghost use Rattle.std.specs.Prelude.{◌≡◌, vec_len, IfOk};
+ghost use Rattle.std.specs.Prelude.{◌≡◌, ◌<◌, ◌≤◌, vec_len};
+ghost use Rattle.a2_device.specs.Device.{DeviceState};
 
 use crate::dos_listings::dos_33;
+use crate::pieces::{Piece, hello_with, sub_with};
+use a2_device::Device;
 use file_edits::{EditError, rename};
 use pro_format::Prodos;
 use reserved_places::Reserved;
-use std::alloc::{AllocError, Global};
+use std::alloc::Global;
 use std::test::Fail;
-use test_volumes::{
-    FIRST_CATALOG, block_device, dos_device, hello, put, put_in_block, tree_and_subdirectory,
-};
+use test_volumes::{FIRST_CATALOG, block_device, dos_device, hello, tree_and_subdirectory};
 
-/// Why a file of a DOS 3.3 volume is not renamed, and the bytes of the image then.
+/// Why a file of a DOS 3.3 volume is not renamed; `None` where it is.
+fn rename_on_dos<D: Device>(
+    alloc: Global,
+    device: &mut D,
+    path: &[u8],
+    new: &[u8],
+) -> Option<EditError>
+    requires unit { (D.state device.old).unit_size ≡ 256 }
+    requires places { (D.state device.old).places ≡ 560 }
+{
+    match dos_33(alloc) {
+        Ok(format) => rename(alloc, device, &format, path, new).err(),
+        Err(_) => Some(EditError::Memory),
+    }
+}
+
+/// The same, and whether the image then has these bytes.
 fn dos_renamed(
     alloc: Global,
     image: Vec<u8>,
     path: &[u8],
     new: &[u8],
-) -> (Option<EditError>, Vec<u8>)
+    wanted: &[u8],
+) -> (Option<EditError>, bool)
     requires { vec_len image ≡ 143360 }
 {
     let mut device = dos_device(image);
-    let error = match dos_33(alloc) {
-        Ok(format) => rename(alloc, &mut device, &format, path, new).err(),
-        Err(_) => Some(EditError::Memory),
-    };
-    (error, device.into_image().into_bytes())
+    let error = rename_on_dos(alloc, &mut device, path, new);
+    (error, device.into_image().into_bytes().as_slice() == wanted)
 }
 
-/// The volume HELLO, whose file is not locked.
-fn unlocked_hello(alloc: Global) -> Result<Vec<u8>, AllocError>
-    ensures { IfOk result (λ image. vec_len image ≡ 143360) }
-{
-    let mut image = hello(alloc)?;
-    put(&mut image, FIRST_CATALOG, 0x0d, &[0x04]);
-    Ok(image)
-}
+/// The file HELLO, which is not locked, with the new name GO 1.
+static RENAMED: [Piece; 3] = [
+    (FIRST_CATALOG, 0x0d, &[0x04]),
+    (FIRST_CATALOG, 0x0e, &[0xa0; 30]),
+    (FIRST_CATALOG, 0x0e, &[0xc7, 0xcf, 0xa0, 0xb1]),
+];
 
 #[test]
 fn a_dos_file_is_renamed(rt: HostRuntime) -> Result<(), Fail> {
-    let alloc = rt.alloc();
-    let mut wanted = unlocked_hello(alloc)?;
-    put(&mut wanted, FIRST_CATALOG, 0x0e, &[0xa0; 30]);
-    put(&mut wanted, FIRST_CATALOG, 0x0e, &[0xc7, 0xcf, 0xa0, 0xb1]);
-    let (error, image) = dos_renamed(alloc, unlocked_hello(alloc)?, b"HELLO", b"GO 1");
-    assert!(rt; error.is_none());
-    assert!(rt; image.as_slice() == wanted.as_slice());
+    let image = hello_with(rt.alloc(), &[(FIRST_CATALOG, 0x0d, &[0x04])])?;
+    let wanted = hello_with(rt.alloc(), &RENAMED)?;
+    let answer = dos_renamed(rt.alloc(), image, b"HELLO", b"GO 1", wanted.as_slice());
+    assert!(rt; answer == (None, true));
     Ok(())
 }
 
@@ -67,26 +77,39 @@ static DOS_REFUSALS: [(&[u8], &[u8], EditError); 8] = [
 
 #[test]
 fn a_dos_file_is_not_renamed(rt: HostRuntime) -> Result<(), Fail> {
-    let alloc = rt.alloc();
+    let old = hello(rt.alloc())?;
     for (path, new, wanted) in &DOS_REFUSALS {
-        let (error, image) = dos_renamed(alloc, hello(alloc)?, path, new);
-        assert!(rt; error == Some(*wanted), "{wanted}");
-        assert!(rt; image.as_slice() == hello(alloc)?.as_slice());
+        let answer = dos_renamed(rt.alloc(), hello(rt.alloc())?, path, new, old.as_slice());
+        assert!(rt; answer == (Some(*wanted), true), "{wanted}");
     }
     Ok(())
 }
 
-/// Why a file of a ProDOS volume is not renamed, and the bytes of the image then.
+/// Why a file of a ProDOS volume is not renamed; `None` where it is.
+fn rename_on_blocks<D: Device>(
+    alloc: Global,
+    device: &mut D,
+    path: &[u8],
+    new: &[u8],
+) -> Option<EditError>
+    requires unit { (D.state device.old).unit_size ≡ 512 }
+    requires places { (16 ≤ (D.state device.old).places) × ((D.state device.old).places < 65536) }
+{
+    let format = Prodos::new(alloc, Reserved::none(alloc));
+    rename(alloc, device, &format, path, new).err()
+}
+
+/// The same, and whether the image then has these bytes; `None` where there is no image.
 fn pro_renamed(
     alloc: Global,
     image: Vec<u8>,
     path: &[u8],
     new: &[u8],
-) -> Option<(Option<EditError>, Vec<u8>)> {
+    wanted: &[u8],
+) -> Option<(Option<EditError>, bool)> {
     let mut device = block_device(image)?;
-    let format = Prodos::new(alloc, Reserved::none(alloc));
-    let error = rename(alloc, &mut device, &format, path, new).err();
-    Some((error, device.into_image().into_bytes()))
+    let error = rename_on_blocks(alloc, &mut device, path, new);
+    Some((error, device.into_image().into_bytes().as_slice() == wanted))
 }
 
 /// New names of the file SUB/A, and what stands at the front of its entry then.
@@ -97,17 +120,11 @@ static PRO_NAMES: [(&[u8], [u8; 4]); 2] = [
 
 #[test]
 fn a_prodos_file_is_renamed(rt: HostRuntime) -> Result<(), Fail> {
-    let alloc = rt.alloc();
     for (new, front) in &PRO_NAMES {
-        let mut wanted = tree_and_subdirectory(alloc)?;
-        put_in_block(&mut wanted, 10, 0x2b, front);
-        match pro_renamed(alloc, tree_and_subdirectory(alloc)?, b"sub/a", new) {
-            Some((error, image)) => {
-                assert!(rt; error.is_none());
-                assert!(rt; image.as_slice() == wanted.as_slice());
-            }
-            None => return Err("the image is none".into()),
-        }
+        let image = tree_and_subdirectory(rt.alloc())?;
+        let wanted = sub_with(rt.alloc(), &[(10, 0x2b, front)])?;
+        let answer = pro_renamed(rt.alloc(), image, b"sub/a", new, wanted.as_slice());
+        assert!(rt; answer == Some((None, true)));
     }
     Ok(())
 }
@@ -125,14 +142,11 @@ static PRO_REFUSALS: [(&[u8], &[u8], u8, EditError); 7] = [
 
 #[test]
 fn a_prodos_file_is_not_renamed(rt: HostRuntime) -> Result<(), Fail> {
-    let alloc = rt.alloc();
     for (path, new, access, wanted) in &PRO_REFUSALS {
-        let mut image = tree_and_subdirectory(alloc)?;
-        put_in_block(&mut image, 10, 0x49, &[*access]);
-        match pro_renamed(alloc, image, path, new) {
-            Some((error, _)) => assert!(rt; error == Some(*wanted), "{wanted}"),
-            None => return Err("the image is none".into()),
-        }
+        let image = sub_with(rt.alloc(), &[(10, 0x49, &[*access])])?;
+        let old = sub_with(rt.alloc(), &[(10, 0x49, &[*access])])?;
+        let answer = pro_renamed(rt.alloc(), image, path, new, old.as_slice());
+        assert!(rt; answer == Some((Some(*wanted), true)), "{wanted}");
     }
     Ok(())
 }

@@ -147,9 +147,8 @@ fn taken(alloc: Global, names: u32) -> Result<Folder, Fail> {
 #[test]
 fn a_hundred_names_that_are_taken(rt: HostRuntime) -> Result<(), Fail> {
     let folder = taken(rt.alloc(), 100)?;
-    let before = folder.bytes()?;
     assert!(rt; error_of(&folder, rt.alloc(), "image") == Some(ErrorKind::AlreadyExists));
-    assert!(rt; folder.bytes()?.as_slice() == before.as_slice());
+    assert!(rt; folder.is_like(&taken(rt.alloc(), 100)?));
     Ok(())
 }
 
