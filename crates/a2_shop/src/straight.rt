@@ -1,6 +1,6 @@
 // Jobs that only read the volume of an image, on the image's file: of it they read the units that they need.
 ghost use Rattle.std.specs.Prelude.{IfSome};
-ghost use Rattle.device_jobs.specs.Reading.{IsReading};
+ghost use Rattle.volume_jobs.specs.Reading.{IsReading};
 ghost use Rattle.volume_jobs.specs.Work.{work_view};
 
 use crate::job_paths::{reserve_of, volume_of};

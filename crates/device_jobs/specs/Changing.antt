@@ -10,7 +10,7 @@ use Rattle.job_reply.specs.declared.reply.Failure.TheVariants as failures
 use Rattle.job_reply.specs.declared.reply.Reply.{Reply}
 use Rattle.job_reply.specs.declared.reply.Reply.TheVariants.{Refused, Failed}
 use Rattle.volume_jobs.specs.EditRules.{EditRules}
-use Rattle.volume_jobs.specs.Volume.{form_of}
+use Rattle.image_volume.specs.Volume.{form_of}
 use Rattle.volume_jobs.specs.VolumeReply.{NamesPlaces}
 use Rattle.volume_jobs.specs.Work.{WorkView, Optimize, Change, Save}
 use Rattle.device_jobs.specs.EditOutcome.{IsEditOutcome}

@@ -4,14 +4,13 @@ use Rattle.a2_device.specs.Device.{DeviceState}
 use Rattle.vol_format.specs.Meaning.{Meaning}
 use Rattle.file_cmds.specs.DosText.{Text}
 use Rattle.file_cmds.specs.Files.{FileMeaning}
-use Rattle.file_edits.specs.Deleted.{IsOldOrErased}
-use Rattle.file_edits.specs.Edited.{HasChanged, IsOldOrChanged}
+use Rattle.file_edits.specs.Edited.{HasChanged}
 use Rattle.file_edits.specs.Renamed.{IsRenameRefusal}
 use Rattle.file_edits.specs.Writes.{HasEdited}
 use Rattle.file_edits.specs.declared.error.EditError.{EditError}
 use Rattle.file_edits.specs.declared.error.EditError.TheVariants.{Device}
-use Rattle.shop_words.specs.Job.{EditView, Delete}
-use Rattle.volume_jobs.specs.EditReply.{AreWritesOf, IsCause, edited_files}
+use Rattle.shop_words.specs.Job.{EditView}
+use Rattle.volume_jobs.specs.EditReply.{AreWritesOf, IsCause, IsOldOrEdited, edited_files}
 use Rattle.volume_jobs.specs.EditRules.{EditRules}
 use Rattle.volume_jobs.specs.Refusals.{refusal_of_edit, reply_to_edit_refusal}
 use Rattle.device_jobs.specs.declared.outcome.Outcome.{Outcome}
@@ -21,11 +20,6 @@ use Rattle.device_jobs.specs.declared.outcome.Outcome.TheVariants.{Changed, Unfi
 abbrev pub TellsEdit : {T : Type 0} → Result T EditError → Outcome → Type 0
 TellsEdit (Ok done) outcome = outcome ≡ Changed
 TellsEdit (Err error) outcome = outcome ≡ Unfinished (reply_to_edit_refusal error)
-
--- The same store, or one whose files are those of before after the edit of their list; of a deletion at worst the places of its file are lost.
-abbrev pub IsOldOrEdited : EditView → Text → FileMeaning → EditRules → Meaning → List (List ℕ) → List (List ℕ) → Type 0
-IsOldOrEdited Delete name files rules format old new = IsOldOrErased format files name old new
-IsOldOrEdited edit name files rules format old new = IsOldOrChanged format (edited_files edit name files rules) old new
 
 -- A command was tried, and the outcome tells what it answered. Done, all writes of the edit stand and nothing else has changed, and the files are those of before after the edit of
 -- their list. Stopped by a failure, one was met, a front of the writes stands, none was made after it, and the files are those of before or of the edit. Refused, the refusal has its cause.

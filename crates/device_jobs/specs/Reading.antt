@@ -1,5 +1,5 @@
 -- What is told of the volume of a device that is only read.
-use Rattle.std.specs.Prelude.{◌≡◌, ◌⊎◌, Bool, true, false, Option}
+use Rattle.std.specs.Prelude.{◌≡◌, ◌⊎◌, Bool, Option}
 use Rattle.a2_device.specs.Device.{DeviceState}
 use Rattle.vol_format.specs.Meaning.{Meaning}
 use Rattle.file_cmds.specs.DosText.{Text}
@@ -8,22 +8,9 @@ use Rattle.job_reply.specs.declared.reply.Refusal.TheVariants as refusals
 use Rattle.job_reply.specs.declared.reply.Failure.TheVariants as failures
 use Rattle.job_reply.specs.declared.reply.Reply.{Reply}
 use Rattle.job_reply.specs.declared.reply.Reply.TheVariants.{Refused, Failed}
-use Rattle.volume_jobs.specs.Volume.{form_of}
+use Rattle.image_volume.specs.Volume.{form_of}
 use Rattle.volume_jobs.specs.VolumeReply.{NamesPlaces}
-use Rattle.volume_jobs.specs.Work.{WorkView, Optimize, Change, Save}
 use Rattle.device_jobs.specs.Units.{OfReserved}
-
--- the work reads a volume alone
-abbrev pub IsReading : WorkView → Type 0
-IsReading (Optimize reclaim limit) = ⊥
-IsReading (Change edit name) = ⊥
-IsReading (Save path given) = ⊥
-IsReading work = Unit {0}
-
--- whether a reply tells a failure of the device
-abbrev pub tells_device : Reply → Bool
-tells_device (Failed failures.Device) = true
-tells_device reply = false
 
 -- `Reserve` for a text that is no list of places; want of memory; or what the work tells of the device's units, where the words reserve these places
 abbrev pub IsDeviceReply : FileSystem → Bool → Option Text → (Meaning → DeviceState → Reply → Type 0) → DeviceState → Reply → Type 0

@@ -5,22 +5,17 @@ use Rattle.vol_format.specs.Meaning.{Meaning}
 use Rattle.file_edits.specs.Writes.{HasEdited}
 use Rattle.file_edits.specs.declared.error.EditError.{EditError}
 use Rattle.file_edits.specs.declared.error.EditError.TheVariants.{Device}
-use Rattle.file_saving.specs.Saved.{IsOldOrSaved, IsSaveRefusal}
-use Rattle.given_file.specs.Content.{GivenView, IsTooLongForHead, content, stored_units, unit_bytes}
+use Rattle.file_saving.specs.Saved.{IsSaveRefusal}
+use Rattle.given_file.specs.Content.{GivenView, IsTooLongForHead}
 use Rattle.save_formats.specs.Saves.{SaveMeaning}
 use Rattle.job_reply.specs.declared.reply.Refusal.TheVariants as refusals
 use Rattle.job_reply.specs.declared.reply.Failure.TheVariants as failures
 use Rattle.job_reply.specs.declared.reply.Reply.TheVariants.{Refused, Failed}
 use Rattle.volume_jobs.specs.Refusals.{refusal_of_edit}
-use Rattle.volume_jobs.specs.SaveReply.{AreSaveWrites, HasGivenSaved, IsSaveCause, attributes_of, most_input}
+use Rattle.volume_jobs.specs.SaveReply.{AreSaveWrites, HasGivenSaved, IsOldOrGivenSaved, IsSaveCause, most_input}
 use Rattle.device_jobs.specs.EditOutcome.{TellsEdit}
 use Rattle.device_jobs.specs.declared.outcome.Outcome.{Outcome}
 use Rattle.device_jobs.specs.declared.outcome.Outcome.TheVariants.{Unfinished}
-
--- the same store, or one with the files of before, or one with this file too
-abbrev pub IsOldOrGivenSaved : List ℕ → GivenView → SaveMeaning → Meaning → List (List ℕ) → List (List ℕ) → Type 0
-IsOldOrGivenSaved path given saves format old new =
-    IsOldOrSaved format saves path (attributes_of given) (stored_units format.unit_size (content given)) (unit_bytes format.unit_size (content given)) old new
 
 -- The saving was tried, and the outcome tells what was answered. Done, all its writes stand and nothing else has changed, and the files are those of before and this one. Stopped by a
 -- failure, one was met, a front of the writes stands, none was made after it, and the files are those of before, or those and this one. Refused, the refusal has its cause.

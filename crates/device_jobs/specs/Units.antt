@@ -5,7 +5,7 @@ use Rattle.vol_format.specs.Meaning.{Meaning}
 use Rattle.file_cmds.specs.DosText.{Text}
 use Rattle.shop_words.specs.declared.job.FileSystem.{FileSystem}
 use Rattle.shop_words.specs.declared.job.FileSystem.TheVariants.{Dos, Prodos}
-use Rattle.volume_jobs.specs.Volume.{form_of, meaning_of}
+use Rattle.image_volume.specs.Volume.{form_of, meaning_of}
 use Rattle.volume_jobs.specs.VolumeReply.{ReservesNamed}
 
 -- the device has the sectors of a disk, or 16 to 65,535 blocks

@@ -5,7 +5,8 @@ ghost use Rattle.job_reply.specs.declared.reply.Failure.TheVariants.{Memory as O
 ghost use Rattle.job_reply.specs.declared.reply.Reply.TheVariants.{Failed as AFailed};
 ghost use Rattle.job_reply.specs.Reply.{IsWritten};
 ghost use Rattle.volume_jobs.specs.EditRules.{edit_rules};
-ghost use Rattle.volume_jobs.specs.Volume.{edits_of, files_of, meaning_of};
+ghost use Rattle.image_volume.specs.Volume.{meaning_of};
+ghost use Rattle.volume_jobs.specs.FileSystems.{edits_of, files_of};
 ghost use Rattle.volume_jobs.specs.Work.{work_view};
 ghost use Rattle.device_jobs.specs.declared.outcome.Outcome.TheVariants.{Unfinished as AnUnfinished};
 ghost use Rattle.device_jobs.specs.declared.outcome.Outcome.{Outcome as AnOutcome};
@@ -19,6 +20,7 @@ use crate::outcome::Outcome;
 use crate::saving::save_in_place;
 use a2_device::Device;
 use dos_format::Dos33;
+use image_volume::form_of;
 use job_reply::{Failure, Reply};
 use pro_format::Prodos;
 use reserved_places::Reserved;
@@ -26,7 +28,7 @@ use save_formats::SavableFormat;
 use shop_words::{FileSystem, VolumeOptions};
 use std::alloc::Global;
 use std::io::Write;
-use volume_jobs::{Work, form_of, reserve_reply, reserved_by};
+use volume_jobs::{Work, reserve_reply, reserved_by};
 
 // Does work on the volume of a device.
 fn change_volume<D: Device, F: SavableFormat>(

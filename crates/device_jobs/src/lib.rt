@@ -7,7 +7,6 @@
 //! the device nothing of it is called again; and where no failure of the device is told and the work is not done, the device is as it was.
 #![tactic(auto)]
 
-mod answering;
 mod changing;
 mod editing;
 mod optimizing;

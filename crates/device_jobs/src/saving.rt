@@ -1,60 +1,16 @@
 // The work that saves a new file to a volume where it stands.
-ghost use Rattle.std.specs.Prelude.{◌≡◌, ◌<◌, ◌≤◌, ◌*◌, Err, IfErr, IfSome, IsTrue, OnOk, length};
-ghost use Rattle.file_edits.specs.Writes.{HasEdited};
-ghost use Rattle.file_saving.specs.Saved.{IsSaveRefusal};
+ghost use Rattle.std.specs.Prelude.{◌≡◌, ◌<◌, ◌≤◌, ◌*◌, length};
 ghost use Rattle.given_file.specs.Content.{content, given_view, stored_units, unit_bytes};
-ghost use Rattle.volume_jobs.specs.Refusals.{refusal_of_edit};
-ghost use Rattle.volume_jobs.specs.SaveReply.{AreSaveWrites, HasGivenSaved, IsSaveCause, most_input};
-ghost use Rattle.device_jobs.specs.SaveOutcome.{IsOldOrGivenSaved, IsSaveOutcome, IsSaveTriedOutcome};
+ghost use Rattle.volume_jobs.specs.SaveReply.{most_input};
+ghost use Rattle.device_jobs.specs.SaveOutcome.{IsSaveOutcome, IsSaveTriedOutcome};
 
 use crate::outcome::Outcome;
 use a2_device::Device;
-use file_edits::EditError;
-use file_saving::save;
 use given_file::{FileUnits, GivenError, GivenFile, file_units};
 use job_reply::{Failure, Refusal, Reply};
 use save_formats::SavableFormat;
 use std::alloc::Global;
-use volume_jobs::{MOST_INPUT, attributes_of, edit_refusal_reply};
-
-// Saves a file with its units.
-fn save_file<D: Device, F: SavableFormat>(
-    alloc: Global,
-    device: &mut D,
-    format: &F,
-    path: &[u8],
-    given: &GivenFile<'_>,
-    file: &FileUnits,
-) -> Result<(), EditError>
-    requires unit { (D.state device.old).unit_size ≡ (F.meaning format.now).unit_size }
-    requires places { (F.meaning format.now).Takes (D.state device.old).places }
-    requires short { length given.now.bytes.now ≤ most_input }
-    requires stored { file.now.stored.items ≡ stored_units (F.meaning format.now).unit_size (content (given_view given.now)) }
-    requires units { file.now.units.items ≡ unit_bytes (F.meaning format.now).unit_size (content (given_view given.now)) }
-    requires sizes { (F.meaning format.now).unit_size * length file.now.stored.items ≡ length file.now.units.items }
-
-    ensures edited { HasEdited (AreSaveWrites path.now (given_view given.now) (F.saves format.now) (F.meaning format.now) (D.state device.old).store)
-        result (D.state device.old) (D.state device.new) }
-    ensures refusals { IfErr result IsSaveRefusal }
-    ensures files { IsTrue (D.state device.old).honest → OnOk result (HasGivenSaved path.now (given_view given.now) (F.saves format.now) (F.meaning format.now)
-        (D.state device.old).store (D.state device.new).store) }
-    ensures stopped { IsTrue (D.state device.old).honest → result ≡ Err EditError.Device
-        → IsOldOrGivenSaved path.now (given_view given.now) (F.saves format.now) (F.meaning format.now) (D.state device.old).store (D.state device.new).store }
-    ensures caused { IsTrue (D.state device.old).honest → IfErr result (λ error. IfSome (refusal_of_edit error) (λ refusal.
-        IsSaveCause refusal path.now (given_view given.now) (F.saves format.now) (F.meaning format.now) (D.state device.old).store)) }
-{
-    let attributes = attributes_of(given);
-    let stored = file.stored.as_slice();
-    save(
-        alloc,
-        device,
-        format,
-        path,
-        &attributes,
-        stored,
-        file.units.as_slice(),
-    )
-}
+use volume_jobs::{MOST_INPUT, edit_refusal_reply, save_file};
 
 // Saves a file with its units, and tells what became of it.
 fn save_units<D: Device, F: SavableFormat>(

@@ -9,7 +9,7 @@ use Rattle.vol_parts.specs.declared.fault.Fault.TheVariants as faults
 use Rattle.vol_parts.specs.declared.fault.WalkError.{WalkError}
 use Rattle.vol_parts.specs.declared.fault.WalkError.TheVariants as walks
 use Rattle.shop_words.specs.declared.job.FileSystem.{FileSystem}
-use Rattle.volume_jobs.proofs.Replies.{unit_lacks}
+use Rattle.image_volume.proofs.Lacking.{unit_lacks}
 use Rattle.image_readings.specs.declared.reading.Finding.{Finding}
 use Rattle.image_readings.specs.declared.reading.Finding.TheVariants.{Unreadable, Broken, Volume}
 use Rattle.image_readings.specs.declared.reading.Found.{Found}

@@ -6,7 +6,7 @@ use Rattle.a2_image.specs.declared.order.Order.TheVariants as orders
 use Rattle.a2_image.specs.Image.{IsImageLength}
 use Rattle.shop_words.specs.declared.job.FileSystem.{FileSystem}
 use Rattle.shop_words.specs.declared.job.FileSystem.TheVariants as systems
-use Rattle.volume_jobs.specs.Volume.{TakesBytes}
+use Rattle.image_volume.specs.Volume.{TakesBytes}
 use Rattle.image_readings.specs.IdentifyReply.{allows}
 
 pub allowed_takes : (bytes : ℕ) (file_system : FileSystem) (order : Order) → allows bytes (file_system, order) ≡ true → TakesBytes file_system order bytes

@@ -13,7 +13,7 @@ use Rattle.vol_parts.specs.declared.fault.Fault.TheVariants.{Geometry}
 use Rattle.vol_parts.specs.declared.part.Part.{Part}
 use Rattle.shop_words.specs.declared.job.FileSystem.{FileSystem}
 use Rattle.shop_words.specs.declared.job.FileSystem.TheVariants.{Dos, Prodos}
-use Rattle.volume_jobs.specs.Volume.{LacksUnit, OfVolume, meaning_of}
+use Rattle.image_volume.specs.Volume.{LacksUnit, OfVolume, meaning_of}
 use Rattle.image_readings.specs.declared.reading.Standing.{Standing}
 use Rattle.image_readings.specs.declared.reading.Standing.TheVariants.{Accepted, Refused}
 use Rattle.image_readings.specs.declared.reading.Found.{Found}

@@ -3,7 +3,7 @@ ghost use Rattle.std.specs.Prelude.{◌≡◌, ◌≤◌, IsTrue, OnOk, IfOk, If
 ghost use Rattle.a2_device.specs.Device.{unit_at};
 ghost use Rattle.a2_image.specs.Image.{IsOfDisk};
 ghost use Rattle.shop_words.specs.declared.job.FileSystem.TheVariants.{Dos as OfDos, Prodos as OfProdos};
-ghost use Rattle.volume_jobs.specs.Volume.{IsImageOf, TakesBytes, device_of};
+ghost use Rattle.image_volume.specs.Volume.{IsImageOf, TakesBytes, device_of};
 ghost use Rattle.image_readings.specs.Found.{Stops};
 ghost use Rattle.image_readings.specs.Readings.{HasEntries, HasUnits, IsFound, IsReadingOf, IsToldOf, Stands, plain_meaning};
 

@@ -19,7 +19,8 @@ use Rattle.job_reply.proofs.Fronts.{convert-whole}
 use Rattle.job_reply.proofs.NotMade.{refused_not_made}
 use Rattle.job_reply.specs.declared.reply.Refusal.TheVariants as refusals
 use Rattle.volume_jobs.specs.VerifyReply.{most_certificate}
-use Rattle.volume_jobs.specs.Volume.{device_of, edits_of, files_of, form_of, meaning_of}
+use Rattle.image_volume.specs.Volume.{device_of, form_of, meaning_of}
+use Rattle.volume_jobs.specs.FileSystems.{edits_of, files_of}
 use Rattle.volume_jobs.specs.Work.{IsWorkReply, WorkView, Catalog, Read, Check, Plan, Optimize, Change, Save, Verify}
 use Rattle.volume_jobs.specs.EditReply.{IsImageReply}
 use Rattle.volume_jobs.specs.SaveReply.{most_input}

@@ -6,7 +6,8 @@ use Rattle.shop_words.specs.declared.job.VolumeOptions.{VolumeOptions}
 use Rattle.job_reply.specs.declared.reply.Refusal.{Refusal}
 use Rattle.job_reply.specs.declared.reply.Reply.{Reply}
 use Rattle.job_reply.specs.declared.reply.Reply.TheVariants.{Refused}
-use Rattle.volume_jobs.specs.Volume.{edits_of, files_of, form_of}
+use Rattle.image_volume.specs.Volume.{form_of}
+use Rattle.volume_jobs.specs.FileSystems.{edits_of, files_of}
 use Rattle.volume_jobs.specs.VolumeReply.{IsVolumeReply}
 use Rattle.volume_jobs.specs.Work.{IsWorkReply, WorkView, Optimize, Change}
 use Rattle.shop_commands.specs.Answer.{AsksFor, IsOnVolume, IsReplyToBytes, IsToldOf, RefusesWords, image_order_of, limit_of, order_of}

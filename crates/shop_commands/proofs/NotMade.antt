@@ -4,7 +4,8 @@ use Rattle.std.specs.Prelude.{Option}
 use Rattle.shop_words.specs.declared.job.VolumeOptions.{VolumeOptions}
 use Rattle.job_reply.specs.declared.reply.Reply.{Reply}
 use Rattle.job_reply.specs.Reply.{IsMade}
-use Rattle.volume_jobs.specs.Volume.{edits_of, files_of, form_of}
+use Rattle.image_volume.specs.Volume.{form_of}
+use Rattle.volume_jobs.specs.FileSystems.{edits_of, files_of}
 use Rattle.volume_jobs.specs.Work.{IsWorkReply, WorkView}
 use Rattle.volume_jobs.proofs.NotMade.{MakesNone, volume_not_made, work_not_made}
 use Rattle.shop_commands.specs.Answer.{IsToldOf, order_of}

@@ -26,7 +26,8 @@ use Rattle.job_reply.specs.declared.reply.Refusal.TheVariants as refusals
 use Rattle.job_reply.specs.declared.reply.Reply.TheVariants.{Failed, Refused}
 use Rattle.job_reply.specs.Reply.{HandsImage, Held, IsDelivered, IsWritten, failure_line}
 use Rattle.volume_jobs.specs.DosCatalogReply.{IsDosCatalogReply}
-use Rattle.volume_jobs.specs.Volume.{edits_of, files_of, form_of}
+use Rattle.image_volume.specs.Volume.{form_of}
+use Rattle.volume_jobs.specs.FileSystems.{edits_of, files_of}
 use Rattle.volume_jobs.specs.VolumeReply.{IsVolumeReply}
 use Rattle.volume_jobs.specs.Work.{IsWorkReply, WorkView, Catalog, Read, Check, Plan, Optimize, Change, Save, Verify}
 use Rattle.job_reply.specs.ConvertReply.{IsConvertReply}

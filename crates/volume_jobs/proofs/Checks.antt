@@ -1,15 +1,15 @@
 -- What was said of a volume, and of the words and the image that lead to it.
 use Rattle.std.proofs.Common.{◌≡◌, ℕ, List, refl, inl, inr}
-use Rattle.std.specs.Prelude.{Bool, IsTrue, Option, Some, None, Err, length}
+use Rattle.std.specs.Prelude.{Bool, Option, Some, None, length}
 use Rattle.a2_image.specs.declared.order.Order.{Order}
 use Rattle.a2_image.specs.declared.error.ImageError.{ImageError}
 use Rattle.a2_image.specs.declared.error.ImageError.TheVariants as images
-use Rattle.a2_device.specs.Device.{DeviceState, OnlyReads}
+use Rattle.a2_device.specs.Device.{DeviceState}
 use Rattle.reserved_places.specs.declared.form.PlaceForm.{PlaceForm}
 use Rattle.reserved_places.specs.declared.error.ReserveError.{ReserveError}
 use Rattle.reserved_places.specs.declared.error.ReserveError.TheVariants as reserves
 use Rattle.vol_format.specs.Meaning.{Meaning}
-use Rattle.vol_check.specs.Answer.{IsRefusal, is_device_error}
+use Rattle.vol_check.specs.Answer.{IsRefusal}
 use Rattle.vol_check.specs.declared.error.CheckError.{CheckError}
 use Rattle.vol_check.specs.declared.error.CheckError.TheVariants as checks
 use Rattle.file_cmds.specs.DosText.{Text}
@@ -17,21 +17,20 @@ use Rattle.shop_words.specs.declared.job.FileSystem.{FileSystem}
 use Rattle.job_reply.specs.declared.reply.Reply.{Reply}
 use Rattle.volume_jobs.specs.CheckReply.{IsChecked, TellsRefusal}
 use Rattle.job_reply.specs.Reply.{reply_to_image}
+use Rattle.volume_jobs.specs.Reading.{FailsForLack}
 use Rattle.volume_jobs.specs.Refusals.{reply_to_reserve}
-use Rattle.volume_jobs.specs.Volume.{RefusesBytes, form_of}
+use Rattle.image_volume.specs.Volume.{RefusesBytes, form_of}
 use Rattle.volume_jobs.specs.VolumeReply.{IsVolumeReply, NamesPlaces, ReservesNamed}
-use Rattle.volume_jobs.proofs.Replies.{unit_lacks}
 
 -- a volume that is not accepted, or could not be checked
-pub check_refused : {A : Type 0} (T : Type 0) (form : PlaceForm) (format : Meaning) (old new : DeviceState) (error : CheckError A) (reply : Reply)
-    → IsTrue old.honest → old.read_failures ≡ Some 0 → OnlyReads (is_device_error {T = T} (Err error)) old new → IsRefusal format old.store error
-    → TellsRefusal form error reply → IsChecked form format old reply
-check_refused T form format old new (checks.Faults faults) reply honest never reads refusal tells = elim tells [
+pub check_refused : {A : Type 0} (form : PlaceForm) (format : Meaning) (device : DeviceState) (error : CheckError A) (reply : Reply)
+    → FailsForLack device reply → IsRefusal format device.store error → TellsRefusal form error reply → IsChecked form format device reply
+check_refused form format device (checks.Faults faults) reply lack refusal tells = elim tells [
   | inl told ↦ inr (inl (told.0, record { faults = faults; are = refusal; is = told.1 }))
   | inr failed ↦ inr (inr (inr failed))
 ]
-check_refused T form format old new checks.Device reply honest never reads refusal tells = inr (inr (inl (tells, unit_lacks old new honest never reads)))
-check_refused T form format old new checks.Memory reply honest never reads refusal tells = inr (inr (inr tells))
+check_refused form format device checks.Device reply lack refusal tells = inr (inr (inl (tells, lack tells)))
+check_refused form format device checks.Memory reply lack refusal tells = inr (inr (inr tells))
 
 -- what is reserved by the words is named by them
 names_reserved : (form : PlaceForm) (reserve : Option Text) (reserved : List Bool) → ReservesNamed form reserve reserved → NamesPlaces form reserve

@@ -16,7 +16,8 @@ use Rattle.shop_words.specs.declared.job.FileSystem.TheVariants.{Dos}
 use Rattle.job_reply.specs.declared.reply.Reply.{Reply}
 use Rattle.volume_jobs.specs.CatalogReply.{IsListed}
 use Rattle.volume_jobs.specs.DosCatalogReply.{IsDosCatalogReply, IsDosListed}
-use Rattle.volume_jobs.specs.Volume.{device_of, edits_of, files_of, form_of}
+use Rattle.image_volume.specs.Volume.{device_of, form_of}
+use Rattle.volume_jobs.specs.FileSystems.{edits_of, files_of}
 use Rattle.volume_jobs.specs.VolumeReply.{IsVolumeReply}
 use Rattle.volume_jobs.specs.Work.{IsWorkReply, Catalog}
 

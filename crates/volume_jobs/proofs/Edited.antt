@@ -19,9 +19,9 @@ use Rattle.volume_jobs.specs.EditReply.{AreWritesOf, IsCause, IsEdited, IsImageR
 use Rattle.volume_jobs.specs.EditRules.{EditRules}
 use Rattle.volume_jobs.specs.OptimizeReply.{AreBytesOf}
 use Rattle.volume_jobs.specs.Refusals.{refusal_of_edit, reply_to_edit_refusal}
-use Rattle.volume_jobs.specs.Volume.{LacksUnit}
+use Rattle.image_volume.specs.Volume.{LacksUnit}
 use Rattle.volume_jobs.proofs.Optimized.{keeps_bytes}
-use Rattle.volume_jobs.proofs.Replies.{unit_lacks}
+use Rattle.image_volume.proofs.Lacking.{unit_lacks}
 
 -- an edit has fewer writes than a device can count
 few_writes : (edit : EditView) (name : List ℕ) (files : FileMeaning) (rules : EditRules) (format : Meaning) (store : List (List ℕ)) (writes : List Write)

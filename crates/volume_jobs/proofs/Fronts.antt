@@ -15,7 +15,7 @@ use Rattle.given_file.specs.Content.{GivenView}
 use Rattle.save_formats.specs.Saves.{SaveMeaning}
 use Rattle.volume_jobs.specs.SaveReply.{IsSaved, most_input}
 use Rattle.volume_jobs.specs.VerifyReply.{IsVerified, most_certificate}
-use Rattle.volume_jobs.specs.Volume.{OfVolume, TakesBytes, meaning_of}
+use Rattle.image_volume.specs.Volume.{OfVolume, TakesBytes, meaning_of}
 use Rattle.volume_jobs.specs.VolumeReply.{IsVolumeReply}
 
 most-takes : (file_system : FileSystem) (order : Order) (bytes : ℕ) → TakesBytes file_system order bytes → bytes ≤ most_bytes order

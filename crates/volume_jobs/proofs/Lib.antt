@@ -1,5 +1,4 @@
 pub mod Fronts
-pub mod Taken
 pub mod Replies
 pub mod StepLemmas
 pub mod Checks

@@ -2,7 +2,7 @@
 use Rattle.std.proofs.Common.{◌≡◌, ◌∙◌, ℕ, Bool, List, inl, inr, ap, subst, sym, Global}
 use Rattle.std.specs.Prelude.{IsTrue, Some, Err, length}
 use Rattle.a2_image.specs.KeptBytes.{HoldsKept}
-use Rattle.a2_device.specs.Device.{DeviceState, ImageForm}
+use Rattle.a2_device.specs.Device.{DeviceState, ImageForm, OnlyReads}
 use Rattle.vol_opening.specs.Refused.{is_device_error}
 use Rattle.vol_format.specs.Meaning.{Meaning}
 use Rattle.vol_mover.specs.Optimizing.{IsRefused}
@@ -12,7 +12,7 @@ use Rattle.vol_mover.specs.declared.report.OptError.TheVariants as optimizes
 use Rattle.vol_mover.specs.declared.report.Report.{Report}
 use Rattle.job_reply.specs.declared.reply.Reply.{Reply}
 use Rattle.volume_jobs.specs.OptimizeReply.{AreBytesOf, IsOptimized, KeepsBytes, TellsReport, TellsStop}
-use Rattle.volume_jobs.proofs.Unopened.{unopened}
+use Rattle.image_volume.proofs.Lacking.{unit_lacks}
 
 -- the image under a device is still of the form that it had at first
 pub keeps_bytes : (old new : DeviceState) (bytes : List ℕ) → new.image ≡ old.image → AreBytesOf new bytes → KeepsBytes old bytes
@@ -32,7 +32,12 @@ module _ (reclaim : Bool) (limit : ℕ) (format : Meaning) (old new : DeviceStat
   pub not_optimized : (error : OptError Global) → IsTrue old.honest → old.read_failures ≡ Some 0 → IsRefused format (record { reclaim = reclaim }) limit old new error → TellsStop new error reply
       → IsOptimized reclaim limit format old reply
   not_optimized (optimizes.Open error) honest never refused told =
-      inr (inl (unopened reclaim format old new error reply _ honest never refused.0 (λ is. ap (λ e. is_device_error {T = Unit {0}} (Err e)) is) (refused.1 honest) told))
+      inr (inl (record {
+        error = error;
+        refusal = refused.1 honest;
+        lacks = λ is. unit_lacks old new honest never (subst (λ failed. OnlyReads failed old new) (ap (λ e. is_device_error {T = Unit {0}} (Err e)) is) refused.0);
+        told = told;
+      }))
   not_optimized (optimizes.Step error) honest never refused told =
       inr (inr (inl (record { after = new; error = error; stopped = refused; interrupted = told.0; made = told.1; kept = keeps_bytes old new _ refused.worked.device.image told.1 })))
   not_optimized optimizes.Memory honest never refused told = inr (inr (inr told))

@@ -1,13 +1,11 @@
--- Why a read fails.
-use Rattle.std.proofs.Common.{◌≡◌, refl, subst, arith, ⊎_elim}
-use Rattle.std.specs.Prelude.{IsTrue, true, Some}
-use Rattle.a2_device.specs.Device.{DeviceState, OnlyReads, UsesRead}
-use Rattle.volume_jobs.specs.Volume.{LacksUnit}
+-- Why a device is told as failed.
+use Rattle.std.proofs.Common.{◌≡◌, subst}
+use Rattle.std.specs.Prelude.{IsTrue, Some}
+use Rattle.a2_device.specs.Device.{DeviceState, OnlyReads}
+use Rattle.job_reply.specs.declared.reply.Reply.{Reply}
+use Rattle.image_volume.proofs.Lacking.{unit_lacks}
+use Rattle.volume_jobs.specs.Reading.{FailsForLack, tells_device}
 
--- on a device that has no failure to come, a read fails where a unit can't be read
-pub unit_lacks : (old new : DeviceState) → IsTrue old.honest → old.read_failures ≡ Some 0 → OnlyReads true old new → LacksUnit old
-unit_lacks old new honest never reads =
-    ⊎_elim
-    (λ met. let used = subst (λ failures. UsesRead failures new.read_failures) never met.0 in absurd (omega (arith, used.1)))
-    (λ lacks. ((reads.met honest refl).0, lacks.0))
-    (reads.met honest refl).1
+-- on a device that is honest and has no failure to come, it is for a unit that can't be read
+pub fails_for_lack : (old new : DeviceState) (reply : Reply) → IsTrue old.honest → old.read_failures ≡ Some 0 → OnlyReads (tells_device reply) old new → FailsForLack old reply
+fails_for_lack old new reply honest never reads = λ is. unit_lacks old new honest never (subst (λ (r : Reply). OnlyReads (tells_device r) old new) is reads)

@@ -18,10 +18,10 @@ use Rattle.volume_jobs.specs.EditReply.{IsImageReply}
 use Rattle.volume_jobs.specs.OptimizeReply.{AreBytesOf}
 use Rattle.volume_jobs.specs.Refusals.{refusal_of_edit, reply_to_edit_refusal}
 use Rattle.volume_jobs.specs.SaveReply.{AreSaveWrites, HasGivenSaved, IsSaveCause, IsSaveTried}
-use Rattle.volume_jobs.specs.Volume.{LacksUnit}
+use Rattle.image_volume.specs.Volume.{LacksUnit}
 use Rattle.volume_jobs.proofs.Edited.{stops_lack}
 use Rattle.volume_jobs.proofs.Optimized.{keeps_bytes}
-use Rattle.volume_jobs.proofs.Replies.{unit_lacks}
+use Rattle.image_volume.proofs.Lacking.{unit_lacks}
 
 -- on a device of which nothing can fail but what can't be read
 module _ (old new : DeviceState) (honest : IsTrue old.honest) (reads : old.read_failures ≡ Some 0) (writes : old.write_failures ≡ Some []) (passes : old.passes ≡ None)

@@ -15,7 +15,7 @@ use Rattle.job_reply.specs.declared.reply.Failure.TheVariants as failures
 use Rattle.job_reply.specs.declared.reply.Reply.{Reply}
 use Rattle.job_reply.specs.declared.reply.Reply.TheVariants.{Refused, Failed}
 use Rattle.job_reply.specs.Reply.{IsDone, text_of}
-use Rattle.volume_jobs.specs.Volume.{LacksUnit}
+use Rattle.image_volume.specs.Volume.{LacksUnit}
 
 -- the text of a listing: of DOS 3.3, whose places are sectors, or of ProDOS
 abbrev pub text_by : {A : Type 0} → PlaceForm → Listing A → Text

@@ -18,7 +18,7 @@ use Rattle.job_reply.specs.declared.reply.Failure.TheVariants as failures
 use Rattle.job_reply.specs.declared.reply.Reply.{Reply}
 use Rattle.job_reply.specs.declared.reply.Reply.TheVariants.{Failed}
 use Rattle.job_reply.specs.Reply.{IsDone, IsFaulty, text_of}
-use Rattle.volume_jobs.specs.Volume.{LacksUnit}
+use Rattle.image_volume.specs.Volume.{LacksUnit}
 
 -- The volume is accepted, and these are its files, their parts, the available places and the lost ones, by number.
 pub record IsAcceptedText (format : Meaning) (store : List (List ℕ)) (text : Text) : Type 0 where

@@ -12,7 +12,7 @@ use Rattle.job_reply.specs.declared.reply.Failure.TheVariants as failures
 use Rattle.job_reply.specs.declared.reply.Reply.{Reply}
 use Rattle.job_reply.specs.declared.reply.Reply.TheVariants.{Refused, Failed}
 use Rattle.volume_jobs.specs.CatalogReply.{TellsListing}
-use Rattle.volume_jobs.specs.Volume.{LacksUnit, OfVolume, TakesBytes}
+use Rattle.image_volume.specs.Volume.{LacksUnit, OfVolume, TakesBytes}
 
 -- the text of what the VTOC and the entries in use of the catalog's sectors say
 pub record IsDosListing (device : DeviceState) (reply : Reply) : Type 0 where

@@ -6,8 +6,8 @@ use Rattle.vol_format.specs.Meaning.{Meaning}
 use Rattle.vol_files.specs.Files.{File}
 use Rattle.file_cmds.specs.DosText.{Text}
 use Rattle.file_cmds.specs.Files.{FileMeaning}
-use Rattle.file_edits.specs.Deleted.{HasFirstProtected, IsDeleteEdit}
-use Rattle.file_edits.specs.Edited.{HasChanged, HasNoSuchFile, IsLockEdit}
+use Rattle.file_edits.specs.Deleted.{HasFirstProtected, IsDeleteEdit, IsOldOrErased}
+use Rattle.file_edits.specs.Edited.{HasChanged, HasNoSuchFile, IsLockEdit, IsOldOrChanged}
 use Rattle.file_edits.specs.Lists.{with_lock_on, without_named}
 use Rattle.file_edits.specs.Renamed.{HasFirstBeside, HasFirstLocked, IsRenameEdit, with_new_name}
 use Rattle.delete_laws.specs.Writes.{Write}
@@ -21,7 +21,7 @@ use Rattle.job_reply.specs.declared.reply.Reply.TheVariants.{Made, Refused, Fail
 use Rattle.job_reply.specs.Reply.{made_of}
 use Rattle.volume_jobs.specs.EditRules.{EditRules}
 use Rattle.volume_jobs.specs.OptimizeReply.{AreBytesOf, KeepsBytes}
-use Rattle.volume_jobs.specs.Volume.{LacksUnit}
+use Rattle.image_volume.specs.Volume.{LacksUnit}
 
 -- the list of the files of a volume after an edit of the first file with a name
 abbrev pub edited_files : EditView → Text → FileMeaning → EditRules → List File → List File
@@ -36,6 +36,11 @@ AreWritesOf Lock name files rules format store writes = IsLockEdit format files 
 AreWritesOf Unlock name files rules format store writes = IsLockEdit format files rules.lock store name false writes
 AreWritesOf Delete name files rules format store writes = IsDeleteEdit format files rules.erase store name writes
 AreWritesOf (Rename new) name files rules format store writes = IsRenameEdit format files rules.name store name new writes
+
+-- The same store, or one whose files are those of before after the edit of their list; of a deletion at worst the places of its file are lost.
+abbrev pub IsOldOrEdited : EditView → Text → FileMeaning → EditRules → Meaning → List (List ℕ) → List (List ℕ) → Type 0
+IsOldOrEdited Delete name files rules format old new = IsOldOrErased format files name old new
+IsOldOrEdited edit name files rules format old new = IsOldOrChanged format (edited_files edit name files rules) old new
 
 -- Why an edit is refused: the volume is not accepted; no file of it has the name; no file may get the new name, or an entry beside the file has it; the entry of
 -- the file does not let it be deleted or renamed. Nothing else is told as refused.

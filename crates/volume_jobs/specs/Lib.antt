@@ -1,4 +1,4 @@
-pub mod Volume
+pub mod FileSystems
 pub mod VolumeReply
 pub mod Refusals
 pub mod CatalogReply
@@ -15,3 +15,4 @@ pub mod EditRules
 pub mod EditReply
 pub mod SaveReply
 pub mod Work
+pub mod Reading

@@ -20,7 +20,7 @@ use Rattle.job_reply.specs.declared.reply.Failure.TheVariants as failures
 use Rattle.job_reply.specs.declared.reply.Reply.{Reply}
 use Rattle.job_reply.specs.declared.reply.Reply.TheVariants.{Refused, Failed}
 use Rattle.job_reply.specs.Reply.{IsContent, IsUnopened, text_of}
-use Rattle.volume_jobs.specs.Volume.{LacksUnit}
+use Rattle.image_volume.specs.Volume.{LacksUnit}
 
 -- The volume is accepted, and these are its parts, their layout and the lost places, none of which is lost but where they are reclaimed; and it has a free
 -- place or is in order.

@@ -10,7 +10,7 @@ use Rattle.job_reply.specs.declared.reply.Failure.TheVariants as failures
 use Rattle.job_reply.specs.declared.reply.Reply.{Reply}
 use Rattle.job_reply.specs.declared.reply.Reply.TheVariants.{Refused, Failed}
 use Rattle.job_reply.specs.Reply.{IsContent, text_of}
-use Rattle.volume_jobs.specs.Volume.{LacksUnit}
+use Rattle.image_volume.specs.Volume.{LacksUnit}
 
 -- The reply to `read`: the body of the first file with this name, or all of its units; `Check` for a directory or a file that can't be read; `NotFound` where no file has
 -- the name; a failure where a unit can't be read; or want of memory.

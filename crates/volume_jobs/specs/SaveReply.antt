@@ -7,7 +7,7 @@ use Rattle.delete_laws.specs.Writes.{Write}
 use Rattle.file_edits.specs.Writes.{device_after}
 use Rattle.save_formats.specs.Saves.{SaveMeaning}
 use Rattle.save_formats.specs.declared.target.Attributes.{Attributes}
-use Rattle.file_saving.specs.Saved.{HasFewPlaces, HasFullDirectory, HasNameInUse, HasNoDirectory, HasNoName, HasSaved, IsSaveEdit, IsTooLong}
+use Rattle.file_saving.specs.Saved.{HasFewPlaces, HasFullDirectory, HasNameInUse, HasNoDirectory, HasNoName, HasSaved, IsOldOrSaved, IsSaveEdit, IsTooLong}
 use Rattle.given_file.specs.Content.{GivenView, IsTooLongForHead, content, stored_units, unit_bytes}
 use Rattle.job_reply.specs.declared.reply.Refusal.{Refusal}
 use Rattle.job_reply.specs.declared.reply.Refusal.TheVariants as refusals
@@ -17,7 +17,7 @@ use Rattle.job_reply.specs.declared.reply.Reply.TheVariants.{Failed, Refused}
 use Rattle.job_reply.specs.Reply.{made_of}
 use Rattle.volume_jobs.specs.EditReply.{IsImageReply}
 use Rattle.volume_jobs.specs.OptimizeReply.{AreBytesOf, KeepsBytes}
-use Rattle.volume_jobs.specs.Volume.{LacksUnit}
+use Rattle.image_volume.specs.Volume.{LacksUnit}
 
 -- the most bytes of a file that is saved
 abbrev pub most_input : ℕ
@@ -36,6 +36,11 @@ AreSaveWrites path given saves format store =
 abbrev pub HasGivenSaved : List ℕ → GivenView → SaveMeaning → Meaning → List (List ℕ) → List (List ℕ) → Type 0
 HasGivenSaved path given saves format =
     HasSaved format saves path (attributes_of given) (stored_units format.unit_size (content given)) (unit_bytes format.unit_size (content given))
+
+-- the same store, or one with the files of before, or one with this file too
+abbrev pub IsOldOrGivenSaved : List ℕ → GivenView → SaveMeaning → Meaning → List (List ℕ) → List (List ℕ) → Type 0
+IsOldOrGivenSaved path given saves format old new =
+    IsOldOrSaved format saves path (attributes_of given) (stored_units format.unit_size (content given)) (unit_bytes format.unit_size (content given)) old new
 
 -- Why a file is not saved: the volume is not accepted; it has no such directory; no file can have the name, or an entry of the directory has it; the file is longer than a
 -- file can be; the directory has no free entry, or too few places are free. Nothing else is told as refused.

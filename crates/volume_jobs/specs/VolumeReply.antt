@@ -11,7 +11,7 @@ use Rattle.job_reply.specs.declared.reply.Refusal.TheVariants as refusals
 use Rattle.job_reply.specs.declared.reply.Failure.TheVariants as failures
 use Rattle.job_reply.specs.declared.reply.Reply.{Reply}
 use Rattle.job_reply.specs.declared.reply.Reply.TheVariants.{Refused, Failed}
-use Rattle.volume_jobs.specs.Volume.{TakesBytes, OfVolume, form_of, meaning_of}
+use Rattle.image_volume.specs.Volume.{TakesBytes, OfVolume, form_of, meaning_of}
 use Rattle.std.specs.Prelude.{length}
 
 -- the words name places to reserve, or do not speak of them

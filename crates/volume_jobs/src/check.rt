@@ -1,7 +1,9 @@
 // The job that tells whether a volume is accepted.
-ghost use Rattle.std.specs.Prelude.{◌≡◌, Some, IsTrue};
+ghost use Rattle.std.specs.Prelude.{◌≡◌, IsTrue};
+ghost use Rattle.a2_device.specs.Device.{OnlyReads};
 ghost use Rattle.vol_check.specs.Told.{told_of};
 ghost use Rattle.volume_jobs.specs.CheckReply.{IsChecked, TellsAccepted, TellsRefusal};
+ghost use Rattle.volume_jobs.specs.Reading.{FailsForLack, tells_device};
 
 use crate::check_text::{accepted_line, fault_lines};
 use a2_device::Device;
@@ -44,8 +46,8 @@ pub fn check_reply<D: Device, F: Format>(
 ) -> Reply
     requires unit { (D.state device.old).unit_size ≡ (F.meaning format.now).unit_size }
     requires places { (F.meaning format.now).Takes (D.state device.old).places }
-    ensures { IsTrue (D.state device.old).honest → (D.state device.old).read_failures ≡ Some 0
-        → IsChecked form (F.meaning format.now) (D.state device.old) result }
+    ensures reads { OnlyReads (tells_device result) (D.state device.old) (D.state device.new) }
+    ensures told { IsTrue (D.state device.old).honest → FailsForLack (D.state device.old) result → IsChecked form (F.meaning format.now) (D.state device.old) result }
 {
     match check(alloc, device, format) {
         Ok(checked) => accepted_reply(alloc, &checked),

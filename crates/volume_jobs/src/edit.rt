@@ -1,10 +1,10 @@
 // The job that changes a file of a volume.
-ghost use Rattle.std.specs.Prelude.{◌≡◌, [], IfErr, IfSome, IsTrue, OnOk, None, Some};
+ghost use Rattle.std.specs.Prelude.{◌≡◌, [], Err, IfErr, IfSome, IsTrue, OnOk, None, Some};
 ghost use Rattle.file_edits.specs.Edited.{HasChanged};
 ghost use Rattle.file_edits.specs.Renamed.{IsRenameRefusal};
 ghost use Rattle.file_edits.specs.Writes.{HasEdited};
 ghost use Rattle.shop_words.specs.Job.{edit_view};
-ghost use Rattle.volume_jobs.specs.EditReply.{AreWritesOf, IsCause, IsEdited, edited_files};
+ghost use Rattle.volume_jobs.specs.EditReply.{AreWritesOf, IsCause, IsEdited, IsOldOrEdited, edited_files};
 ghost use Rattle.volume_jobs.specs.EditRules.{edit_rules};
 ghost use Rattle.volume_jobs.specs.Refusals.{refusal_of_edit, reply_to_edit_refusal};
 
@@ -34,8 +34,11 @@ pub fn edit_refusal_reply(error: EditError) -> Reply
     }
 }
 
-// Changes the first file of a name.
-fn edited<D: Device, F: SavableFormat>(
+/// Changes the first file of a name of a device's volume.
+///
+/// # Errors
+/// As the command of `file_edits` that does it.
+pub fn edit_file<D: Device, F: SavableFormat>(
     alloc: Global,
     device: &mut D,
     format: &F,
@@ -52,6 +55,9 @@ fn edited<D: Device, F: SavableFormat>(
     ensures files { IsTrue (D.state device.old).honest → OnOk result (HasChanged (F.meaning format.now)
         (edited_files (edit_view edit.now) name.now (F.files format.now) (edit_rules (F.edits format.now) (F.names format.now) (F.erasures format.now) (F.saves format.now)))
         (D.state device.old).store (D.state device.new).store) }
+    ensures stopped { IsTrue (D.state device.old).honest → result ≡ Err EditError.Device
+        → IsOldOrEdited (edit_view edit.now) name.now (F.files format.now) (edit_rules (F.edits format.now) (F.names format.now) (F.erasures format.now) (F.saves format.now))
+        (F.meaning format.now) (D.state device.old).store (D.state device.new).store }
     ensures caused { IsTrue (D.state device.old).honest → IfErr result (λ error. IfSome (refusal_of_edit error) (λ refusal.
         IsCause refusal (edit_view edit.now) name.now (F.files format.now) (edit_rules (F.edits format.now) (F.names format.now) (F.erasures format.now) (F.saves format.now))
         (F.meaning format.now) (D.state device.old).store)) }
@@ -80,7 +86,7 @@ pub fn edit_reply<F: SavableFormat>(
         (⟦<ImageDevice as Device>⟧.state device) result }
 {
     let mut device = device;
-    match edited(alloc, &mut device, format, edit, name) {
+    match edit_file(alloc, &mut device, format, edit, name) {
         Ok(()) => Reply::Made(image_bytes(device)),
         Err(error) => edit_refusal_reply(error),
     }

@@ -1,7 +1,7 @@
 //! The jobs on the volume of an image: `volume_reply` opens the image as a device, by its order and its file system, and
 //! answers what `Work` asks of it by one `Reply` of `job_reply`.
 //!
-//! The model. `specs/Volume.antt` says which bytes are taken as an image and which device has its units;
+//! The model. `image_volume` says which bytes are taken as an image and which device has its units;
 //! `specs/VolumeReply.antt` what is refused before the volume is looked at; `specs/Work.antt` which reply then comes, by the
 //! work and the device: `CatalogReply`, `ReadReply`, `CheckReply`, `PlanReply`, `PlanWords`, `OptimizeReply`, `EditReply`,
 //! `SaveReply` and `VerifyReply`, and for the listing of a DOS 3.3 disk in its format's own words `DosCatalogReply`. What always holds: each reply
@@ -17,17 +17,16 @@ mod optimize;
 mod plan;
 mod plan_words;
 mod reading;
+mod reading_work;
 mod save;
 mod shown_path;
 mod steps;
 mod verify;
 mod volume;
 
-pub use check::{accepted_reply, refused_reply};
-pub use edit::edit_refusal_reply;
-pub use listing::{listing_reply, refusal_reply};
-pub use plan::{certificate_reply, unopened_reply};
-pub use plan_words::words_reply;
-pub use save::{MOST_INPUT, attributes_of};
-pub use verify::{MOST_CERTIFICATE, verdict_reply};
-pub use volume::{Work, form_of, reserve_reply, reserved_by, volume_reply};
+pub use edit::{edit_file, edit_refusal_reply};
+pub use plan::unopened_reply;
+pub use reading_work::reading_reply;
+pub use save::{MOST_INPUT, save_file};
+pub use verify::MOST_CERTIFICATE;
+pub use volume::{Work, reserve_reply, reserved_by, volume_reply};

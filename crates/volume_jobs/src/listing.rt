@@ -1,6 +1,8 @@
 // The job that lists the files of a volume.
-ghost use Rattle.std.specs.Prelude.{◌≡◌, Some, IsTrue};
+ghost use Rattle.std.specs.Prelude.{◌≡◌, IsTrue};
+ghost use Rattle.a2_device.specs.Device.{OnlyReads};
 ghost use Rattle.volume_jobs.specs.CatalogReply.{IsListed, TellsListing};
+ghost use Rattle.volume_jobs.specs.Reading.{FailsForLack, tells_device};
 ghost use Rattle.volume_jobs.specs.Refusals.{reply_to_refusal};
 
 use a2_device::Device;
@@ -44,8 +46,8 @@ pub fn catalog_reply<D: Device, F: FileFormat>(
 ) -> Reply
     requires unit { (D.state device.old).unit_size ≡ (F.meaning format.now).unit_size }
     requires places { (F.meaning format.now).Takes (D.state device.old).places }
-    ensures { IsTrue (D.state device.old).honest → (D.state device.old).read_failures ≡ Some 0
-        → IsListed form (F.files format.now) (F.meaning format.now) (D.state device.old) result }
+    ensures reads { OnlyReads (tells_device result) (D.state device.old) (D.state device.new) }
+    ensures told { IsTrue (D.state device.old).honest → FailsForLack (D.state device.old) result → IsListed form (F.files format.now) (F.meaning format.now) (D.state device.old) result }
 {
     match catalog(alloc, device, format) {
         Ok(listing) => listing_reply(alloc, form, &listing),

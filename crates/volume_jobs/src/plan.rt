@@ -1,7 +1,9 @@
 // The job that tells the fewest moves that bring the files of a volume into order.
-ghost use Rattle.std.specs.Prelude.{◌≡◌, Some, IsTrue};
+ghost use Rattle.std.specs.Prelude.{◌≡◌, IsTrue};
+ghost use Rattle.a2_device.specs.Device.{OnlyReads};
 ghost use Rattle.vol_opening.specs.Opening.{IsPlanOf};
 ghost use Rattle.volume_jobs.specs.PlanReply.{IsPlanned, TellsOpening, TellsPlan};
+ghost use Rattle.volume_jobs.specs.Reading.{FailsForLack, tells_device};
 
 use a2_device::Device;
 use job_reply::{Failure, Refusal, Reply};
@@ -48,8 +50,8 @@ pub fn plan_reply<D: Device, F: Format>(
 ) -> Reply
     requires unit { (D.state device.old).unit_size ≡ (F.meaning format.now).unit_size }
     requires places { (F.meaning format.now).Takes (D.state device.old).places }
-    ensures { IsTrue (D.state device.old).honest → (D.state device.old).read_failures ≡ Some 0
-        → IsPlanned reclaim (F.meaning format.now) (D.state device.old) result }
+    ensures reads { OnlyReads (tells_device result) (D.state device.old) (D.state device.new) }
+    ensures told { IsTrue (D.state device.old).honest → FailsForLack (D.state device.old) result → IsPlanned reclaim (F.meaning format.now) (D.state device.old) result }
 {
     match Opening::read(alloc, device, format, Options { reclaim }) {
         Ok(opening) => certificate_reply(alloc, &opening),

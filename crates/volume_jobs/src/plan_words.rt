@@ -1,7 +1,9 @@
 // The job that tells in words the fewest moves that bring the files of a volume into order.
 ghost use Rattle.std.specs.Prelude.{◌≡◌, ◌<◌, ℕ, Some, All, IfOk, IsTrue, string_bytes};
+ghost use Rattle.a2_device.specs.Device.{OnlyReads};
 ghost use Rattle.vol_format.specs.Directory.{entries};
 ghost use Rattle.vol_opening.specs.Opening.{IsPlanOf, IsToldIn, told_in};
+ghost use Rattle.volume_jobs.specs.Reading.{FailsForLack, tells_device};
 ghost use Rattle.volume_jobs.specs.PlanWords.{IsPlannedInWords, IsPlanText, TellsWords, count_text, kind_word, plan_words_text, step_text};
 
 use crate::check_text::PlaceWord;
@@ -143,8 +145,8 @@ pub fn plan_words_reply<D: Device, F: FileFormat>(
 ) -> Reply
     requires unit { (D.state device.old).unit_size ≡ (F.meaning format.now).unit_size }
     requires places { (F.meaning format.now).Takes (D.state device.old).places }
-    ensures { IsTrue (D.state device.old).honest → (D.state device.old).read_failures ≡ Some 0
-        → IsPlannedInWords form (F.files format.now) reclaim (F.meaning format.now) (D.state device.old) result }
+    ensures reads { OnlyReads (tells_device result) (D.state device.old) (D.state device.new) }
+    ensures told { IsTrue (D.state device.old).honest → FailsForLack (D.state device.old) result → IsPlannedInWords form (F.files format.now) reclaim (F.meaning format.now) (D.state device.old) result }
 {
     match Opening::read(alloc, device, format, Options { reclaim }) {
         Ok(opening) => words_reply(alloc, format, form, &opening),

@@ -1,10 +1,10 @@
 // The job that saves a new file to a volume.
-ghost use Rattle.std.specs.Prelude.{◌≡◌, ◌<◌, ◌≤◌, ◌*◌, [], Some, None, IfErr, IfSome, IsTrue, OnOk, length};
+ghost use Rattle.std.specs.Prelude.{◌≡◌, ◌<◌, ◌≤◌, ◌*◌, [], Some, None, Err, IfErr, IfSome, IsTrue, OnOk, length};
 ghost use Rattle.file_edits.specs.Writes.{HasEdited};
 ghost use Rattle.file_saving.specs.Saved.{IsSaveRefusal};
 ghost use Rattle.given_file.specs.Content.{content, given_view, stored_units, unit_bytes};
 ghost use Rattle.volume_jobs.specs.Refusals.{refusal_of_edit};
-ghost use Rattle.volume_jobs.specs.SaveReply.{AreSaveWrites, HasGivenSaved, IsSaveCause, IsSaveTried, IsSaved, attributes_of as said_of, most_input};
+ghost use Rattle.volume_jobs.specs.SaveReply.{AreSaveWrites, HasGivenSaved, IsOldOrGivenSaved, IsSaveCause, IsSaveTried, IsSaved, attributes_of as said_of, most_input};
 
 use crate::edit::edit_refusal_reply;
 use crate::optimize::image_bytes;
@@ -19,8 +19,8 @@ use std::alloc::Global;
 /// The most bytes of a file that is saved.
 pub const MOST_INPUT: usize = 16_777_216;
 
-/// What its owner says of a file, and how many bytes it has.
-pub fn attributes_of(given: &GivenFile<'_>) -> Attributes
+// What its owner says of a file, and how many bytes it has.
+fn attributes_of(given: &GivenFile<'_>) -> Attributes
     requires { length given.now.bytes.now ≤ most_input }
     ensures { result ≡ said_of (given_view given.now) }
 {
@@ -32,8 +32,11 @@ pub fn attributes_of(given: &GivenFile<'_>) -> Attributes
     }
 }
 
-// Saves a file with its units.
-fn saved<D: Device, F: SavableFormat>(
+/// Saves a file with its units, as `file_units` gives them, to a device's volume.
+///
+/// # Errors
+/// As `save` of `file_saving`.
+pub fn save_file<D: Device, F: SavableFormat>(
     alloc: Global,
     device: &mut D,
     format: &F,
@@ -53,6 +56,8 @@ fn saved<D: Device, F: SavableFormat>(
     ensures refusals { IfErr result IsSaveRefusal }
     ensures files { IsTrue (D.state device.old).honest → OnOk result (HasGivenSaved path.now (given_view given.now) (F.saves format.now) (F.meaning format.now)
         (D.state device.old).store (D.state device.new).store) }
+    ensures stopped { IsTrue (D.state device.old).honest → result ≡ Err EditError.Device
+        → IsOldOrGivenSaved path.now (given_view given.now) (F.saves format.now) (F.meaning format.now) (D.state device.old).store (D.state device.new).store }
     ensures caused { IsTrue (D.state device.old).honest → IfErr result (λ error. IfSome (refusal_of_edit error) (λ refusal.
         IsSaveCause refusal path.now (given_view given.now) (F.saves format.now) (F.meaning format.now) (D.state device.old).store)) }
 {
@@ -89,7 +94,7 @@ fn units_reply<F: SavableFormat>(
         → IsSaveTried path.now (given_view given.now) (F.saves format.now) (F.meaning format.now) (⟦<ImageDevice as Device>⟧.state device) result }
 {
     let mut device = device;
-    match saved(alloc, &mut device, format, path, given, file) {
+    match save_file(alloc, &mut device, format, path, given, file) {
         Ok(()) => Reply::Made(image_bytes(device)),
         Err(error) => edit_refusal_reply(error),
     }

@@ -1,5 +1,7 @@
 // The job that tells whether a certificate shows that no plan is shorter.
 ghost use Rattle.std.specs.Prelude.{◌≡◌, Some, IsTrue};
+ghost use Rattle.a2_device.specs.Device.{OnlyReads};
+ghost use Rattle.volume_jobs.specs.Reading.{FailsForLack, tells_device};
 ghost use Rattle.volume_jobs.specs.VerifyReply.{IsVerdict, IsVerified, TellsFault, TellsNoText, fault_text};
 
 use crate::plan::unopened_reply;
@@ -91,8 +93,8 @@ pub fn verify_reply<D: Device, F: Format>(
 ) -> Reply
     requires unit { (D.state device.old).unit_size ≡ (F.meaning format.now).unit_size }
     requires places { (F.meaning format.now).Takes (D.state device.old).places }
-    ensures { IsTrue (D.state device.old).honest → (D.state device.old).read_failures ≡ Some 0
-        → IsVerified reclaim text.now (F.meaning format.now) (D.state device.old) result }
+    ensures reads { OnlyReads (tells_device result) (D.state device.old) (D.state device.new) }
+    ensures told { IsTrue (D.state device.old).honest → FailsForLack (D.state device.old) result → IsVerified reclaim text.now (F.meaning format.now) (D.state device.old) result }
 {
     if text.len() > MOST_CERTIFICATE {
         return Reply::Refused(Refusal::InputTooLong);

@@ -1,30 +1,27 @@
 // Jobs on the volume of an image.
-ghost use Rattle.std.specs.Prelude.{◌≡◌, ◌⊎◌, [], None, Some, IsTrue, false, length, IfOk, IfErr, option_map};
+ghost use Rattle.std.specs.Prelude.{◌≡◌, ◌⊎◌, [], None, Some, IsTrue, false, IfOk, IfErr, option_map};
 ghost use Rattle.a2_image.specs.Image.{IsOfDisk};
 ghost use Rattle.reserved_places.specs.declared.error.ReserveError.TheVariants.{Syntax};
 ghost use Rattle.shop_words.specs.declared.job.FileSystem.TheVariants.{Dos as OfDos, Prodos as OfProdos};
+ghost use Rattle.image_volume.specs.Volume.{device_of, form_of as form_by, meaning_of};
 ghost use Rattle.volume_jobs.specs.EditRules.{edit_rules};
 ghost use Rattle.volume_jobs.specs.Refusals.{reply_to_reserve};
-ghost use Rattle.volume_jobs.specs.Volume.{IsImageOf, RefusesBytes, TakesBytes, device_of, edits_of, files_of, form_of as form_by, meaning_of};
+ghost use Rattle.volume_jobs.specs.FileSystems.{edits_of, files_of};
 ghost use Rattle.volume_jobs.specs.VolumeReply.{IsVolumeReply, NamesPlaces, ReservesNamed};
 ghost use Rattle.volume_jobs.specs.Work.{IsWorkReply, work_view};
 ghost use Rattle.job_reply.specs.declared.reply.Reply.TheVariants.{Failed as AFailed};
 ghost use Rattle.job_reply.specs.declared.reply.Failure.TheVariants.{Memory as OfMemory};
 
-use crate::check::check_reply;
 use crate::edit::edit_reply;
-use crate::listing::catalog_reply;
 use crate::optimize::optimize_reply;
-use crate::plan::plan_reply;
-use crate::plan_words::plan_words_reply;
-use crate::reading::read_reply;
+use crate::reading_work::reading_reply;
 use crate::save::save_reply;
-use crate::verify::verify_reply;
 use a2_device::{Device, ImageDevice};
-use a2_image::{Image, ImageError, Order};
+use a2_image::{Image, Order};
 use dos_format::Dos33;
 use given_file::GivenFile;
-use job_reply::{Failure, Refusal, Reply, open_disk};
+use image_volume::{form_of, open_volume};
+use job_reply::{Failure, Refusal, Reply};
 use pro_format::Prodos;
 use reserved_places::{PlaceForm, ReserveError, Reserved};
 use save_formats::SavableFormat;
@@ -80,16 +77,6 @@ pub enum Work<'a> {
     },
 }
 
-/// How the places of a file system are named.
-pub fn form_of(file_system: FileSystem) -> PlaceForm
-    ensures { result ≡ form_by file_system }
-{
-    match file_system {
-        FileSystem::Dos => PlaceForm::Sector,
-        FileSystem::Prodos => PlaceForm::Block,
-    }
-}
-
 /// The places that the words reserve.
 ///
 /// # Errors
@@ -105,22 +92,6 @@ pub fn reserved_by(
     match reserve {
         Some(text) => Reserved::read(alloc, text, form),
         None => Ok(Reserved::none(alloc)),
-    }
-}
-
-// Takes the bytes of an image that has a volume of a file system.
-fn open_volume(bytes: Vec<u8>, order: Order, file_system: FileSystem) -> Result<Image, ImageError>
-    ensures takes { IfOk result (λ image. TakesBytes file_system order (length bytes.items)) }
-    ensures image { IfOk result (λ image. IsImageOf order bytes.items image) }
-    ensures disk { IfOk result (λ image. file_system ≡ OfDos → IsOfDisk image) }
-    ensures refused { IfErr result (RefusesBytes file_system order (length bytes.items)) }
-{
-    if file_system == FileSystem::Dos {
-        return open_disk(bytes, order);
-    }
-    match Image::open(bytes, order) {
-        Ok(image) => Ok(image),
-        Err((error, _)) => Err(error),
     }
 }
 
@@ -140,24 +111,11 @@ fn work_reply<F: SavableFormat>(
 {
     let mut device = device;
     match work {
-        Work::Catalog => catalog_reply(alloc, &mut device, format, form),
-        Work::Read { name, whole } => read_reply(alloc, &mut device, format, name, whole),
-        Work::Check => check_reply(alloc, &mut device, format, form),
-        Work::Plan {
-            reclaim,
-            words: false,
-        } => plan_reply(alloc, &mut device, format, reclaim),
-        Work::Plan {
-            reclaim,
-            words: true,
-        } => plan_words_reply(alloc, &mut device, format, form, reclaim),
         Work::Optimize { reclaim, limit } => optimize_reply(alloc, device, format, reclaim, limit),
         Work::Edit { edit, name } => edit_reply(alloc, device, format, edit, name),
         Work::Save { path, given } => save_reply(alloc, device, format, path, given),
-        Work::Verify {
-            reclaim,
-            certificate,
-        } => verify_reply(alloc, &mut device, format, reclaim, certificate),
+        Work::Catalog | Work::Read { .. } | Work::Check | Work::Plan { .. } | Work::Verify { .. } =>
+            reading_reply(alloc, work, &mut device, format, form),
     }
 }
 

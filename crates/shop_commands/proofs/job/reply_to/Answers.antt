@@ -3,7 +3,8 @@ use Rattle.a2_image.specs.declared.order.Order.{Order}
 use Rattle.shop_words.specs.Job.{job_view}
 use Rattle.shop_words.specs.declared.job.Job.{Job}
 use Rattle.shop_commands.specs.Answer.{IsReplyToBytes, image_order_of}
-use Rattle.volume_jobs.specs.Volume.{edits_of, files_of, form_of}
+use Rattle.image_volume.specs.Volume.{form_of}
+use Rattle.volume_jobs.specs.FileSystems.{edits_of, files_of}
 use Rattle.volume_jobs.specs.VolumeReply.{IsVolumeReply}
 use Rattle.volume_jobs.specs.Work.{IsWorkReply, Catalog}
 use Rattle.image_readings.specs.IdentifyReply.{IsIdentifyReply}

@@ -1,9 +1,10 @@
-use Rattle.std.proofs.Common.{inl}
+use Rattle.std.proofs.Common.{inl, inr}
 use Rattle.vol_opening.specs.Opening.{told_in}
+use Rattle.volume_jobs.proofs.Unopened.{unopened}
 use Rattle.volume_jobs.proofs.plan_words.plan_words_reply.Goals as goal
 
-pub returns-in-Ok : goal.returns-in-Ok
-returns-in-Ok g c = λ honest never.
+pub returns-in-Ok-clause-told : goal.returns-in-Ok-clause-told
+returns-in-Ok-clause-told g c = λ honest lack.
     let opening = c.in-Ok.opening in
     let directory = g.F.Format.directory c.args.format.now opening.volume in
     let read = c.in-Ok.ensures in
@@ -21,3 +22,7 @@ returns-in-Ok g c = λ honest never.
       shortest = read.plan;
       told = c.words_reply.ensures;
     })
+
+pub returns-in-Err-clause-told : goal.returns-in-Err-clause-told
+returns-in-Err-clause-told g c = λ honest lack.
+    inr (unopened c.args.reclaim (g.F.Format.meaning c.args.format.now) (g.D.Device.state c.args.device.now) c.in-Err.error c.unopened_reply.result lack (c.in-Err.ensures.refused honest) c.unopened_reply.ensures)

@@ -15,21 +15,9 @@ use Rattle.reserved_places.specs.declared.form.PlaceForm.TheVariants as forms
 use Rattle.vol_format.specs.Meaning.{Meaning}
 use Rattle.dos_format.specs.Dos.{dos_meaning}
 use Rattle.pro_format.specs.Pro.{pro_meaning}
-use Rattle.file_cmds.specs.DosFiles.{dos_files}
-use Rattle.file_cmds.specs.Files.{FileMeaning}
-use Rattle.file_cmds.specs.ProFiles.{pro_files}
-use Rattle.file_edits.specs.DosEdits.{dos_edits}
-use Rattle.file_edits.specs.DosErasing.{dos_erasures}
-use Rattle.file_edits.specs.DosNames.{dos_names}
-use Rattle.file_edits.specs.ProEdits.{pro_edits}
-use Rattle.file_edits.specs.ProErasing.{pro_erasures}
-use Rattle.file_edits.specs.ProNames.{pro_names}
-use Rattle.save_formats.specs.DosSaves.{dos_saves}
-use Rattle.save_formats.specs.ProSaves.{pro_saves}
 use Rattle.shop_words.specs.declared.job.FileSystem.{FileSystem}
 use Rattle.shop_words.specs.declared.job.FileSystem.TheVariants.{Dos, Prodos}
 use Rattle.job_reply.specs.Disk.{disk_bytes}
-use Rattle.volume_jobs.specs.EditRules.{EditRules, edit_rules}
 
 -- DOS 3.3 has sectors and ProDOS blocks, and so are their places named
 abbrev pub kind_of : FileSystem → UnitKind
@@ -44,16 +32,6 @@ form_of Prodos = forms.Block
 abbrev pub meaning_of : FileSystem → Bool → List Bool → Meaning
 meaning_of Dos data_disk reserved = dos_meaning data_disk reserved
 meaning_of Prodos data_disk reserved = pro_meaning reserved
-
--- how its files are named, shown and read
-abbrev pub files_of : FileSystem → FileMeaning
-files_of Dos = dos_files
-files_of Prodos = pro_files
-
--- how its entries are changed
-abbrev pub edits_of : FileSystem → EditRules
-edits_of Dos = edit_rules dos_edits dos_names dos_erasures dos_saves
-edits_of Prodos = edit_rules pro_edits pro_names pro_erasures pro_saves
 
 -- an image in this order may have so many bytes: those of a disk, or in ProDOS those of 16 to 65,535 blocks
 abbrev pub TakesBytes : FileSystem → Order → ℕ → Type 0

@@ -6,7 +6,7 @@ use Rattle.a2_image.specs.declared.error.ImageError.TheVariants as images
 use Rattle.a2_image.specs.Opening.{RefusesToOpen}
 use Rattle.shop_words.specs.declared.job.FileSystem.TheVariants.{Dos as Dos_volume, Prodos as Prodos_volume}
 use Rattle.job_reply.specs.Disk.{RefusesDisk}
-use Rattle.volume_jobs.specs.Volume.{RefusesBytes}
+use Rattle.image_volume.specs.Volume.{RefusesBytes}
 
 pub refuses_bytes : (order : Order) (bytes : List ℕ) (error : ImageError) → RefusesToOpen order (length bytes) error → RefusesBytes Prodos_volume order (length bytes) error
 refuses_bytes order bytes images.Length refused = refused

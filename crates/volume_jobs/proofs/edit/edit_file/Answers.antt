@@ -1,10 +1,9 @@
 use Rattle.std.proofs.Common.{◌≡◌, ◌∙◌, sym, ap, subst}
 use Rattle.file_edits.specs.Writes.{HasEdited}
 use Rattle.shop_words.specs.Job.{EditView, Rename, edit_view}
-use Rattle.volume_jobs.specs.EditReply.{AreWritesOf}
+use Rattle.volume_jobs.specs.EditReply.{AreWritesOf, IsOldOrEdited}
 use Rattle.volume_jobs.specs.EditRules.{edit_rules}
-use Rattle.device_jobs.specs.EditOutcome.{IsOldOrEdited}
-use Rattle.device_jobs.proofs.editing.edit_file.Goals as goal
+use Rattle.volume_jobs.proofs.edit.edit_file.Goals as goal
 
 pub returns-in-Rename-clause-edited : goal.returns-in-Rename-clause-edited
 returns-in-Rename-clause-edited g c =

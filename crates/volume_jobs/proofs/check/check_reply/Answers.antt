@@ -1,0 +1,6 @@
+use Rattle.volume_jobs.proofs.Checks.{check_refused}
+use Rattle.volume_jobs.proofs.check.check_reply.Goals as goal
+
+pub returns-in-Err-clause-told : goal.returns-in-Err-clause-told
+returns-in-Err-clause-told g c = λ honest lack.
+    check_refused c.args.form (g.F.Format.meaning c.args.format.now) (g.D.Device.state c.args.device.now) c.in-Err.error c.refused_reply.result lack (c.in-Err.ensures.refused honest) c.refused_reply.ensures
