@@ -14,7 +14,7 @@ use a2_image::{Image, ImageError, Order};
 use dos_catalog::Catalog;
 use dos_format::Dos33;
 use dos_vtoc::{VTOC_PLACE, Vtoc};
-use job_reply::open_disk;
+use image_volume::open_volume;
 use pro_dir::VolumeDir;
 use pro_format::Prodos;
 use reserved_places::Reserved;
@@ -175,27 +175,15 @@ fn prodos_finding(alloc: Global, image: Image) -> Result<Finding, AllocError>
     }
 }
 
-// Takes the bytes of an image of a disk.
-fn disk_of(bytes: Vec<u8>, order: Order) -> Result<Image, AllocError>
-    requires { TakesBytes OfDos order (length bytes.items) }
+// Takes the bytes of an image that has a volume of a file system.
+fn image_of(bytes: Vec<u8>, order: Order, file_system: FileSystem) -> Result<Image, AllocError>
+    requires { TakesBytes file_system order (length bytes.items) }
     ensures image { IfOk result (IsImageOf order bytes.items) }
-    ensures disk { IfOk result (λ image. IsOfDisk image) }
+    ensures disk { IfOk result (λ image. file_system ≡ OfDos → IsOfDisk image) }
 {
-    match open_disk(bytes, order) {
-        Ok(disk) => Ok(disk),
-        Err(ImageError::Memory) => Err(AllocError),
-        Err(_) => unreachable!(),
-    }
-}
-
-// Takes the bytes of an image.
-fn image_of(bytes: Vec<u8>, order: Order) -> Result<Image, AllocError>
-    requires { TakesBytes OfProdos order (length bytes.items) }
-    ensures { IfOk result (IsImageOf order bytes.items) }
-{
-    match Image::open(bytes, order) {
+    match open_volume(bytes, order, file_system) {
         Ok(image) => Ok(image),
-        Err((ImageError::Memory, _)) => Err(AllocError),
+        Err(ImageError::Memory) => Err(AllocError),
         Err(_) => unreachable!(),
     }
 }
@@ -217,9 +205,10 @@ pub fn reading_of(
     ensures found { IfOk result (IsReadingOf image.now) }
 {
     let bytes = Vec::from_slice(alloc, image)?;
+    let image = image_of(bytes, order, file_system)?;
     let finding = match file_system {
-        FileSystem::Dos => dos_finding(alloc, disk_of(bytes, order)?)?,
-        FileSystem::Prodos => prodos_finding(alloc, image_of(bytes, order)?)?,
+        FileSystem::Dos => dos_finding(alloc, image)?,
+        FileSystem::Prodos => prodos_finding(alloc, image)?,
     };
     Ok(Reading {
         file_system,

@@ -6,20 +6,20 @@ use Rattle.image_readings.proofs.volume.reading_of.Goals as goal
 
 pub returns-in_ok-finding-in-Dos-clause-found : goal.returns-in_ok-finding-in-Dos-clause-found
 returns-in_ok-finding-in-Dos-clause-found c =
-    let disk = c.in_ok-disk_of-in-Dos.field-0 in
+    let image = c.in_ok-image.image in
     let finding = c.in_ok-finding-in-Dos.finding in (
       c.requires,
-      disk,
-      subst (λ (bytes : List ℕ). IsImageOf c.args.order bytes disk) c.in_ok-bytes.ensures.items c.in_ok-disk_of-in-Dos.ensures.image,
-      subst (λ (system : FileSystem). IsToldOf system (device_of system disk) finding) (sym c.in-Dos.is) c.in_ok-finding-in-Dos.ensures,
+      image,
+      subst (λ (bytes : List ℕ). IsImageOf c.args.order bytes image) c.in_ok-bytes.ensures.items c.in_ok-image.ensures.image,
+      subst (λ (system : FileSystem). IsToldOf system (device_of system image) finding) (sym c.in-Dos.is) c.in_ok-finding-in-Dos.ensures,
     )
 
 pub returns-in_ok-finding-in-Prodos-clause-found : goal.returns-in_ok-finding-in-Prodos-clause-found
 returns-in_ok-finding-in-Prodos-clause-found c =
-    let image = c.in_ok-image_of-in-Prodos.field-0 in
+    let image = c.in_ok-image.image in
     let finding = c.in_ok-finding-in-Prodos.finding in (
       c.requires,
       image,
-      subst (λ (bytes : List ℕ). IsImageOf c.args.order bytes image) c.in_ok-bytes.ensures.items c.in_ok-image_of-in-Prodos.ensures,
+      subst (λ (bytes : List ℕ). IsImageOf c.args.order bytes image) c.in_ok-bytes.ensures.items c.in_ok-image.ensures.image,
       subst (λ (system : FileSystem). IsToldOf system (device_of system image) finding) (sym c.in-Prodos.is) c.in_ok-finding-in-Prodos.ensures,
     )
