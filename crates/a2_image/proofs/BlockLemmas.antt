@@ -127,3 +127,29 @@ HasSector-second image new b content there disk track front rear lt ls at at' co
       has = λ none. (HasSector-rear image b disk there track rear lt ls at').has
           (sym (get_or-set_other image.sectors (16 * track + front) (16 * track + rear) (Some content) None apart) ∙ ap (λ all. get_or all (16 * track + rear) None) (sym written) ∙ none);
     }
+
+-- a block of a disk is written over, one sector after the other
+module _ (old mid : DiskImage) (b track front rear : ℕ) (content : List ℕ) (disk : IsOfDisk old) (long : length old.sectors ≡ 560) (within : b < block_count old)
+    (at : 16 * track + front ≡ sector_of_half (2 * b)) (at' : 16 * track + rear ≡ sector_of_half (2 * b + 1))
+    (first : mid.sectors ≡ set old.sectors (16 * track + front) (Some (take 256 content))) where
+  pub blocks-both_halves : (new : DiskImage) → block_count new ≡ block_count old → new.sectors ≡ set mid.sectors (16 * track + rear) (Some (drop 256 content))
+      → blocks new ≡ set (blocks old) b (Some content)
+  blocks-both_halves new count second =
+      blocks-halves old new b content disk long within count
+      (second
+      ∙ ap (λ n. set mid.sectors n (Some (drop 256 content))) at'
+      ∙ ap (λ all. set all (sector_of_half (2 * b + 1)) (Some (drop 256 content)))
+      (first ∙ ap (λ n. set old.sectors n (Some (take 256 content))) at))
+
+  pub HasBlock-both_halves : HasSector old track front → HasSector mid track rear → HasBlock old b
+  HasBlock-both_halves there there' =
+      let apart : 16 * track + rear ≢ 16 * track + front = λ same. let one = half_once (2 * b + 1) (2 * b) (sym at' ∙ same ∙ at) in omega (arith, one) in
+      let kept : get_or mid.sectors (16 * track + rear) None ≡ get_or old.sectors (16 * track + rear) None =
+      ap (λ all. get_or all (16 * track + rear) None) first ∙ get_or-set_other old.sectors (16 * track + front) (16 * track + rear) (Some (take 256 content)) None apart in
+      record {
+        within = within;
+        has = λ none. ⊎_elim
+            (λ lacks. there.has (ap (λ n. get_or old.sectors n None) at ∙ lacks))
+            (λ lacks. there'.has (kept ∙ ap (λ n. get_or old.sectors n None) at' ∙ lacks))
+            (none-block_in old b disk none);
+      }

@@ -1,14 +1,14 @@
 -- What holds of every image.
-use Rattle.std.proofs.Common.{◌≡◌, ℕ, ◌+◌, ◌*◌, ◌/◌, ◌%◌, ◌-◌, ◌<◌, List, [], length, take, drop, ◌++◌, get_or, Some, None, refl, sym, ◌∙◌, ap, arith, ⊎_elim}
+use Rattle.std.proofs.Common.{◌≡◌, ℕ, ◌+◌, ◌*◌, ◌/◌, ◌%◌, ◌-◌, ◌<◌, ◌≤◌, List, [], length, take, drop, ◌++◌, get_or, Some, None, refl, sym, ◌∙◌, ap, arith, ⊎_elim}
 use Rattle.std.specs.Prelude.{Option, ◌==◌, if◌then◌else◌}
 use Rattle.std.proofs.Math.Seq.{take-add}
 use Rattle.std.proofs.lemmas.Bool.{cases_eq}
 use Rattle.std.proofs.lemmas.List.{drop-drop}
 use Rattle.a2_image.specs.declared.order.Order.{Order}
 use Rattle.a2_image.specs.declared.order.Order.TheVariants.{Dos, Prodos, Nibble}
-use Rattle.a2_image.specs.Image.{DiskImage, HoldsSectors, blocks_of, block_count, in_track, number_in, sectors_by, bytes_of_sector}
+use Rattle.a2_image.specs.Image.{DiskImage, HoldsSectors, IsOfDisk, blocks_of, block_count, in_track, number_in, sectors_by, bytes_of_sector}
 use Rattle.a2_image.specs.Skew.{half_of_physical, physical_of_half}
-use Rattle.a2_image.specs.Blocks.{sector_of_half, bytes_of_block, block_in}
+use Rattle.a2_image.specs.Blocks.{CanLendBlock, sector_of_half, bytes_of_block, block_in}
 use Rattle.a2_image.proofs.Skews.{half_of_physical-physical_of_half, physical_of_half_fits, half_fits}
 use Rattle.a2_image.proofs.Sectors.{get_or-sectors_by}
 use Rattle.a2_image.proofs.BlockLemmas.{block_in-disk, block_in-stored, block_of_sectors-there}
@@ -54,6 +54,12 @@ blocks_of-prodos : (bytes : ℕ) → blocks_of Prodos bytes ≡ bytes / 512
 unfolding blocks_of
 blocks_of-prodos bytes = refl
 
+-- in ProDOS order each block lies within the bytes
+pub block_end-prodos : (image : DiskImage) (block : ℕ) → image.order ≡ Prodos → block < block_count image → 512 * block + 512 ≤ length image.bytes
+block_end-prodos image block order within =
+    let count : block_count image ≡ length image.bytes / 512 = ap (λ o. blocks_of o (length image.bytes)) order ∙ blocks_of-prodos (length image.bytes) in
+    omega (arith, within, count)
+
 pub block_in-prodos : (image : DiskImage) (block : ℕ) → image.order ≡ Prodos → HoldsSectors image.order image.bytes image.sectors → block < block_count image
     → block_in image block ≡ Some (bytes_of_block image.bytes block)
 block_in-prodos image block order holds within = ⊎_elim
@@ -69,3 +75,13 @@ block_in-prodos image block order holds within = ⊎_elim
     ∙ ap Some (block_of_parts image.bytes block))
     (λ other. block_in-stored image block other)
     (cases_eq (block_count image) 280)
+
+-- a block that is not lent as it is, of an image that has it, is one of a disk
+pub of_disk-not_lent : (image : DiskImage) (block : ℕ) → block < block_count image → (CanLendBlock image block → ⊥) → IsOfDisk image
+unfolding blocks_of
+of_disk-not_lent image block within cannot = by_order image.order refl
+  where
+    by_order : (order : Order) → image.order ≡ order → IsOfDisk image
+    by_order Dos is = ap (λ o. blocks_of o (length image.bytes)) is
+    by_order Prodos is = absurd (cannot (record { prodos = is; within = within }))
+    by_order Nibble is = ap (λ o. blocks_of o (length image.bytes)) is

@@ -1,14 +1,14 @@
 -- Of what is left in a lent sector, one sector is another.
-use Rattle.std.proofs.Common.{◌≡◌, ◌⊎◌, ℕ, ◌+◌, ◌*◌, ◌-◌, ◌<◌, ◌≤◌, List, ◌++◌, length, take, drop, Some, sym, ◌∙◌, ap, arith, length-drop, length-append, ⊎_elim, inl, inr}
-use Rattle.std.specs.Prelude.{slice_range, slice_set}
+use Rattle.std.proofs.Common.{◌≡◌, ◌⊎◌, ℕ, ◌+◌, ◌*◌, ◌-◌, ◌<◌, ◌≤◌, Bool, true, false, List, [], ◌++◌, length, take, drop, Some, refl, sym, ◌∙◌, ap, arith, length-drop, length-append, ⊎_elim, inl, inr}
+use Rattle.std.specs.Prelude.{◌==◌, slice_range, slice_set}
 use Rattle.std.proofs.Math.Seq.{take-append_seam, drop-append_seam}
 use Rattle.std.proofs.lemmas.List.{drop-drop, length-take-le, take_all}
 use Rattle.std.proofs.lemmas.Bool.{cases_order}
 use Rattle.a2_image.specs.declared.order.Order.{Order}
-use Rattle.a2_image.specs.Image.{DiskImage, CanLend, IsImageLength, HoldsSectors, number_in, sectors_by}
-use Rattle.a2_image.specs.Lending.{written, with_lent}
+use Rattle.a2_image.specs.Image.{DiskImage, CanLend, HoldsSectors, IsImageLength, number_in, sectors_by}
+use Rattle.a2_image.specs.Lending.{is_lent, sector_offset, written, with_lent}
 use Rattle.a2_image.proofs.ImageLemmas.{length_of_disk, holds_plain}
-use Rattle.a2_image.proofs.LentLemmas.{lent_where}
+use Rattle.a2_image.proofs.LentLemmas.{lends, lent_where, length-written}
 use Rattle.a2_image.proofs.PartLemmas.{part_kept}
 use Rattle.a2_image.proofs.Sectors.{sectors_by-replaced}
 use Rattle.a2_image.proofs.Skews.{number_fits}
@@ -85,3 +85,25 @@ lent_is_one image track sector content measured holds can long =
     rw (lent_where image track sector can)
     (sectors-written image.order image.bytes (16 * track + sector) content (omega (arith, low, fits)) disk long
     ∙ ap (λ all. slice_set all (16 * track + sector) (Some content)) (sym (holds_plain image.order image.bytes image.sectors can.plain can.disk holds)))
+
+-- a sector of which a byte is lent is lent
+pub some_byte_lent : (image : DiskImage) (track sector : ℕ) (lent : List ℕ) → ((CanLend image track sector → ⊥) → lent ≡ []) → (length lent == 0) ≡ false → CanLend image track sector
+some_byte_lent image track sector lent none some = by_test (is_lent image track sector) refl
+  where
+    by_test : (test : Bool) → is_lent image track sector ≡ test → CanLend image track sector
+    by_test true is = lends image track sector is
+    by_test false is =
+        let empty = none (λ can. let yes = lent_where image track sector can in cc) in
+        let test : true ≡ false = ap (λ (xs : List ℕ). length xs == 0) (sym empty) ∙ some in
+        absurd (cc)
+
+-- what is left in a lent sector leaves as many bytes as there were
+pub lent_long : (image : DiskImage) (track sector : ℕ) (content : List ℕ) → IsImageLength image.order (length image.bytes) → CanLend image track sector
+    → length (with_lent image track sector content).bytes ≡ length image.bytes
+lent_long image track sector content measured can =
+    let low = can.track_fits in
+    let fits = can.sector_fits in
+    let disk = length_of_disk image.order image.bytes can.plain measured can.disk in
+    rw (lent_where image track sector can)
+    (length-written image.bytes (sector_offset image.order track sector) content
+    (omega (arith, disk, number_fits image.order (16 * track + sector) (omega (arith, low, fits)))))

@@ -1,6 +1,7 @@
 -- The blocks of 512 bytes of an image. (ProDOS 8 Technical Reference Manual, Appendix B.)
 use Rattle.std.specs.Prelude.{◌≡◌, ◌≢◌, ◌==◌, ℕ, ◌+◌, ◌*◌, ◌/◌, ◌%◌, ◌<◌, ◌++◌, List, map, take, drop, Option, Some, None, slice_range, slice_set, slice_index_or, if◌then◌else◌}
 use Rattle.std.specs.List.{range_with_len}
+use Rattle.a2_image.specs.declared.order.Order.TheVariants.{Prodos}
 use Rattle.a2_image.specs.Skew.{physical_of_half}
 use Rattle.a2_image.specs.Image.{DiskImage, block_count}
 
@@ -43,6 +44,11 @@ pub record HasBlock (image : DiskImage) (block : ℕ) : Type 0 where
 pub record LacksBlock (image : DiskImage) (block : ℕ) : Type 0 where
   pub within : block < block_count image
   pub lacks : block_in image block ≡ None
+
+-- a block that lies in the image as it is
+pub record CanLendBlock (image : DiskImage) (block : ℕ) : Type 0 where
+  pub prodos : image.order ≡ Prodos
+  pub within : block < block_count image
 
 -- the sectors of a disk with a block written over
 abbrev pub with_block : List (Option (List ℕ)) → ℕ → List ℕ → List (Option (List ℕ))

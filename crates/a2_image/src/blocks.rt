@@ -8,8 +8,8 @@ use crate::part::{copy_part, replace};
 use crate::{BLOCK_BYTES, DISK_BLOCKS, Image, ImageError, SECTOR_BYTES};
 use std::alloc::Allocator;
 
-// The track of a block of a disk, and the two sectors.
-fn sectors_of_block(number: u32) -> (u8, u8, u8)
+/// The track of a block of a disk, and its two physical sectors, the first half's first.
+pub fn sectors_of_block(number: u32) -> (u8, u8, u8)
     requires { number < 280 }
     ensures front { 16 * result.0 + result.1 ≡ sector_of_half (2 * number) }
     ensures rear { 16 * result.0 + result.2 ≡ sector_of_half (2 * number + 1) }

@@ -297,6 +297,13 @@ impl<A: Allocator> Image<A> {
         );
     }
 
+    // The bytes.
+    pub(crate) fn as_slice(&self) -> &[u8]
+        ensures { result.now ≡ self.now.bytes }
+    {
+        self.bytes.as_slice()
+    }
+
     // How many bytes the image has.
     pub(crate) fn byte_count(&self) -> usize
         ensures value { result ≡ length self.now.bytes }

@@ -1,12 +1,13 @@
-// Sectors that are lent.
+// Sectors and blocks that are lent.
 ghost use Rattle.std.specs.Prelude.{◌≡◌, ◌↔◌, ◌≤◌, Some, IsTrue, IsSome, IfSome, length};
 ghost use Rattle.a2_image.specs.Image.{sector_in, CanLend};
+ghost use Rattle.a2_image.specs.Blocks.{block_in, CanLendBlock};
 ghost use Rattle.a2_image.specs.Lending.{is_lent, lent_range};
 
-use crate::Image;
 use crate::image::SECTOR_BYTES;
-use crate::order::{DISK_BLOCKS, SECTORS, TRACKS};
+use crate::order::{BLOCK_BYTES, DISK_BLOCKS, SECTORS, TRACKS};
 use crate::plain::{lent_plain, stored_number};
+use crate::{Image, Order};
 use std::alloc::Allocator;
 
 impl<A: Allocator> Image<A> {
@@ -21,6 +22,20 @@ impl<A: Allocator> Image<A> {
             return None;
         }
         Some(lent_plain(self.stored(), self.order(), track, sector))
+    }
+
+    /// The 512 bytes of a block, as they lie in the image. `None` in another order than that of ProDOS, and for a number
+    /// from `blocks()` on.
+    pub fn block_ref(&self, number: u32) -> Option<&[u8]>
+        ensures value { IfSome result (λ content. block_in self.now number ≡ Some content.now) }
+        ensures long { IfSome result (λ content. length content.now ≡ 512) }
+        ensures some { IsSome result ↔ CanLendBlock self.now number }
+    {
+        if self.order() != Order::Prodos || number >= self.blocks() {
+            return None;
+        }
+        let start = BLOCK_BYTES * number as usize;
+        Some(&self.as_slice()[start..start + BLOCK_BYTES])
     }
 
     // From which byte to which the image is lent for a sector: the sector's, or no byte.

@@ -20,6 +20,7 @@ mod order;
 mod part;
 mod plain;
 
+pub use blocks::sectors_of_block;
 pub use error::ImageError;
 pub use image::{Image, SECTOR_BYTES};
 pub use laws::{

@@ -1,6 +1,6 @@
 use a2_image::{
     BLOCK_BYTES, IMAGE_BYTES, Image, ImageError, NIBBLE_BYTES, Order, SECTOR_BYTES, block_to_phys,
-    dos_to_phys,
+    dos_to_phys, sectors_of_block,
 };
 use refusing::Refusing;
 use std::alloc::Allocator;
@@ -81,6 +81,8 @@ fn numbers_sectors_and_blocks(rt: HostRuntime) {
     for block in 0..8u8 {
         assert!(rt; block_to_phys(block) == halves[usize::from(block)]);
     }
+    assert!(rt; sectors_of_block(0) == (0, 0, 2));
+    assert!(rt; sectors_of_block(279) == (34, 13, 15));
 }
 
 /// The order and the blocks of an image of these bytes, or why there is none, and how many bytes come back.
@@ -205,6 +207,7 @@ fn reads_and_writes_a_damaged_track(rt: HostRuntime) -> Result<(), Fail> {
     assert!(rt; fill(&mut image, 17, 0, 0x5A) == Ok(()));
     assert!(rt; filling(&image, 17, 0) == Ok(Some(0x5A)));
     assert!(rt; image.sector_ref(17, 0).is_none());
+    assert!(rt; image.block_ref(137).is_none());
     assert!(rt; keeps_other_fields(&rt, image)?);
     Ok(())
 }
@@ -262,12 +265,14 @@ fn has_no_sectors_of_another_size(rt: HostRuntime) -> Result<(), Fail> {
     let mut block = [0; BLOCK_BYTES];
     assert!(rt; image.block(15, &mut block) == Ok(()));
     assert!(rt; block == [7; BLOCK_BYTES]);
+    assert!(rt; image.block_ref(15) == Some([7; BLOCK_BYTES].as_slice()));
+    assert!(rt; image.block_ref(16).is_none());
     assert!(rt; image.block(16, &mut block) == Err(ImageError::Number));
     Ok(())
 }
 
 #[test]
-fn lends_a_sector(rt: HostRuntime) -> Result<(), Fail> {
+fn lends_sectors_and_blocks(rt: HostRuntime) -> Result<(), Fail> {
     let image = numbered(&rt)?;
     for order in [Order::Dos, Order::Prodos] {
         let image = image.convert(order, 254)?;
@@ -277,6 +282,12 @@ fn lends_a_sector(rt: HostRuntime) -> Result<(), Fail> {
         assert!(rt; image.sector_ref(35, 0).is_none());
         assert!(rt; image.sector_ref(0, 16).is_none());
     }
+    assert!(rt; image.block_ref(279).is_none());
+    let image = image.convert(Order::Prodos, 254)?;
+    let mut block = [13; BLOCK_BYTES];
+    block[SECTOR_BYTES..].fill(15);
+    assert!(rt; image.block_ref(279) == Some(block.as_slice()));
+    assert!(rt; image.block_ref(280).is_none());
     Ok(())
 }
 
