@@ -2,6 +2,7 @@
 """Peak memory of the commands on hostile ProDOS volumes, beside the bytes of the image. Wanted: at most twice the image and 16 MB.
 
 A chain: directories of one block each, every one within the one before, so that the paths together are far longer than the image.
+A file at the end of a chain, its blocks in reverse, so that a plan in words has its long path in every line.
 Faults: files whose index blocks hold nothing but wild pointers, 256 faults for each block of 512 bytes."""
 
 import resource
@@ -10,7 +11,7 @@ import tempfile
 
 from whole_commands import PROGRAM
 
-BLOCK, ENTRY, ENTRIES, TOTAL = 512, 0x27, 13, 65_535
+BLOCK, ENTRY, ENTRIES, POINTERS, TOTAL = 512, 0x27, 13, 256, 65_535
 FIRST = 6 + -(-TOTAL // (8 * BLOCK))
 MOST_MEMORY = 8 << 30
 
@@ -42,6 +43,11 @@ class Volume:
         self.image[at + 0x1E] = 0xC3
         self.word(at + 0x25, 2)
 
+    def index(self, block, units):
+        for number, unit in enumerate(units):
+            self.image[block * BLOCK + number] = unit & 0xFF
+            self.image[block * BLOCK + POINTERS + number] = unit >> 8
+
 
 def chain(depth):
     volume = Volume()
@@ -51,7 +57,22 @@ def chain(depth):
         volume.header(FIRST + level, 0xE, b"A" * 15)
         volume.word((FIRST + level) * BLOCK + 0x27, above)
         volume.image[(FIRST + level) * BLOCK + 0x29 : (FIRST + level) * BLOCK + 0x2B] = bytes([1, ENTRY])
-    return volume.image
+    return volume
+
+
+def file_in_chain(depth, blocks):
+    volume = chain(depth)
+    master = FIRST + depth
+    indexes = range(master + 1, master + 1 - (-blocks // POINTERS))
+    bodies = list(reversed(range(indexes.stop, indexes.stop + blocks)))
+    volume.entry(master - 1, 1, 3, b"F", master)
+    end = blocks * BLOCK
+    at = (master - 1) * BLOCK + 4 + ENTRY + 0x15
+    volume.image[at : at + 3] = end.to_bytes(3, "little")
+    volume.index(master, indexes)
+    for number, index in enumerate(indexes):
+        volume.index(index, bodies[number * POINTERS : (number + 1) * POINTERS])
+    return volume
 
 
 def faults(files):
@@ -65,7 +86,7 @@ def faults(files):
         key = directories[-1] + 1 + number
         volume.entry(block, slot, 2, b"F%d" % number, key)
         volume.image[key * BLOCK : (key + 1) * BLOCK] = b"\xff" * BLOCK
-    return volume.image
+    return volume
 
 
 def peak(words):
@@ -78,17 +99,25 @@ def peak(words):
 
 def main():
     with tempfile.TemporaryDirectory() as folder:
-        volumes = {"a chain of 16,384 directories": chain(16_384), "60,000 files of wild pointers": faults(60_000)}
-        for name, image in volumes.items():
+        volumes = {
+            "a chain of 16,384 directories": chain(16_384),
+            "a chain of 65,513 directories": chain(65_513),
+            "60,000 files of wild pointers": faults(60_000),
+            "a file of 8,000 blocks within 8,192 directories": file_in_chain(8_192, 8_000),
+        }
+        for name, volume in volumes.items():
+            image = volume.image
             path = f"{folder}/image.po"
             with open(path, "wb") as file:
                 file.write(image)
             print(f"{name}, {len(image):,} bytes; wanted are at most {(2 * len(image) + (16 << 20)) >> 20} MB")
             words = ["--fs", "prodos", "--order", "prodos"]
-            for command in (["catalog", path, *words], ["check", path, *words], ["read", path, "NONE", *words], ["plan", path, *words, "--reclaim"],
+            for command in (["catalog", path, *words], ["catalog", path, *words, "--explain"], ["check", path, *words], ["read", path, "NONE", *words],
+                            ["plan", path, *words, "--reclaim"], ["plan", path, *words, "--reclaim", "--words"],
                             ["optimize", path, *words, "--reclaim", "--out", f"{folder}/out.po"], ["identify", path]):
                 status, memory = peak(command)
-                print(f"  {command[0]:9} status {status}, peak {memory >> 10:,} MB")
+                said = [word for word in command if word == command[0] or word in ("--explain", "--words")]
+                print(f"  {' '.join(said):17} status {status}, peak {memory >> 10:,} MB")
 
 
 if __name__ == "__main__":

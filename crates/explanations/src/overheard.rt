@@ -1,4 +1,4 @@
-// A writer that hands all on, and keeps a copy.
+// A writer that hands all on, and keeps a copy of the front.
 ghost use Rattle.std.specs.Prelude.{◌≡◌, IfOk, OnErr, option_map, take};
 ghost use Rattle.std.specs.Io.{WritesAtMost};
 ghost use Rattle.std.specs.Io.KnownBytes.{WriteAppends};
@@ -7,11 +7,14 @@ ghost use Rattle.explanations.specs.Overheard.{Hears};
 use std::alloc::Global;
 use std::io::{self, Write};
 
-/// A writer that hands all on to another, and keeps a copy of what that one took.
+/// The most bytes that are kept of what was told, some 300,000 lines. The listing of a hostile volume may be far longer.
+const MOST_HEARD: usize = 8_388_608;
+
+/// A writer that hands all on to another, and keeps a copy of what that one took, of its first 8,388,608 bytes at the most.
 #[derive(Drop)]
 pub struct Overheard<W> {
     pub inner: W,
-    /// What the inner writer took; `None` from where there was no memory for it.
+    /// What the inner writer took, as far as it is kept; `None` from where there was no memory for it.
     pub told: Option<Vec<u8>>,
 }
 
@@ -25,12 +28,14 @@ impl<W: Write> Overheard<W> {
     }
 }
 
-// What was heard, with these bytes behind it, if there is memory for them.
+// What was heard, with these bytes behind it as far as there is room for them, if there is memory for them.
 fn heard(told: Option<Vec<u8>>, bytes: &[u8]) -> Option<Vec<u8>>
     ensures { Hears (option_map (λ v. v.items) told) (option_map (λ v. v.items) result) bytes.now }
 {
     let mut told = told?;
-    told.extend_from_slice(bytes).ok()?;
+    let room = MOST_HEARD.saturating_sub(told.len());
+    told.extend_from_slice(&bytes[..room.min(bytes.len())])
+        .ok()?;
     Some(told)
 }
 
