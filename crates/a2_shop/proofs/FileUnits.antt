@@ -7,8 +7,8 @@ use Rattle.a2_image.specs.declared.order.Order.TheVariants as orders
 use Rattle.a2_device.specs.Device.{DeviceState}
 use Rattle.a2_device.specs.declared.units.UnitKind.{UnitKind}
 use Rattle.a2_device.specs.declared.units.UnitKind.TheVariants.{Sector, Block}
-use Rattle.shop_words.specs.declared.job.FileSystem.{FileSystem}
-use Rattle.shop_words.specs.declared.job.FileSystem.TheVariants.{Dos, Prodos}
+use Rattle.shop_jobs.specs.declared.job.FileSystem.{FileSystem}
+use Rattle.shop_jobs.specs.declared.job.FileSystem.TheVariants.{Dos, Prodos}
 use Rattle.device_jobs.specs.Units.{HasUnitsOf}
 use Rattle.file_device.specs.System.{IsDeviceOf}
 

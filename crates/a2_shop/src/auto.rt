@@ -5,7 +5,8 @@ use crate::units::order_of;
 use a2_image::Order;
 use front_words::{AutoOption, asks_auto, in_place};
 use image_readings::{Choice, best_reading, file_system_word, order_word};
-use shop_words::{FileSystem, Job, parse_words};
+use shop_jobs::{FileSystem, Job};
+use shop_words::parse_words;
 use std::alloc::{AllocError, Global};
 
 /// Whether a value of the words is `auto`.

@@ -1,9 +1,9 @@
 // The files and the image order that a job names.
 ghost use Rattle.std.specs.Prelude.{◌≡◌, option_map};
-ghost use Rattle.shop_words.specs.Job.{job_view, target_view};
+ghost use Rattle.shop_jobs.specs.Job.{job_view, target_view};
 ghost use Rattle.shop_commands.specs.Answer.{certificate_of, file_of, from_of, image_of, out_of};
 
-use shop_words::{ImageOrder, Job, Target, VolumeOptions};
+use shop_jobs::{ImageOrder, Job, Target, VolumeOptions};
 
 /// The word that stands for standard input.
 const STANDARD_INPUT: &str = "-";

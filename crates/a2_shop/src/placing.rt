@@ -1,12 +1,10 @@
 // Jobs that change the file of their image where it stands.
 ghost use Rattle.std.specs.Prelude.{◌≡◌, true};
-ghost use Rattle.shop_words.specs.Job.{job_view};
+ghost use Rattle.shop_jobs.specs.Job.{job_view};
 ghost use Rattle.device_jobs.specs.Units.{HasUnitsOf};
 ghost use Rattle.shop_commands.specs.Answer.{is_in_place as in_place};
 
-use crate::beside::Beside;
 use crate::job_paths::{certificate_path, image_path, reserve_of};
-use crate::output::Output;
 use crate::running::{
     WORDS_REFUSED, certificate_output, certificate_target, extra_bytes, is_same_file,
 };
@@ -14,9 +12,10 @@ use crate::units::{ImageFile, open_to_change};
 use a2_device::Device;
 use device_jobs::run_in_place;
 use file_device::{FileDevice, FileError, SystemFile};
-use job_reply::{FAILED, Failure, Refusal, Reply, written};
+use job_endings::{Beside, settle_beside};
+use job_reply::{Failure, Refusal, Reply, written};
 use shop_commands::volume_work;
-use shop_words::{Job, VolumeOptions};
+use shop_jobs::{Job, VolumeOptions};
 use std::io::Write;
 use whole_file::target_of;
 
@@ -26,25 +25,9 @@ const ONE_FILE: &[u8] = b"error: --in-place and --cert name the same file\n";
 // Why the file of an image is not opened.
 fn unopened_reply(error: FileError) -> Reply {
     match error {
-        FileError::InPlace => Reply::Refused(Refusal::InPlace),
-        FileError::Io => Reply::Failed(Failure::Input),
-        FileError::Length => Reply::Refused(Refusal::Length),
-    }
-}
-
-// Puts the certificate into its place where the job is done, and answers the status.
-fn settled(mut certificate: Output<'_>, status: u8) -> u8 {
-    if status != 0 {
-        certificate.discard();
-        return status;
-    }
-    if certificate.flush_to_disk().is_err() {
-        certificate.discard();
-        return FAILED;
-    }
-    match certificate.take_place() {
-        Ok(()) => status,
-        Err(_) => FAILED,
+        FileError::InPlace => Reply::refused(Refusal::InPlace),
+        FileError::Io => Reply::failed(Failure::Input),
+        FileError::Length => Reply::refused(Refusal::Length),
     }
 }
 
@@ -61,28 +44,28 @@ fn run_on_units<T: Write>(
 {
     let extra = match extra_bytes(rt, job) {
         Ok(extra) => extra,
-        Err(failure) => return Reply::Failed(failure).tell(text),
+        Err(failure) => return Reply::failed(failure).tell(text),
     };
     let work = match volume_work(job, extra.as_slice()) {
         Ok(work) => work,
-        Err(refusal) => return Reply::Refused(refusal).tell(text),
+        Err(refusal) => return Reply::refused(refusal).tell(text),
     };
     let Ok(place) = certificate_target(rt, job) else {
-        return Reply::Failed(Failure::Memory).tell(text);
+        return Reply::failed(Failure::Memory).tell(text);
     };
     let Ok(target) = target_of(rt, rt.alloc(), image_path(job)) else {
-        return Reply::Failed(Failure::Memory).tell(text);
+        return Reply::failed(Failure::Memory).tell(text);
     };
     if is_same_file(&target, &place) {
         return written(ONE_FILE, WORDS_REFUSED, text);
     }
     let certificate = certificate_output(rt, certificate_path(job), &place);
     let Ok(image) = device.handle() else {
-        return Reply::Failed(Failure::Input).tell(text);
+        return Reply::failed(Failure::Input).tell(text);
     };
     let mut told = Beside::new(image, text, certificate);
     let (status, _) = run_in_place(rt.alloc(), work, device, volume, reserve_of(job), &mut told);
-    settled(told.into_certificate(), status)
+    settle_beside(told, status)
 }
 
 /// Does a job on the file of its image where it stands, and tells it once the file is on the disk. Answers the status.

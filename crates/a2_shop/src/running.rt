@@ -2,14 +2,13 @@
 use crate::job_paths::{
     certificate_path, from_path, image_path, is_on_standard_input, out_path, volume_of,
 };
-use crate::output::Output;
 use crate::placing::run_placed;
-use crate::settling::settle;
 use crate::straight::run_straight;
 use a2_image::Order;
+use job_endings::{Output, settle};
 use job_reply::{Failure, Reply, most_bytes, written};
 use shop_commands::{is_in_place, run_job};
-use shop_words::Job;
+use shop_jobs::Job;
 use std::alloc::Global;
 use std::fs::File;
 use std::io::{self, ErrorKind, Read, Write};
@@ -104,10 +103,10 @@ fn run_on<'a, I: Read, E: Read, T: Write>(
         return run_job(rt.alloc(), job, image, extra, text, &mut io::sink());
     };
     let Ok(target) = target_of(rt, rt.alloc(), path) else {
-        return Reply::Failed(Failure::Memory).tell(text);
+        return Reply::failed(Failure::Memory).tell(text);
     };
     let Ok(place) = certificate_target(rt, job) else {
-        return Reply::Failed(Failure::Memory).tell(text);
+        return Reply::failed(Failure::Memory).tell(text);
     };
     if is_same_file(&target, &place) {
         return written(ONE_FILE, WORDS_REFUSED, text);
@@ -127,7 +126,7 @@ pub fn run_with<I: Read, T: Write>(rt: &HostRuntime, job: &Job, image: &mut I, t
     };
     match File::open(rt, path) {
         Ok(mut extra) => run_on(rt, job, image, &mut extra, text),
-        Err(_) => Reply::Failed(Failure::Input).tell(text),
+        Err(_) => Reply::failed(Failure::Input).tell(text),
     }
 }
 
@@ -152,6 +151,6 @@ pub fn run_opened<T: Write>(rt: &HostRuntime, job: &Job, text: &mut T) -> u8 {
     }
     match File::open(rt, image_path(job)) {
         Ok(mut image) => run_with(rt, job, &mut image, text),
-        Err(_) => Reply::Failed(Failure::Input).tell(text),
+        Err(_) => Reply::failed(Failure::Input).tell(text),
     }
 }

@@ -1,16 +1,16 @@
 // What the program's words ask for.
 use crate::auto::{is_asked, settled_job, standing_job};
-use crate::explaining::{Found, explain};
 use crate::job_paths::{image_order, image_path, is_on_standard_input};
 use crate::running::{image_bytes, run_in_its_place, run_opened, run_with};
 use crate::stop::Stop;
 use explanations::Overheard;
 use front_words::{asks_explain, asks_version, without_explain};
+use job_endings::{Found, explain};
 use job_reply::{Failure, Reply, written};
-use shop_commands::tell_words_fault;
-use shop_words::{Job, parse_words};
+use shop_commands::job_of_words;
+use shop_jobs::Job;
 use std::alloc::Global;
-use std::io::{self, ErrorKind, IsTerminal, Write};
+use std::io::{self, BufWriter, ErrorKind, IsTerminal, Write};
 
 /// What `--version` tells.
 const VERSION: &[u8] = b"a2shop 1.0.0\n";
@@ -64,17 +64,17 @@ fn run_noting<T: Write>(rt: &HostRuntime, words: &[String], found: &mut Found, t
 }
 
 // Does what words ask for that name their file system and order.
-fn run_plain(rt: &HostRuntime, words: &[String]) -> u8 {
-    match parse_words(rt.alloc(), words) {
-        Ok(job) => run_opened(rt, &job, &mut rt.stdout()),
-        Err(fault) => tell_words_fault(&fault, &mut rt.stdout()),
+fn run_plain<T: Write>(rt: &HostRuntime, words: &[String], text: &mut T) -> u8 {
+    match job_of_words(rt.alloc(), words, text) {
+        Ok(job) => run_opened(rt, &job, text),
+        Err(status) => status,
     }
 }
 
 // Does what words ask for, and explains on standard error what was told.
-fn run_explained(rt: &HostRuntime, words: &[String]) -> u8 {
+fn run_explained<T: Write>(rt: &HostRuntime, words: &[String], text: &mut T) -> u8 {
     let mut found = Found::new();
-    let mut text = Overheard::new(rt.alloc(), rt.stdout());
+    let mut text = Overheard::new(rt.alloc(), text);
     let status = run_noting(rt, words, &mut found, &mut text);
     let told = match &text.told {
         Some(told) if !found.is_content => told.as_slice(),
@@ -93,24 +93,33 @@ fn greet(rt: &HostRuntime, words: &[String]) {
     }
 }
 
-/// Does what the program's words ask for, and answers its status.
-pub fn run(rt: &HostRuntime) -> u8 {
+// Does what the program's words ask for, and tells it to this writer.
+fn run_telling<T: Write>(rt: &HostRuntime, text: &mut T) -> u8 {
     let words = match words_of(rt, rt.alloc()) {
         Ok(words) => words,
         Err(error) if error.kind() == ErrorKind::OutOfMemory => {
-            return Reply::Failed(Failure::Memory).tell(&mut rt.stdout());
+            return Reply::failed(Failure::Memory).tell(text);
         }
-        Err(_) => return written(b"error: a word is no UTF-8\n", 2, &mut rt.stdout()),
+        Err(_) => return written(b"error: a word is no UTF-8\n", 2, text),
     };
     if asks_version(words.as_slice()) {
-        return written(VERSION, 0, &mut rt.stdout());
+        return written(VERSION, 0, text);
     }
     greet(rt, words.as_slice());
     if asks_explain(words.as_slice()) {
-        return run_explained(rt, without_explain(words).as_slice());
+        return run_explained(rt, without_explain(words).as_slice(), text);
     }
     if is_asked(words.as_slice()) {
-        return run_noting(rt, words.as_slice(), &mut Found::new(), &mut rt.stdout());
+        return run_noting(rt, words.as_slice(), &mut Found::new(), text);
     }
-    run_plain(rt, words.as_slice())
+    run_plain(rt, words.as_slice(), text)
+}
+
+/// Does what the program's words ask for, and answers its status. Standard output is written through a buffer, so that a listing is
+/// not written a line at a time.
+pub fn run(rt: &HostRuntime) -> u8 {
+    match BufWriter::new(rt.alloc(), rt.stdout()) {
+        Ok(mut text) => run_telling(rt, &mut text),
+        Err(_) => Reply::failed(Failure::Memory).tell(&mut rt.stdout()),
+    }
 }

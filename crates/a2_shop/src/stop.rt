@@ -26,7 +26,7 @@ impl Stop {
     pub fn tell<T: Write>(&self, text: &mut T) -> u8 {
         match self {
             Stop::Words(fault) => tell_words_fault(fault, text),
-            Stop::Failed(failure) => Reply::Failed(*failure).tell(text),
+            Stop::Failed(failure) => Reply::failed(*failure).tell(text),
             Stop::Ambiguous => written(b"REFUSED Ambiguous\n", REFUSED, text),
             Stop::Unknown => written(b"REFUSED Unknown\n", REFUSED, text),
         }

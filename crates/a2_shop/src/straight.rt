@@ -8,7 +8,7 @@ use crate::running::extra_bytes;
 use crate::units::open_to_read;
 use device_jobs::read_on_device;
 use job_reply::Reply;
-use shop_words::Job;
+use shop_jobs::Job;
 use std::io::Write;
 use volume_jobs::Work;
 
@@ -54,7 +54,7 @@ pub fn run_straight<T: Write>(rt: &HostRuntime, job: &Job, text: &mut T) -> Opti
     let mut device = open_to_read(rt, job, volume).ok()?;
     let extra = match extra_bytes(rt, job) {
         Ok(extra) => extra,
-        Err(failure) => return Some(Reply::Failed(failure).tell(text)),
+        Err(failure) => return Some(Reply::failed(failure).tell(text)),
     };
     let work = reading_work(job, extra.as_slice())?;
     let reply = read_on_device(rt.alloc(), work, &mut device, volume, reserve_of(job));

@@ -1,7 +1,7 @@
 // The file of an image as a device of its units.
 ghost use Rattle.std.specs.Prelude.{◌≡◌, IfOk};
 ghost use Rattle.a2_device.specs.declared.units.UnitKind.TheVariants.{Sector as OfSectors, Block as OfBlocks};
-ghost use Rattle.shop_words.specs.declared.job.FileSystem.TheVariants.{Dos as OfDos, Prodos as OfProdos};
+ghost use Rattle.shop_jobs.specs.declared.job.FileSystem.TheVariants.{Dos as OfDos, Prodos as OfProdos};
 ghost use Rattle.device_jobs.specs.Units.{HasUnitsOf};
 ghost use Rattle.shop_commands.specs.Answer.{order_of as named};
 
@@ -9,7 +9,7 @@ use crate::job_paths::{image_path, is_on_standard_input};
 use a2_device::{Device, UnitKind};
 use a2_image::Order;
 use file_device::{FileDevice, FileError, SystemFile};
-use shop_words::{FileSystem, ImageOrder, Job, VolumeOptions};
+use shop_jobs::{FileSystem, ImageOrder, Job, VolumeOptions};
 
 /// The units of an image's file, where they stand in it.
 pub type ImageFile = FileDevice<SystemFile>;

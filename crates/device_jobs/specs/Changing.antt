@@ -4,11 +4,11 @@ use Rattle.a2_device.specs.Device.{DeviceState}
 use Rattle.vol_format.specs.Meaning.{Meaning}
 use Rattle.file_cmds.specs.DosText.{Text}
 use Rattle.file_cmds.specs.Files.{FileMeaning}
-use Rattle.shop_words.specs.declared.job.FileSystem.{FileSystem}
-use Rattle.job_reply.specs.declared.reply.Refusal.TheVariants as refusals
-use Rattle.job_reply.specs.declared.reply.Failure.TheVariants as failures
+use Rattle.shop_jobs.specs.declared.job.FileSystem.{FileSystem}
+use Rattle.job_reply.specs.declared.refusal.Refusal.TheVariants as refusals
+use Rattle.job_reply.specs.declared.refusal.Failure.TheVariants as failures
 use Rattle.job_reply.specs.declared.reply.Reply.{Reply}
-use Rattle.job_reply.specs.declared.reply.Reply.TheVariants.{Refused, Failed}
+use Rattle.job_reply.specs.Reply.{failed, refused}
 use Rattle.volume_jobs.specs.EditRules.{EditRules}
 use Rattle.image_volume.specs.Volume.{form_of}
 use Rattle.volume_jobs.specs.VolumeReply.{NamesPlaces}
@@ -36,12 +36,12 @@ IsWorkOutcome work files rules format old new outcome = ⊥
 -- `Reserve` for a text that is no list of places, or want of memory, and the device is as it was; or what the work makes of the volume, where the words reserve these places
 abbrev pub IsTriedChange : FileSystem → Bool → Option Text → (Meaning → DeviceState → DeviceState → Outcome → Type 0) → DeviceState → DeviceState → Outcome → Type 0
 IsTriedChange file_system data_disk reserve Works old new outcome =
-    ((outcome ≡ Unfinished (Refused refusals.Reserve)) × (¬ NamesPlaces (form_of file_system) reserve) × (new ≡ old))
-    ⊎ ((outcome ≡ Unfinished (Failed failures.Memory)) × (new ≡ old))
+    ((outcome ≡ Unfinished (refused refusals.Reserve)) × (¬ NamesPlaces (form_of file_system) reserve) × (new ≡ old))
+    ⊎ ((outcome ≡ Unfinished (failed failures.Memory)) × (new ≡ old))
     ⊎ OfReserved file_system data_disk reserve (λ format. Works format old new outcome)
 
 -- the work was tried, and where it is not done and no failure of the device is told, the device is as it was
 pub record IsChangeOutcome (file_system : FileSystem) (data_disk : Bool) (reserve : Option Text) (Works : Meaning → DeviceState → DeviceState → Outcome → Type 0)
     (old new : DeviceState) (outcome : Outcome) : Type 0 where
   pub tried : IsTriedChange file_system data_disk reserve Works old new outcome
-  pub kept : IsTrue old.honest → (reply : Reply) → outcome ≡ Unfinished reply → reply ≢ Failed failures.Device → new ≡ old
+  pub kept : IsTrue old.honest → (reply : Reply) → outcome ≡ Unfinished reply → reply ≢ failed failures.Device → new ≡ old

@@ -9,7 +9,7 @@ use Rattle.file_edits.specs.Renamed.{IsRenameRefusal}
 use Rattle.file_edits.specs.Writes.{HasEdited}
 use Rattle.file_edits.specs.declared.error.EditError.{EditError}
 use Rattle.file_edits.specs.declared.error.EditError.TheVariants.{Device}
-use Rattle.shop_words.specs.Job.{EditView}
+use Rattle.shop_jobs.specs.Job.{EditView}
 use Rattle.volume_jobs.specs.EditReply.{AreWritesOf, IsCause, IsOldOrEdited, edited_files}
 use Rattle.volume_jobs.specs.EditRules.{EditRules}
 use Rattle.volume_jobs.specs.Refusals.{refusal_of_edit, reply_to_edit_refusal}

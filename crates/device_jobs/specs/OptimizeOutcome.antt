@@ -8,9 +8,9 @@ use Rattle.vol_mover.specs.Optimizing.{IsNoFailure, IsRefused}
 use Rattle.vol_mover.specs.Report.{IsReported}
 use Rattle.vol_mover.specs.declared.report.OptError.{OptError}
 use Rattle.vol_mover.specs.declared.report.OptError.TheVariants.{Open, Step, Memory}
-use Rattle.job_reply.specs.declared.reply.Failure.TheVariants as failures
+use Rattle.job_reply.specs.declared.refusal.Failure.TheVariants as failures
 use Rattle.job_reply.specs.declared.reply.Reply.{Reply}
-use Rattle.job_reply.specs.declared.reply.Reply.TheVariants.{Failed}
+use Rattle.job_reply.specs.Reply.{failed}
 use Rattle.volume_jobs.specs.PlanReply.{TellsOpening}
 use Rattle.device_jobs.specs.declared.outcome.Outcome.{Outcome}
 use Rattle.device_jobs.specs.declared.outcome.Outcome.TheVariants.{Optimized, Changed, Unfinished}
@@ -18,8 +18,8 @@ use Rattle.device_jobs.specs.declared.outcome.Outcome.TheVariants.{Optimized, Ch
 -- the reply to a volume that is not opened, to a step that failed, and to want of memory
 abbrev pub TellsError : {A : Type 0} → OptError A → Reply → Type 0
 TellsError (Open error) reply = TellsOpening error reply
-TellsError (Step error) reply = reply ≡ Failed failures.Device
-TellsError Memory reply = reply ≡ Failed failures.Memory
+TellsError (Step error) reply = reply ≡ failed failures.Device
+TellsError Memory reply = reply ≡ failed failures.Memory
 
 -- The volume was optimized as the report says; or the work was refused or stopped, as the reply tells, and this stands. Where nothing of the device can fail, no failure of it is
 -- the cause.

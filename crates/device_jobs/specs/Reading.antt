@@ -3,11 +3,11 @@ use Rattle.std.specs.Prelude.{◌≡◌, ◌⊎◌, Bool, Option}
 use Rattle.a2_device.specs.Device.{DeviceState}
 use Rattle.vol_format.specs.Meaning.{Meaning}
 use Rattle.file_cmds.specs.DosText.{Text}
-use Rattle.shop_words.specs.declared.job.FileSystem.{FileSystem}
-use Rattle.job_reply.specs.declared.reply.Refusal.TheVariants as refusals
-use Rattle.job_reply.specs.declared.reply.Failure.TheVariants as failures
+use Rattle.shop_jobs.specs.declared.job.FileSystem.{FileSystem}
+use Rattle.job_reply.specs.declared.refusal.Refusal.TheVariants as refusals
+use Rattle.job_reply.specs.declared.refusal.Failure.TheVariants as failures
 use Rattle.job_reply.specs.declared.reply.Reply.{Reply}
-use Rattle.job_reply.specs.declared.reply.Reply.TheVariants.{Refused, Failed}
+use Rattle.job_reply.specs.Reply.{failed, refused}
 use Rattle.image_volume.specs.Volume.{form_of}
 use Rattle.volume_jobs.specs.VolumeReply.{NamesPlaces}
 use Rattle.device_jobs.specs.Units.{OfReserved}
@@ -15,6 +15,6 @@ use Rattle.device_jobs.specs.Units.{OfReserved}
 -- `Reserve` for a text that is no list of places; want of memory; or what the work tells of the device's units, where the words reserve these places
 abbrev pub IsDeviceReply : FileSystem → Bool → Option Text → (Meaning → DeviceState → Reply → Type 0) → DeviceState → Reply → Type 0
 IsDeviceReply file_system data_disk reserve Tells device reply =
-    ((reply ≡ Refused refusals.Reserve) × ¬ NamesPlaces (form_of file_system) reserve)
-    ⊎ (reply ≡ Failed failures.Memory)
+    ((reply ≡ refused refusals.Reserve) × ¬ NamesPlaces (form_of file_system) reserve)
+    ⊎ (reply ≡ failed failures.Memory)
     ⊎ OfReserved file_system data_disk reserve (λ format. Tells format device reply)

@@ -8,9 +8,9 @@ use Rattle.file_edits.specs.declared.error.EditError.TheVariants.{Device}
 use Rattle.file_saving.specs.Saved.{IsSaveRefusal}
 use Rattle.given_file.specs.Content.{GivenView, IsTooLongForHead}
 use Rattle.save_formats.specs.Saves.{SaveMeaning}
-use Rattle.job_reply.specs.declared.reply.Refusal.TheVariants as refusals
-use Rattle.job_reply.specs.declared.reply.Failure.TheVariants as failures
-use Rattle.job_reply.specs.declared.reply.Reply.TheVariants.{Refused, Failed}
+use Rattle.job_reply.specs.declared.refusal.Refusal.TheVariants as refusals
+use Rattle.job_reply.specs.declared.refusal.Failure.TheVariants as failures
+use Rattle.job_reply.specs.Reply.{failed, refused}
 use Rattle.volume_jobs.specs.Refusals.{refusal_of_edit}
 use Rattle.volume_jobs.specs.SaveReply.{AreSaveWrites, HasGivenSaved, IsOldOrGivenSaved, IsSaveCause, most_input}
 use Rattle.device_jobs.specs.EditOutcome.{TellsEdit}
@@ -31,7 +31,7 @@ pub record IsSaveTriedOutcome (path : List ℕ) (given : GivenView) (saves : Sav
 -- More bytes than are read of a file, before a file that is too long for its head and want of memory for its units, before what the volume tells; until then the device is as it was.
 abbrev pub IsSaveOutcome : List ℕ → GivenView → SaveMeaning → Meaning → DeviceState → DeviceState → Outcome → Type 0
 IsSaveOutcome path given saves format old new outcome =
-    ((outcome ≡ Unfinished (Refused refusals.InputTooLong)) × (most_input < length given.bytes) × (new ≡ old))
-    ⊎ ((outcome ≡ Unfinished (Refused refusals.TooLong)) × (length given.bytes ≤ most_input) × IsTooLongForHead given × (new ≡ old))
-    ⊎ ((outcome ≡ Unfinished (Failed failures.Memory)) × (length given.bytes ≤ most_input) × (new ≡ old))
+    ((outcome ≡ Unfinished (refused refusals.InputTooLong)) × (most_input < length given.bytes) × (new ≡ old))
+    ⊎ ((outcome ≡ Unfinished (refused refusals.TooLong)) × (length given.bytes ≤ most_input) × IsTooLongForHead given × (new ≡ old))
+    ⊎ ((outcome ≡ Unfinished (failed failures.Memory)) × (length given.bytes ≤ most_input) × (new ≡ old))
     ⊎ ((length given.bytes ≤ most_input) × (¬ IsTooLongForHead given) × IsSaveTriedOutcome path given saves format old new outcome)

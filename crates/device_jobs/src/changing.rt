@@ -1,9 +1,8 @@
 // Work that changes the volume of a device where it stands.
 ghost use Rattle.std.specs.Prelude.{◌≡◌, ◌⊎◌, ◌<◌, false, option_map};
-ghost use Rattle.shop_words.specs.declared.job.FileSystem.TheVariants.{Dos as OfDos, Prodos as OfProdos};
-ghost use Rattle.job_reply.specs.declared.reply.Failure.TheVariants.{Memory as OfMemory};
-ghost use Rattle.job_reply.specs.declared.reply.Reply.TheVariants.{Failed as AFailed};
-ghost use Rattle.job_reply.specs.Reply.{IsWritten};
+ghost use Rattle.shop_jobs.specs.declared.job.FileSystem.TheVariants.{Dos as OfDos, Prodos as OfProdos};
+ghost use Rattle.job_reply.specs.declared.refusal.Failure.TheVariants.{Memory as OfMemory};
+ghost use Rattle.job_reply.specs.Reply.{IsWritten, failed};
 ghost use Rattle.volume_jobs.specs.EditRules.{edit_rules};
 ghost use Rattle.image_volume.specs.Volume.{meaning_of};
 ghost use Rattle.volume_jobs.specs.FileSystems.{edits_of, files_of};
@@ -25,7 +24,7 @@ use job_reply::{Failure, Reply};
 use pro_format::Prodos;
 use reserved_places::Reserved;
 use save_formats::SavableFormat;
-use shop_words::{FileSystem, VolumeOptions};
+use shop_jobs::{FileSystem, VolumeOptions};
 use std::alloc::Global;
 use std::io::Write;
 use volume_jobs::{Work, reserve_reply, reserved_by};
@@ -72,11 +71,11 @@ fn change_dos<D: Device>(
 ) -> (Outcome, D)
     requires changes { IsChange (work_view work) }
     requires units { HasUnitsOf OfDos (D.state device) }
-    ensures { ((result.0 ≡ AnUnfinished (AFailed OfMemory)) × (D.state result.1 ≡ D.state device))
+    ensures { ((result.0 ≡ AnUnfinished (failed OfMemory)) × (D.state result.1 ≡ D.state device))
         ⊎ IsWorkOutcome (work_view work.entry) (files_of OfDos) (edits_of OfDos) (meaning_of OfDos data_disk reserved) (D.state device) (D.state result.1) result.0 }
 {
     let Ok(format) = Dos33::new(alloc, data_disk, reserved) else {
-        return (Outcome::Unfinished(Reply::Failed(Failure::Memory)), device);
+        return (Outcome::Unfinished(Reply::failed(Failure::Memory)), device);
     };
     change_volume(alloc, work, device, &format)
 }

@@ -1,13 +1,13 @@
 // The work that changes a file of a volume where it stands.
 ghost use Rattle.std.specs.Prelude.{◌≡◌};
-ghost use Rattle.shop_words.specs.Job.{edit_view};
+ghost use Rattle.shop_jobs.specs.Job.{edit_view};
 ghost use Rattle.volume_jobs.specs.EditRules.{edit_rules};
 ghost use Rattle.device_jobs.specs.EditOutcome.{IsEditOutcome};
 
 use crate::outcome::Outcome;
 use a2_device::Device;
 use save_formats::SavableFormat;
-use shop_words::Edit;
+use shop_jobs::Edit;
 use std::alloc::Global;
 use volume_jobs::{edit_file, edit_refusal_reply};
 

@@ -16,8 +16,8 @@ fn error_reply(alloc: Global, error: &OptError) -> Reply
 {
     match error {
         OptError::Open(error) => unopened_reply(alloc, error),
-        OptError::Step(_) => Reply::Failed(Failure::Device),
-        OptError::Memory => Reply::Failed(Failure::Memory),
+        OptError::Step(_) => Reply::failed(Failure::Device),
+        OptError::Memory => Reply::failed(Failure::Memory),
     }
 }
 

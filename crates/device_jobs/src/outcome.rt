@@ -33,11 +33,11 @@ fn tell_report<T: Write>(report: &Report, text: &mut T) -> u8
 
 impl Outcome {
     /// Writes the text of an outcome and answers its status, 4 where the writer fails. Takes no memory.
-    pub fn tell<T: Write>(&self, text: &mut T) -> u8
-        ensures { IsWritten (outcome_status self.now) (outcome_text self.now) result (T.contents text.old) (T.contents text.new) }
+    pub fn tell<T: Write>(self, text: &mut T) -> u8
+        ensures { IsWritten (outcome_status self) (outcome_text self) result (T.contents text.old) (T.contents text.new) }
     {
         match self {
-            Outcome::Optimized(report) => tell_report(report, text),
+            Outcome::Optimized(report) => tell_report(&report, text),
             Outcome::Changed => written(b"OK\n", 0, text),
             Outcome::Unfinished(reply) => reply.tell(text),
         }

@@ -49,11 +49,11 @@ pub fn save_in_place<D: Device, F: SavableFormat>(
     ensures { IsSaveOutcome path.now (given_view given.entry) (F.saves format.now) (F.meaning format.now) (D.state device.old) (D.state device.new) result }
 {
     if given.bytes.len() > MOST_INPUT {
-        return Outcome::Unfinished(Reply::Refused(Refusal::InputTooLong));
+        return Outcome::Unfinished(Reply::refused(Refusal::InputTooLong));
     }
     match file_units(alloc, &given, device.unit()) {
         Ok(file) => save_units(alloc, device, format, path, &given, &file),
-        Err(GivenError::TooLong) => Outcome::Unfinished(Reply::Refused(Refusal::TooLong)),
-        Err(GivenError::Memory) => Outcome::Unfinished(Reply::Failed(Failure::Memory)),
+        Err(GivenError::TooLong) => Outcome::Unfinished(Reply::refused(Refusal::TooLong)),
+        Err(GivenError::Memory) => Outcome::Unfinished(Reply::failed(Failure::Memory)),
     }
 }

@@ -1,9 +1,7 @@
 pub mod Names
 pub mod Lines
-pub mod Shown
 pub mod DosEntries
 pub mod ProEntries
-pub mod ProLines
 pub mod Moments
 pub mod Told
 pub mod Texts

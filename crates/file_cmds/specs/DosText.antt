@@ -9,7 +9,10 @@ use Rattle.dos_catalog.specs.Entry.{entries_in}
 use Rattle.dos_catalog.specs.Catalog.{IsCatalog}
 use Rattle.file_cmds.specs.declared.listing.ListEntry.{ListEntry}
 use Rattle.file_cmds.specs.declared.listing.Listing.{Listing}
+use Rattle.vol_format.specs.Directory.{Directory}
 use Rattle.file_cmds.specs.Catalog.{list_entry}
+use Rattle.file_cmds.specs.DosFiles.{dos_shown}
+use Rattle.file_cmds.specs.Listing.{free_count}
 
 -- a text, as the bytes of ASCII
 abbrev pub Text : Type 0
@@ -56,6 +59,10 @@ lines_of volume files free = line (codes "DISK VOLUME " ++ decimal volume) ++ fl
 
 abbrev pub listing_text : {A : Type 0} → Listing A → Text
 listing_text listing = lines_of (slice_index listing.volume 0) listing.entries.items listing.free
+
+-- the listing of a directory
+abbrev pub directory_text : Directory → Text
+directory_text directory = lines_of {A = Global} (slice_index directory.name 0) (map dos_shown directory.listed) (free_count directory)
 
 -- the line of an entry of the catalog
 abbrev pub entry_line : Entry → Text

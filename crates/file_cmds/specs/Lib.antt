@@ -13,4 +13,5 @@ pub mod ProFiles
 pub mod ProListing
 pub mod ProMoment
 pub mod ProText
+pub mod ProLines
 pub mod lemmas

@@ -1,9 +1,12 @@
 -- The text of a listing of a ProDOS volume.
 use Rattle.std.specs.Prelude.{ℕ, ◌+◌, ◌-◌, ◌/◌, ◌%◌, ◌^◌, nat_lt, Bool, false, List, [], ◌∷◌, ◌++◌, map, flat_map, codes, decimal, if◌then◌else◌}
 use Rattle.std.specs.Fmt.{padded_integral, format_spec}
+use Rattle.std.specs.declared.alloc.Global.{Global}
+use Rattle.vol_format.specs.Directory.{Directory, Listed}
 use Rattle.file_cmds.specs.declared.listing.ListEntry.{ListEntry}
-use Rattle.file_cmds.specs.declared.listing.Listing.{Listing}
 use Rattle.file_cmds.specs.DosText.{Text, line, shown}
+use Rattle.file_cmds.specs.Listing.{free_count}
+use Rattle.file_cmds.specs.ProFiles.{pro_shown}
 use Rattle.file_cmds.specs.ProMoment.{date_text}
 
 -- a hexadecimal digit: 0 to 9, a to f
@@ -24,10 +27,16 @@ pro_file_line file =
     (if file.locked then 42 else 32) ∷ 36 ∷ hex_digit (file.kind / 16) ∷ hex_digit (file.kind % 16) ∷ 32 ∷ right_in 5 file.size
     ++ 32 ∷ right_in 8 file.eof ++ 32 ∷ date_text file.date.0 ++ 32 ∷ path_text file.directory file.path
 
--- the volume's name, a line for each entry, and how many blocks are free
-abbrev pub pro_lines : {A : Type 0} → List ℕ → List (ListEntry A) → ℕ → Text
-pro_lines volume files free = line (codes "VOLUME /" ++ map shown volume) ++ flat_map (λ file. line (pro_file_line file)) files
-    ++ line (codes "FREE " ++ decimal free)
+-- the line of an entry of a directory
+abbrev pub entry_line : Listed → Text
+entry_line entry = line (pro_file_line {A = Global} (pro_shown entry))
 
-abbrev pub pro_text : {A : Type 0} → Listing A → Text
-pro_text listing = pro_lines listing.volume listing.entries.items listing.free
+-- the listing of a directory: the volume's name, a line for each entry, and how many blocks are free
+abbrev pub first_line : Directory → Text
+first_line directory = line (codes "VOLUME /" ++ map shown directory.name)
+
+abbrev pub last_line : Directory → Text
+last_line directory = line (codes "FREE " ++ decimal (free_count directory))
+
+abbrev pub directory_text : Directory → Text
+directory_text directory = first_line directory ++ flat_map entry_line directory.listed ++ last_line directory

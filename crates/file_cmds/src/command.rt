@@ -23,8 +23,11 @@ fn list_entries<F: FileFormat, A: Allocator + Copy>(
     Ok(listed)
 }
 
-// What is shown of a volume that was read.
-fn listing_of<F: FileFormat, A: Allocator + Copy>(
+/// What is shown of a volume that was read.
+///
+/// # Errors
+/// Want of memory alone.
+pub fn listing_of<F: FileFormat, A: Allocator + Copy>(
     alloc: A,
     format: &F,
     volume: &F::Volume,
@@ -39,6 +42,26 @@ fn listing_of<F: FileFormat, A: Allocator + Copy>(
         entries,
         free,
     })
+}
+
+/// Reads what a listing shows of a volume.
+///
+/// # Errors
+/// `Check` where the header, the directory or the map's pointer has a fault; `Device` where a read fails; `Memory`.
+pub fn read_volume<D: Device, F: FileFormat>(
+    device: &mut D,
+    format: &F,
+) -> Result<F::Volume, CmdError>
+    requires unit { (D.state device.old).unit_size ≡ (F.meaning format.now).unit_size }
+    requires places { (F.meaning format.now).Takes (D.state device.old).places }
+
+    ensures device { OnlyReads (told_device result) (D.state device.old) (D.state device.new) }
+    ensures found { result ≢ Err CmdError.NotFound }
+    ensures described { IsTrue (D.state device.old).honest
+        → IfOk result (λ volume. (F.meaning format.now).Describes (D.state device.old).store (F.directory format.now volume)) }
+    ensures check { IsTrue (D.state device.old).honest → result ≡ Err CmdError.Check → HasHeaderFault (F.meaning format.now) (D.state device.old).store }
+{
+    Ok(format.volume(device)?)
 }
 
 /// The listing of a volume: its name, its entries in directory order, those of directories among them, and how many of all places are
@@ -60,6 +83,6 @@ pub fn catalog<D: Device, F: FileFormat, A: Allocator + Copy>(
         → IfOk result (IsListingOf (F.meaning format.now) (F.files format.now) (D.state device.old).store) }
     ensures check { IsTrue (D.state device.old).honest → result ≡ Err CmdError.Check → HasHeaderFault (F.meaning format.now) (D.state device.old).store }
 {
-    let volume = format.volume(device)?;
+    let volume = read_volume(device, format)?;
     Ok(listing_of(alloc, format, &volume)?)
 }

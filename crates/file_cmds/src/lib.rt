@@ -2,7 +2,7 @@
 //!
 //! What the commands ask of a format, beside its parts, is the trait `FileFormat`; its model is the record `FileMeaning`
 //! (`specs/Files.antt`); DOS 3.3 and ProDOS have it (`specs/DosFiles.antt`, `specs/ProFiles.antt`). A listing shows what a directory says (`specs/Listing.antt`), and it has an exact text
-//! (`specs/DosText.antt`, `specs/ProText.antt`). A read gives the units of one file in order, or what is wrong with this file (`specs/Text.antt`,
+//! (`specs/DosText.antt`, `specs/ProText.antt`), which of a ProDOS volume is made a line at a time (`specs/ProLines.antt`). A read gives the units of one file in order, or what is wrong with this file (`specs/Text.antt`,
 //! `specs/Read.antt`): the checker of volumes walks over the volume that has the file alone (`specs/OneFile.antt`). A command that
 //! reads leaves the device's store as it is.
 #![tactic(auto)]
@@ -19,11 +19,12 @@ mod name;
 mod one_file;
 mod pro;
 mod pro_date;
+mod pro_lines;
 mod pro_text;
 mod reading;
 mod text;
 
-pub use command::catalog;
+pub use command::{catalog, listing_of, read_volume};
 pub use dos_text::{dos_listing_text, shown_byte, shown_part};
 pub use error::CmdError;
 pub use finding::find;
@@ -31,5 +32,5 @@ pub use format::FileFormat;
 pub use law::{a_read_answers_by_the_list_of_files, answers_exclude_one_another};
 pub use listing::{ListEntry, Listing};
 pub use name::StoredName;
-pub use pro_text::pro_listing_text;
+pub use pro_lines::ProLines;
 pub use reading::read;

@@ -1,6 +1,9 @@
 // ProDOS as a format of files.
-ghost use Rattle.std.specs.Prelude.{◌≡◌, IfOk};
-ghost use Rattle.file_cmds.specs.ProFiles.{pro_body};
+ghost use Rattle.std.specs.Prelude.{◌≡◌, ◌<◌, IfOk};
+ghost use Rattle.vol_format.specs.Directory.{entries, entry_of};
+ghost use Rattle.pro_format.specs.Pro.{directory_with};
+ghost use Rattle.pro_format.specs.ProVolume.{map_in, system_of, tree_of};
+ghost use Rattle.file_cmds.specs.ProFiles.{pro_body, pro_shown};
 ghost use Rattle.file_cmds.specs.ProListing.{pro_list_entry};
 
 use crate::{FileFormat, ListEntry, StoredName};
@@ -9,7 +12,7 @@ use pro_format::{ProVolume, Prodos};
 use std::alloc::{AllocError, Allocator};
 
 // What is shown of an entry that has this path.
-fn list_entry<A: Allocator>(entry: &Entry, path: Vec<u8, A>) -> ListEntry<A>
+fn with_path<A: Allocator>(entry: &Entry, path: Vec<u8, A>) -> ListEntry<A>
     ensures { result ≡ pro_list_entry path.items entry.now }
 {
     ListEntry {
@@ -21,6 +24,22 @@ fn list_entry<A: Allocator>(entry: &Entry, path: Vec<u8, A>) -> ListEntry<A>
         directory: entry.is_directory(),
         path: StoredName::of(path),
     }
+}
+
+/// What a listing shows of an entry, its path in this vector; one with room for it takes no memory.
+///
+/// # Errors
+/// Want of memory alone.
+pub fn listed_entry<A: Allocator, B: Allocator>(
+    volume: &ProVolume<A>,
+    entry: u32,
+    mut path: Vec<u8, B>,
+) -> Result<ListEntry<B>, AllocError>
+    requires { entry < entries (directory_with (system_of volume.now) (tree_of volume.now) (map_in volume.now).units) }
+    ensures { IfOk result (λ listed. listed ≡ pro_shown (entry_of (directory_with (system_of volume.now) (tree_of volume.now) (map_in volume.now).units) entry)) }
+{
+    volume.directory().path_into(entry, &mut path)?;
+    Ok(with_path(&volume.directory().entries()[entry as usize], path))
 }
 
 // So many bytes of a text, with zeros behind it where it has less.
@@ -46,8 +65,7 @@ impl<A: Allocator + Copy> FileFormat for Prodos<A> {
         volume: &ProVolume<A>,
         file: u32,
     ) -> Result<ListEntry<B>, AllocError> {
-        let path = volume.directory().path(alloc, file)?;
-        Ok(list_entry(&volume.directory().entries()[file as usize], path))
+        listed_entry(volume, file, Vec::new(alloc))
     }
 
     fn name<B: Allocator>(

@@ -1,12 +1,12 @@
 // The text of a listing of a ProDOS volume.
-ghost use Rattle.std.specs.Prelude.{◌≡◌, ◌<◌, Some, IfOk, map, string_bytes};
+ghost use Rattle.std.specs.Prelude.{◌≡◌, ◌<◌, Some, map};
 ghost use Rattle.file_cmds.specs.DosText.{shown};
-ghost use Rattle.file_cmds.specs.ProText.{hex_digit, path_text, pro_file_line, pro_text};
+ghost use Rattle.file_cmds.specs.ProText.{hex_digit, path_text, pro_file_line};
 
+use crate::ListEntry;
 use crate::dos_text::shown_byte;
 use crate::pro_date::ShownDate;
-use crate::{ListEntry, Listing};
-use std::alloc::{AllocError, Allocator};
+use std::alloc::Allocator;
 use std::fmt;
 
 // A hexadecimal digit.
@@ -20,9 +20,9 @@ fn hex_digit(n: u8) -> char
     }
 }
 
-// The bytes of a name as they are shown.
+/// The bytes of a name as they are shown.
 #[derive(Clone, Copy)]
-struct ShownBytes<'a>(&'a [u8]);
+pub struct ShownBytes<'a>(pub &'a [u8]);
 
 impl fmt::Display for ShownBytes<'_> {
     ghost output = { λ n. Some (map shown n.0.now) };
@@ -56,9 +56,9 @@ impl fmt::Display for ShownPath<'_> {
     }
 }
 
-// The line of one entry.
+/// The line of one entry.
 #[derive(Drop)]
-struct FileLine<'a, A: Allocator>(&'a ListEntry<A>);
+pub struct FileLine<'a, A: Allocator>(pub &'a ListEntry<A>);
 
 impl<A: Allocator> fmt::Display for FileLine<'_, A> {
     ghost output = { λ l. Some (pro_file_line l.0.now) };
@@ -77,26 +77,4 @@ impl<A: Allocator> fmt::Display for FileLine<'_, A> {
         };
         write!(f, "{mark}${high}{low} {blocks:5} {eof:8} {date} {path}")
     }
-}
-
-/// The lines of a listing of a ProDOS volume: its name, a line for each entry, and how many blocks are free.
-///
-/// # Errors
-/// Want of memory alone.
-pub fn pro_listing_text<A: Allocator + Copy>(
-    alloc: A,
-    listing: &Listing<A>,
-) -> Result<String<A>, AllocError>
-    ensures { IfOk result (λ text. string_bytes text ≡ pro_text listing.now) }
-{
-    let volume = ShownBytes(listing.volume.as_bytes());
-    let mut text = String::new(alloc);
-    writeln!(text, "VOLUME /{volume}")?;
-    for file in &listing.entries {
-        let line = FileLine(file);
-        writeln!(text, "{line}")?;
-    }
-    let free = listing.free;
-    writeln!(text, "FREE {free}")?;
-    Ok(text)
 }

@@ -4,8 +4,8 @@ use Rattle.std.proofs.lemmas.Bool.Decides.{nat_tests}
 use Rattle.std.specs.Prelude.{nat_le}
 use Rattle.a2_image.specs.declared.order.Order.{Order}
 use Rattle.a2_image.specs.declared.order.Order.TheVariants as orders
-use Rattle.shop_words.specs.declared.job.FileSystem.{FileSystem}
-use Rattle.shop_words.specs.declared.job.FileSystem.TheVariants as systems
+use Rattle.shop_jobs.specs.declared.job.FileSystem.{FileSystem}
+use Rattle.shop_jobs.specs.declared.job.FileSystem.TheVariants as systems
 use Rattle.job_reply.specs.Disk.{most_bytes}
 use Rattle.job_reply.specs.declared.reply.Reply.{Reply}
 use Rattle.image_readings.specs.declared.reading.Reading.{Reading}

@@ -8,7 +8,7 @@ use Rattle.vol_parts.specs.declared.fault.Fault.{Fault}
 use Rattle.vol_parts.specs.declared.fault.Fault.TheVariants as faults
 use Rattle.vol_parts.specs.declared.fault.WalkError.{WalkError}
 use Rattle.vol_parts.specs.declared.fault.WalkError.TheVariants as walks
-use Rattle.shop_words.specs.declared.job.FileSystem.{FileSystem}
+use Rattle.shop_jobs.specs.declared.job.FileSystem.{FileSystem}
 use Rattle.image_volume.proofs.Lacking.{unit_lacks}
 use Rattle.image_readings.specs.declared.reading.Finding.{Finding}
 use Rattle.image_readings.specs.declared.reading.Finding.TheVariants.{Unreadable, Broken, Volume}

@@ -2,14 +2,14 @@
 use Rattle.std.specs.Prelude.{◌≡◌, ◌≢◌, ◌⊎◌, ℕ, ◌==◌, ◌%◌, nat_le, ◌&&◌, Bool, List, [], ◌∷◌, length, map, filter, All}
 use Rattle.a2_image.specs.declared.order.Order.{Order}
 use Rattle.a2_image.specs.declared.order.Order.TheVariants as orders
-use Rattle.shop_words.specs.declared.job.FileSystem.{FileSystem}
-use Rattle.shop_words.specs.declared.job.FileSystem.TheVariants as systems
-use Rattle.job_reply.specs.declared.reply.Refusal.TheVariants as refusals
-use Rattle.job_reply.specs.declared.reply.Failure.TheVariants as failures
+use Rattle.shop_jobs.specs.declared.job.FileSystem.{FileSystem}
+use Rattle.shop_jobs.specs.declared.job.FileSystem.TheVariants as systems
+use Rattle.job_reply.specs.declared.refusal.Refusal.TheVariants as refusals
+use Rattle.job_reply.specs.declared.refusal.Failure.TheVariants as failures
 use Rattle.job_reply.specs.declared.reply.Reply.{Reply}
-use Rattle.job_reply.specs.declared.reply.Reply.TheVariants.{Refused, Failed}
-use Rattle.job_reply.specs.Reply.{IsDone, IsFaulty, text_of}
+use Rattle.job_reply.specs.Reply.{IsTold, failed, refused, text_of}
 use Rattle.job_reply.specs.Disk.{disk_bytes}
+use Rattle.job_reply.specs.declared.reply.Status.TheVariants.{Done, Wrong}
 use Rattle.image_readings.specs.declared.reading.Reading.{Reading}
 use Rattle.image_readings.specs.declared.ranking.Verdict.{Verdict}
 use Rattle.image_readings.specs.declared.ranking.Verdict.TheVariants.{Best, Ambiguous, NoVolume}
@@ -40,9 +40,9 @@ AreReadings image readings = AreReadingsIn ways image readings
 
 -- a best reading is told as a job that is done, else as what is wrong
 abbrev pub Reports : Verdict → Reply → Type 0
-Reports (Best number) reply = IsDone reply
-Reports Ambiguous reply = IsFaulty reply
-Reports NoVolume reply = IsFaulty reply
+Reports (Best number) reply = IsTold Done reply
+Reports Ambiguous reply = IsTold Wrong reply
+Reports NoVolume reply = IsTold Wrong reply
 
 -- these readings were ranked and told, or there was no memory for it
 pub record IsRanked (readings : List Reading) (reply : Reply) : Type 0 where
@@ -52,7 +52,7 @@ pub record IsRanked (readings : List Reading) (reply : Reply) : Type 0 where
   pub text : text_of reply ≡ identify_text readings verdict
 
 abbrev pub TellsRanked : List Reading → Reply → Type 0
-TellsRanked readings reply = IsRanked readings reply ⊎ (reply ≡ Failed failures.Memory)
+TellsRanked readings reply = IsRanked readings reply ⊎ (reply ≡ failed failures.Memory)
 
 -- the readings of an image were told, and the verdict
 pub record IsIdentified (image : List ℕ) (reply : Reply) : Type 0 where
@@ -65,5 +65,5 @@ pub record IsIdentified (image : List ℕ) (reply : Reply) : Type 0 where
 abbrev pub IsIdentifyReply : List ℕ → Reply → Type 0
 IsIdentifyReply image reply =
     IsIdentified image reply
-    ⊎ ((reply ≡ Refused refusals.Length) × (filter (allows (length image)) ways ≡ []))
-    ⊎ (reply ≡ Failed failures.Memory)
+    ⊎ ((reply ≡ refused refusals.Length) × (filter (allows (length image)) ways ≡ []))
+    ⊎ (reply ≡ failed failures.Memory)

@@ -2,8 +2,8 @@
 use Rattle.std.specs.Prelude.{ℕ, ◌∷◌, ◌++◌, List, codes, decimal, flat_map, slice_index_or}
 use Rattle.a2_image.specs.declared.order.Order.{Order}
 use Rattle.a2_image.specs.declared.order.Order.TheVariants as orders
-use Rattle.shop_words.specs.declared.job.FileSystem.{FileSystem}
-use Rattle.shop_words.specs.declared.job.FileSystem.TheVariants as systems
+use Rattle.shop_jobs.specs.declared.job.FileSystem.{FileSystem}
+use Rattle.shop_jobs.specs.declared.job.FileSystem.TheVariants as systems
 use Rattle.file_cmds.specs.DosText.{Text, line}
 use Rattle.image_readings.specs.declared.reading.Standing.{Standing}
 use Rattle.image_readings.specs.declared.reading.Standing.TheVariants.{Accepted, Refused}

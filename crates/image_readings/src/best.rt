@@ -7,7 +7,7 @@ use crate::identify::{WAYS, readings_of};
 use crate::ranking::{Verdict, rank};
 use crate::reading::Reading;
 use a2_image::Order;
-use shop_words::FileSystem;
+use shop_jobs::FileSystem;
 use std::alloc::{AllocError, Global};
 
 /// How an image is to be read, where a file system, an order or both are left open.

@@ -9,7 +9,7 @@ use crate::reading::Reading;
 use crate::volume::reading_of;
 use a2_image::{BLOCK_BYTES, IMAGE_BYTES, NIBBLE_BYTES, Order};
 use job_reply::{Failure, Refusal, Reply};
-use shop_words::FileSystem;
+use shop_jobs::FileSystem;
 use std::alloc::{AllocError, Global};
 
 /// The fewest and the most blocks of an image in ProDOS order.
@@ -84,9 +84,9 @@ fn ranked_reply(alloc: Global, readings: &[Reading]) -> Reply
 {
     let verdict = rank(readings);
     match (identify_text(alloc, readings, verdict), verdict) {
-        (Ok(text), Verdict::Best(_)) => Reply::Done(text),
-        (Ok(text), _) => Reply::Faulty(text),
-        (Err(_), _) => Reply::Failed(Failure::Memory),
+        (Ok(text), Verdict::Best(_)) => Reply::done(text),
+        (Ok(text), _) => Reply::wrong(text),
+        (Err(_), _) => Reply::failed(Failure::Memory),
     }
 }
 
@@ -97,8 +97,8 @@ pub fn identify_reply(alloc: Global, image: &[u8]) -> Reply
     ensures { IsIdentifyReply image.now result }
 {
     match readings_of(alloc, image, &WAYS) {
-        Ok(readings) if readings.is_empty() => Reply::Refused(Refusal::Length),
+        Ok(readings) if readings.is_empty() => Reply::refused(Refusal::Length),
         Ok(readings) => ranked_reply(alloc, readings.as_slice()),
-        Err(_) => Reply::Failed(Failure::Memory),
+        Err(_) => Reply::failed(Failure::Memory),
     }
 }

@@ -1,6 +1,6 @@
 // The ways to read an image, and what is found in each.
 use a2_image::Order;
-use shop_words::FileSystem;
+use shop_jobs::FileSystem;
 
 /// What the checker says of a volume whose directory can be read.
 #[derive(Clone, Copy, Debug, PartialEq, Eq)]

@@ -2,7 +2,7 @@
 ghost use Rattle.std.specs.Prelude.{◌≡◌, ◌≤◌, IsTrue, OnOk, IfOk, IfErr, Some, length};
 ghost use Rattle.a2_device.specs.Device.{unit_at};
 ghost use Rattle.a2_image.specs.Image.{IsOfDisk};
-ghost use Rattle.shop_words.specs.declared.job.FileSystem.TheVariants.{Dos as OfDos, Prodos as OfProdos};
+ghost use Rattle.shop_jobs.specs.declared.job.FileSystem.TheVariants.{Dos as OfDos, Prodos as OfProdos};
 ghost use Rattle.image_volume.specs.Volume.{IsImageOf, TakesBytes, device_of};
 ghost use Rattle.image_readings.specs.Found.{Stops};
 ghost use Rattle.image_readings.specs.Readings.{HasEntries, HasUnits, IsFound, IsReadingOf, IsToldOf, Stands, plain_meaning};
@@ -18,7 +18,7 @@ use image_volume::open_volume;
 use pro_dir::VolumeDir;
 use pro_format::Prodos;
 use reserved_places::Reserved;
-use shop_words::FileSystem;
+use shop_jobs::FileSystem;
 use std::alloc::{AllocError, Global};
 use vol_check::{CheckError, check};
 use vol_format::Format;

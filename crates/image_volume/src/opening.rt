@@ -1,13 +1,13 @@
 // Taking the bytes of an image.
 ghost use Rattle.std.specs.Prelude.{◌≡◌, IfErr, IfOk, length};
 ghost use Rattle.a2_image.specs.Image.{IsOfDisk};
-ghost use Rattle.shop_words.specs.declared.job.FileSystem.TheVariants.{Dos as OfDos};
+ghost use Rattle.shop_jobs.specs.declared.job.FileSystem.TheVariants.{Dos as OfDos};
 ghost use Rattle.image_volume.specs.Volume.{IsImageOf, RefusesBytes, TakesBytes, form_of as form_by};
 
 use a2_image::{Image, ImageError, Order};
 use job_reply::open_disk;
 use reserved_places::PlaceForm;
-use shop_words::FileSystem;
+use shop_jobs::FileSystem;
 
 /// How the places of a file system are named.
 pub fn form_of(file_system: FileSystem) -> PlaceForm

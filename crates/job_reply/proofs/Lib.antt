@@ -2,4 +2,4 @@ pub mod Disks
 pub mod Fronts
 pub mod Converted
 pub mod NotMade
-mod Writing
+pub mod Appended

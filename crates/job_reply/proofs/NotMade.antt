@@ -1,57 +1,31 @@
--- Which kinds of replies have no image.
-use Rattle.std.proofs.Common.{◌≡◌, subst}
-use Rattle.job_reply.specs.declared.reply.Refusal.{Refusal}
-use Rattle.job_reply.specs.declared.reply.Failure.{Failure}
+-- Which replies have no image.
+use Rattle.std.proofs.Common.{◌≡◌, ℕ, List, subst, inl, inr}
+use Rattle.std.proofs.lemmas.Bool.{false≢true}
+use Rattle.std.specs.Prelude.{IsSome}
+use Rattle.a2_image.specs.declared.order.Order.{Order}
+use Rattle.job_reply.specs.declared.refusal.Refusal.{Refusal}
+use Rattle.job_reply.specs.declared.refusal.Refusal.TheVariants as refusals
+use Rattle.job_reply.specs.declared.refusal.Failure.{Failure}
+use Rattle.job_reply.specs.declared.refusal.Failure.TheVariants as failures
 use Rattle.job_reply.specs.declared.reply.Reply.{Reply}
-use Rattle.job_reply.specs.declared.reply.Reply.TheVariants.{Done, Faulty, Bytes, Made, Optimized, Interrupted, Refused, Unopened, Failed}
-use Rattle.job_reply.specs.Reply.{IsContent, IsDone, IsFaulty, IsMade, IsUnopened}
+use Rattle.job_reply.specs.declared.reply.Status.{Status}
+use Rattle.job_reply.specs.ConvertReply.{IsConvertReply}
+use Rattle.job_reply.specs.Reply.{IsMade, IsMadeReply, IsTold, failed, refused}
 
-pub done_not_made : (reply : Reply) → IsDone reply → ¬ IsMade reply
-done_not_made (Made image) is made = absurd is
-done_not_made (Optimized text image) is made = absurd is
-done_not_made (Interrupted image) is made = absurd is
-done_not_made (Done text) is made = absurd made
-done_not_made (Faulty text) is made = absurd made
-done_not_made (Bytes content) is made = absurd made
-done_not_made (Refused refusal) is made = absurd made
-done_not_made (Unopened text) is made = absurd made
-done_not_made (Failed failure) is made = absurd made
+pub told_not_made : (status : Status) (reply : Reply) → IsTold status reply → ¬ IsMade reply
+told_not_made status reply is made = false≢true (subst IsSome is.1 made)
 
-pub faulty_not_made : (reply : Reply) → IsFaulty reply → ¬ IsMade reply
-faulty_not_made (Made image) is made = absurd is
-faulty_not_made (Optimized text image) is made = absurd is
-faulty_not_made (Interrupted image) is made = absurd is
-faulty_not_made (Done text) is made = absurd made
-faulty_not_made (Faulty text) is made = absurd made
-faulty_not_made (Bytes content) is made = absurd made
-faulty_not_made (Refused refusal) is made = absurd made
-faulty_not_made (Unopened text) is made = absurd made
-faulty_not_made (Failed failure) is made = absurd made
+pub refused_not_made : (refusal : Refusal) (reply : Reply) → reply ≡ refused refusal → ¬ IsMade reply
+refused_not_made refusal reply is made = false≢true (subst IsMade is made)
 
-pub content_not_made : (reply : Reply) → IsContent reply → ¬ IsMade reply
-content_not_made (Made image) is made = absurd is
-content_not_made (Optimized text image) is made = absurd is
-content_not_made (Interrupted image) is made = absurd is
-content_not_made (Done text) is made = absurd made
-content_not_made (Faulty text) is made = absurd made
-content_not_made (Bytes content) is made = absurd made
-content_not_made (Refused refusal) is made = absurd made
-content_not_made (Unopened text) is made = absurd made
-content_not_made (Failed failure) is made = absurd made
+pub failed_not_made : (failure : Failure) (reply : Reply) → reply ≡ failed failure → ¬ IsMade reply
+failed_not_made failure reply is made = false≢true (subst IsMade is made)
 
-pub unopened_not_made : (reply : Reply) → IsUnopened reply → ¬ IsMade reply
-unopened_not_made (Made image) is made = absurd is
-unopened_not_made (Optimized text image) is made = absurd is
-unopened_not_made (Interrupted image) is made = absurd is
-unopened_not_made (Done text) is made = absurd made
-unopened_not_made (Faulty text) is made = absurd made
-unopened_not_made (Bytes content) is made = absurd made
-unopened_not_made (Refused refusal) is made = absurd made
-unopened_not_made (Unopened text) is made = absurd made
-unopened_not_made (Failed failure) is made = absurd made
-
-pub refused_not_made : (refusal : Refusal) (reply : Reply) → reply ≡ Refused refusal → ¬ IsMade reply
-refused_not_made refusal reply is made = subst IsMade is made
-
-pub failed_not_made : (failure : Failure) (reply : Reply) → reply ≡ Failed failure → ¬ IsMade reply
-failed_not_made failure reply is made = subst IsMade is made
+-- a conversion that makes an image answers with it
+pub converted_image : (order to : Order) (volume : ℕ) (image : List ℕ) (reply : Reply) → IsConvertReply order to volume image reply → IsMade reply → IsMadeReply reply
+converted_image order to volume image reply is made = elim is [
+  | inl converted ↦ converted.0
+  | inr (inl long) ↦ absurd (refused_not_made refusals.Length reply long.0 made)
+  | inr (inr (inl lacks)) ↦ absurd (refused_not_made refusals.NoSector reply lacks.0 made)
+  | inr (inr (inr memory)) ↦ absurd (failed_not_made failures.Memory reply memory made)
+]

@@ -1,14 +1,19 @@
 -- What a job answers, and how it is told.
-use Rattle.std.specs.Prelude.{◌≡◌, ◌⊎◌, ℕ, List, [], Option, take, codes, string_bytes}
+use Rattle.std.specs.Prelude.{◌≡◌, ◌⊎◌, ℕ, List, [], Option, None, IsSome, option_map, unwrap_or, take, codes, string_bytes}
 use Rattle.std.specs.Io.KnownBytes.{Appends, Keeps}
 use Rattle.a2_image.specs.declared.error.ImageError.{ImageError}
 use Rattle.a2_image.specs.declared.error.ImageError.TheVariants as images
-use Rattle.job_reply.specs.declared.reply.Refusal.{Refusal}
-use Rattle.job_reply.specs.declared.reply.Refusal.TheVariants as refusals
-use Rattle.job_reply.specs.declared.reply.Failure.{Failure}
-use Rattle.job_reply.specs.declared.reply.Failure.TheVariants as failures
+use Rattle.file_cmds.specs.ProLines.{directory_in}
+use Rattle.file_cmds.specs.ProText.{directory_text}
+use Rattle.job_reply.specs.declared.refusal.Refusal.{Refusal}
+use Rattle.job_reply.specs.declared.refusal.Refusal.TheVariants as refusals
+use Rattle.job_reply.specs.declared.refusal.Failure.{Failure}
+use Rattle.job_reply.specs.declared.refusal.Failure.TheVariants as failures
 use Rattle.job_reply.specs.declared.reply.Reply.{Reply}
-use Rattle.job_reply.specs.declared.reply.Reply.TheVariants.{Done, Faulty, Bytes, Made, Optimized, Interrupted, Refused, Unopened, Failed}
+use Rattle.job_reply.specs.declared.reply.Status.{Status}
+use Rattle.job_reply.specs.declared.reply.Status.TheVariants as statuses
+use Rattle.job_reply.specs.declared.reply.Told.{Told}
+use Rattle.job_reply.specs.declared.reply.Told.TheVariants as tells
 
 abbrev pub refusal_line : Refusal → List ℕ
 refusal_line refusals.InPlace = codes "REFUSED InPlace\n"
@@ -33,68 +38,55 @@ failure_line failures.Input = codes "FAILED Input\n"
 failure_line failures.Device = codes "FAILED Device\n"
 failure_line failures.Memory = codes "FAILED Memory\n"
 
--- the status of a reply: 0 done, 1 something is wrong, 3 refused, 4 failed
+-- the status as the program's: 0 done, 1 something is wrong, 3 refused, 4 failed
+abbrev pub status_number : Status → ℕ
+status_number statuses.Done = 0
+status_number statuses.Wrong = 1
+status_number statuses.Refused = 3
+status_number statuses.Failed = 4
+
+-- the text of what is told
+abbrev pub told_text : Told → List ℕ
+told_text tells.Ok = codes "OK\n"
+told_text (tells.Text text) = string_bytes text
+told_text (tells.Bytes bytes) = bytes.items
+told_text (tells.Listing lines) = directory_text (directory_in lines)
+told_text (tells.Refusal refusal) = refusal_line refusal
+told_text (tells.Failure failure) = failure_line failure
+
+-- of a reply the status, what is written of it, and what the output file gets
 abbrev pub status_of : Reply → ℕ
-status_of (Done text) = 0
-status_of (Faulty text) = 1
-status_of (Bytes content) = 0
-status_of (Made image) = 0
-status_of (Optimized text image) = 0
-status_of (Interrupted image) = 4
-status_of (Refused refusal) = 3
-status_of (Unopened text) = 3
-status_of (Failed failure) = 4
+status_of reply = status_number reply.status
 
--- what is written of a reply
 abbrev pub text_of : Reply → List ℕ
-text_of (Done text) = string_bytes text
-text_of (Faulty text) = string_bytes text
-text_of (Bytes content) = content.items
-text_of (Made image) = codes "OK\n"
-text_of (Optimized text image) = text.items
-text_of (Interrupted image) = codes "FAILED Device\n"
-text_of (Refused refusal) = refusal_line refusal
-text_of (Unopened text) = string_bytes text
-text_of (Failed failure) = failure_line failure
+text_of reply = told_text reply.told
 
--- what the output file gets
 abbrev pub made_of : Reply → List ℕ
-made_of (Made image) = image.items
-made_of (Optimized text image) = image.items
-made_of (Interrupted image) = image.items
-made_of reply = []
+made_of reply = unwrap_or (option_map (λ image. image.items) reply.image) []
 
--- a job is done and this is its text, or its text tells what is wrong
-abbrev pub IsDone : Reply → Type 0
-IsDone (Done text) = Unit {0}
-IsDone reply = ⊥
+-- a job was refused, or something failed under it
+abbrev pub refused : Refusal → Reply
+refused refusal = record { status = statuses.Refused; told = tells.Refusal refusal; image = None }
 
--- its text is the bytes that it has read or made, or the refusal of a volume that has lost places
-abbrev pub IsContent : Reply → Type 0
-IsContent (Bytes content) = Unit {0}
-IsContent reply = ⊥
+abbrev pub failed : Failure → Reply
+failed failure = record { status = statuses.Failed; told = tells.Failure failure; image = None }
 
-abbrev pub IsUnopened : Reply → Type 0
-IsUnopened (Unopened text) = Unit {0}
-IsUnopened reply = ⊥
-
-abbrev pub IsFaulty : Reply → Type 0
-IsFaulty (Faulty text) = Unit {0}
-IsFaulty reply = ⊥
+-- a reply with a status, which hands out no image, or hands one out
+abbrev pub IsTold : Status → Reply → Type 0
+IsTold status reply = (reply.status ≡ status) × (reply.image ≡ None)
 
 abbrev pub IsMade : Reply → Type 0
-IsMade (Made image) = Unit {0}
-IsMade (Optimized text image) = Unit {0}
-IsMade (Interrupted image) = Unit {0}
-IsMade reply = ⊥
+IsMade reply = IsSome reply.image
 
-abbrev pub IsOptimizedReply : Reply → Type 0
-IsOptimizedReply (Optimized text image) = Unit {0}
-IsOptimizedReply reply = ⊥
+abbrev pub IsHanded : Status → Reply → Type 0
+IsHanded status reply = (reply.status ≡ status) × IsMade reply
+
+-- the image that a job has made, with `OK`, and the image as it stands after a failure of the device
+abbrev pub IsMadeReply : Reply → Type 0
+IsMadeReply reply = IsHanded statuses.Done reply × (reply.told ≡ tells.Ok)
 
 abbrev pub IsInterrupted : Reply → Type 0
-IsInterrupted (Interrupted image) = Unit {0}
-IsInterrupted reply = ⊥
+IsInterrupted reply = IsHanded statuses.Failed reply × (reply.told ≡ tells.Failure failures.Device)
 
 -- what the writers of the text and of the output file hold, where that is known
 pub record Held : Type 0 where
@@ -130,7 +122,7 @@ HandsImage status old new = (reply : Reply) × IsMade reply × HandsOut reply st
 
 -- the reply to an image that is not taken
 abbrev pub reply_to_image : ImageError → Reply
-reply_to_image images.Memory = Failed failures.Memory
-reply_to_image images.Length = Refused refusals.Length
-reply_to_image images.Number = Refused refusals.Length
-reply_to_image images.NoSector = Refused refusals.NoSector
+reply_to_image images.Memory = failed failures.Memory
+reply_to_image images.Length = refused refusals.Length
+reply_to_image images.Number = refused refusals.Length
+reply_to_image images.NoSector = refused refusals.NoSector

@@ -29,7 +29,7 @@ pub fn convert_reply(image: Vec<u8>, order: Order, to: Order, volume: u8) -> Rep
     ensures { IsConvertReply order to volume image.items result }
 {
     match converted(image, order, to, volume) {
-        Ok(made) => Reply::Made(made),
+        Ok(made) => Reply::made(made),
         Err(error) => Reply::from(error),
     }
 }

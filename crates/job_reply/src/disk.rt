@@ -5,7 +5,8 @@ ghost use Rattle.a2_image.specs.KeptBytes.{HoldsKept};
 ghost use Rattle.job_reply.specs.Reply.{reply_to_image};
 ghost use Rattle.job_reply.specs.Disk.{IsDiskImage, RefusesDisk, most_bytes as most};
 
-use crate::reply::{Failure, Refusal, Reply};
+use crate::refusal::{Failure, Refusal};
+use crate::reply::Reply;
 use a2_image::{BLOCK_BYTES, DISK_BLOCKS, IMAGE_BYTES, Image, ImageError, NIBBLE_BYTES, Order};
 
 /// The most blocks of an image in ProDOS order.
@@ -51,9 +52,9 @@ impl From<ImageError> for Reply {
 
     fn from(error: ImageError) -> Reply {
         match error {
-            ImageError::Memory => Reply::Failed(Failure::Memory),
-            ImageError::NoSector => Reply::Refused(Refusal::NoSector),
-            ImageError::Length | ImageError::Number => Reply::Refused(Refusal::Length),
+            ImageError::Memory => Reply::failed(Failure::Memory),
+            ImageError::NoSector => Reply::refused(Refusal::NoSector),
+            ImageError::Length | ImageError::Number => Reply::refused(Refusal::Length),
         }
     }
 }

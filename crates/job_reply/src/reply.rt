@@ -1,199 +1,223 @@
-// What a job answers, and how it is told.
-ghost use Rattle.std.specs.Prelude.{◌≡◌, ◌⊎◌, IsTrue};
+// What a job answers: a status, what is told, and an image or none.
+ghost use Rattle.std.specs.Prelude.{◌≡◌, ◌⊎◌, IsTrue, None, Some};
 ghost use Rattle.std.specs.Io.KnownBytes.{Appends};
-ghost use Rattle.job_reply.specs.Reply.{AppendsFront, HandsOut, IsDelivered, IsMade, IsWritten, held, status_of, text_of, refusal_line, failure_line};
+ghost use Rattle.job_reply.specs.Reply.{AppendsFront, HandsOut, IsDelivered, IsMade, IsWritten, failed, held, refused, status_number, status_of, text_of, told_text};
 
-use std::io::{ErrorKind, Write};
+use crate::refusal::{Failure, Refusal};
+use crate::writing::{write_lines, write_whole, written};
+use file_cmds::ProLines;
+use std::io::Write;
 
-/// Why a job was refused.
+/// How a job ended.
 #[derive(Clone, Copy, Debug, PartialEq, Eq)]
-pub enum Refusal {
-    /// The image cannot be changed where it stands.
-    InPlace,
-    /// The format has no such type of files.
-    Type,
-    /// The text of the date is no date and time that the format can have.
-    Date,
-    /// The text of the places to reserve is no list of places.
-    Reserve,
-    /// The image has the wrong length for its order.
-    Length,
-    /// The volume has a fault.
-    Check,
-    /// The volume has no file of that name.
-    NotFound,
-    /// No file may get the new name.
-    Name,
-    /// An entry of the directory has the new name.
-    Exists,
-    /// The file is locked.
-    Locked,
-    /// The file is longer than a file can be.
-    TooLong,
-    /// The directory has no free entry.
-    DirFull,
-    /// Fewer places are free than the file takes.
-    VolumeFull,
-    /// Some part is misplaced, and each place has a part.
-    NoFreePlace,
-    /// The file that is read beside the image is too long.
-    InputTooLong,
-    /// A track of the image lacks a sector.
-    NoSector,
+pub enum Status {
+    /// The job is done.
+    Done,
+    /// What the job was to look at is not as it should be.
+    Wrong,
+    /// The job was refused.
+    Refused,
+    /// Something failed under the job.
+    Failed,
 }
 
-/// What failed under a job.
-#[derive(Clone, Copy, Debug, PartialEq, Eq)]
-pub enum Failure {
-    /// A file could not be opened or read.
-    Input,
-    /// A sector of the image could not be read.
-    Device,
-    Memory,
+/// What is told of a job.
+#[derive(Debug, Drop)]
+pub enum Told {
+    /// `OK`.
+    Ok,
+    /// A text.
+    Text(String),
+    /// Bytes, which are told as they are.
+    Bytes(Vec<u8>),
+    /// The lines of a listing, which are made as they are told.
+    Listing(ProLines),
+    /// Why it was refused.
+    Refusal(Refusal),
+    /// What failed.
+    Failure(Failure),
 }
 
 /// What a job answers.
 #[derive(Debug, Drop)]
-pub enum Reply {
-    /// The text of a job that is done.
-    Done(String),
-    /// The text of what a job found wrong.
-    Faulty(String),
-    /// The bytes that a job has read, which are told as they are.
-    Bytes(Vec<u8>),
-    /// The image that a job has made, for the output file.
-    Made(Vec<u8>),
-    /// What was done to a volume, and the image with it.
-    Optimized(Vec<u8>, Vec<u8>),
-    /// The image as it stands after a failure of the device.
-    Interrupted(Vec<u8>),
-    Refused(Refusal),
-    /// The text of a refusal to open a volume that has lost places.
-    Unopened(String),
-    Failed(Failure),
-}
-
-impl Refusal {
-    fn line(self) -> &'static [u8]
-        ensures { result.now ≡ refusal_line self }
-    {
-        match self {
-            Refusal::InPlace => b"REFUSED InPlace\n",
-            Refusal::Type => b"REFUSED Type\n",
-            Refusal::Date => b"REFUSED Date\n",
-            Refusal::Reserve => b"REFUSED Reserve\n",
-            Refusal::Length => b"REFUSED Length\n",
-            Refusal::Check => b"REFUSED Check\n",
-            Refusal::NotFound => b"REFUSED NotFound\n",
-            Refusal::Name => b"REFUSED Name\n",
-            Refusal::Exists => b"REFUSED Exists\n",
-            Refusal::Locked => b"REFUSED Locked\n",
-            Refusal::TooLong => b"REFUSED TooLong\n",
-            Refusal::DirFull => b"REFUSED DirFull\n",
-            Refusal::VolumeFull => b"REFUSED VolumeFull\n",
-            Refusal::NoFreePlace => b"REFUSED NoFreePlace\n",
-            Refusal::InputTooLong => b"REFUSED InputTooLong\n",
-            Refusal::NoSector => b"REFUSED NoSector\n",
-        }
-    }
-}
-
-impl Failure {
-    fn line(self) -> &'static [u8]
-        ensures { result.now ≡ failure_line self }
-    {
-        match self {
-            Failure::Input => b"FAILED Input\n",
-            Failure::Device => b"FAILED Device\n",
-            Failure::Memory => b"FAILED Memory\n",
-        }
-    }
+pub struct Reply {
+    /// How it ended.
+    pub status: Status,
+    /// What is told of it.
+    pub told: Told,
+    /// The image that it hands out, for the output file.
+    pub image: Option<Vec<u8>>,
 }
 
 /// The status of a writer that failed, and of a job under which something failed.
 pub const FAILED: u8 = 4;
 
-impl Reply {
-    fn status(&self) -> u8
-        ensures { result ≡ status_of self.now }
+impl Status {
+    /// The status as the program's: 0 done, 1 something is wrong, 3 refused, 4 failed.
+    pub fn number(self) -> u8
+        ensures { result ≡ status_number self }
     {
         match self {
-            Reply::Done(_) | Reply::Bytes(_) | Reply::Made(_) | Reply::Optimized(_, _) => 0,
-            Reply::Faulty(_) => 1,
-            Reply::Refused(_) | Reply::Unopened(_) => 3,
-            Reply::Failed(_) | Reply::Interrupted(_) => FAILED,
+            Status::Done => 0,
+            Status::Wrong => 1,
+            Status::Refused => 3,
+            Status::Failed => FAILED,
+        }
+    }
+}
+
+impl Told {
+    // Writes what is told to the last, or as much as the writer takes, and answers whether it took all.
+    fn write<T: Write>(&mut self, text: &mut T) -> bool
+        ensures whole { IsTrue result → Appends (T.contents text.old) (T.contents text.new) (told_text self.old) }
+        ensures front { AppendsFront (T.contents text.old) (T.contents text.new) (told_text self.old) }
+    {
+        match self {
+            Told::Ok => write_whole(b"OK\n", text),
+            Told::Text(told) => write_whole(told.as_bytes(), text),
+            Told::Bytes(bytes) => write_whole(bytes.as_slice(), text),
+            Told::Listing(lines) => write_lines(lines, text),
+            Told::Refusal(refusal) => write_whole(refusal.line(), text),
+            Told::Failure(failure) => write_whole(failure.line(), text),
         }
     }
 
-    fn text(&self) -> &[u8]
-        ensures { result.now ≡ text_of self.now }
+    // Writes what is told and flushes the writer, and answers whether both were done.
+    fn tell<T: Write>(&mut self, text: &mut T) -> bool
+        ensures whole { IsTrue result → Appends (T.contents text.old) (T.contents text.new) (told_text self.old) }
+        ensures front { AppendsFront (T.contents text.old) (T.contents text.new) (told_text self.old) }
     {
-        match self {
-            Reply::Done(text) | Reply::Faulty(text) | Reply::Unopened(text) => text.as_bytes(),
-            Reply::Bytes(content) => content.as_slice(),
-            Reply::Made(_) => b"OK\n",
-            Reply::Optimized(text, _) => text.as_slice(),
-            Reply::Interrupted(_) => Failure::Device.line(),
-            Reply::Refused(refusal) => refusal.line(),
-            Reply::Failed(failure) => failure.line(),
+        self.write(text) && text.flush().is_ok()
+    }
+}
+
+impl Reply {
+    // What is told, with no image.
+    fn told(status: Status, told: Told) -> Reply
+        ensures { result ≡ record { status = status; told = told; image = None } }
+    {
+        Reply {
+            status,
+            told,
+            image: None,
+        }
+    }
+
+    /// The text of a job that is done.
+    pub fn done(text: String) -> Reply
+        ensures { result ≡ record { status = Status.Done; told = Told.Text text; image = None } }
+    {
+        Reply::told(Status::Done, Told::Text(text))
+    }
+
+    /// The text of what a job found wrong.
+    pub fn wrong(text: String) -> Reply
+        ensures { result ≡ record { status = Status.Wrong; told = Told.Text text; image = None } }
+    {
+        Reply::told(Status::Wrong, Told::Text(text))
+    }
+
+    /// The text of a refusal that says more than its name.
+    pub fn unopened(text: String) -> Reply
+        ensures { result ≡ record { status = Status.Refused; told = Told.Text text; image = None } }
+    {
+        Reply::told(Status::Refused, Told::Text(text))
+    }
+
+    /// The bytes that a job has read or made, which are told as they are.
+    pub fn content(bytes: Vec<u8>) -> Reply
+        ensures { result ≡ record { status = Status.Done; told = Told.Bytes bytes; image = None } }
+    {
+        Reply::told(Status::Done, Told::Bytes(bytes))
+    }
+
+    /// The lines of a listing.
+    pub fn listing(lines: ProLines) -> Reply
+        ensures { result ≡ record { status = Status.Done; told = Told.Listing lines; image = None } }
+    {
+        Reply::told(Status::Done, Told::Listing(lines))
+    }
+
+    /// A job was refused.
+    pub fn refused(refusal: Refusal) -> Reply
+        ensures { result ≡ refused refusal }
+    {
+        Reply::told(Status::Refused, Told::Refusal(refusal))
+    }
+
+    /// Something failed under a job.
+    pub fn failed(failure: Failure) -> Reply
+        ensures { result ≡ failed failure }
+    {
+        Reply::told(Status::Failed, Told::Failure(failure))
+    }
+
+    /// The image that a job has made: it tells `OK`.
+    pub fn made(image: Vec<u8>) -> Reply
+        ensures { result ≡ record { status = Status.Done; told = Told.Ok; image = Some image } }
+    {
+        Reply {
+            status: Status::Done,
+            told: Told::Ok,
+            image: Some(image),
+        }
+    }
+
+    /// What was done to a volume, and the image with it.
+    pub fn optimized(report: Vec<u8>, image: Vec<u8>) -> Reply
+        ensures { result ≡ record { status = Status.Done; told = Told.Bytes report; image = Some image } }
+    {
+        Reply {
+            status: Status::Done,
+            told: Told::Bytes(report),
+            image: Some(image),
+        }
+    }
+
+    /// The image as it stands after a failure of the device.
+    pub fn interrupted(image: Vec<u8>) -> Reply
+        ensures { result ≡ record { status = Status.Failed; told = Told.Failure Failure.Device; image = Some image } }
+    {
+        Reply {
+            status: Status::Failed,
+            told: Told::Failure(Failure::Device),
+            image: Some(image),
         }
     }
 
     /// Writes the text of a reply and answers its status, 4 where the writer fails.
-    pub fn tell<T: Write>(&self, text: &mut T) -> u8
-        ensures { IsWritten (status_of self.now) (text_of self.now) result (T.contents text.old) (T.contents text.new) }
+    pub fn tell<T: Write>(self, text: &mut T) -> u8
+        ensures { IsWritten (status_of self) (text_of self) result (T.contents text.old) (T.contents text.new) }
     {
-        written(self.text(), self.status(), text)
+        let Reply {
+            status,
+            mut told,
+            ..
+        } = self;
+        if told.tell(text) {
+            status.number()
+        } else {
+            FAILED
+        }
     }
 
     /// Writes the text of a reply, then hands its image to the output file's writer, and answers its status, 4 where a
     /// writer fails. What hands out no image leaves that writer as it is; so does a text that could not be written.
-    pub fn deliver<T: Write, O: Write>(&self, text: &mut T, out: &mut O) -> u8
-        ensures told { IsDelivered self.now result (held (T.contents text.old) (O.contents out.old)) (held (T.contents text.new) (O.contents out.new)) }
-        ensures out { (out.new ≡ out.old) ⊎ (IsMade self.now × HandsOut self.now result (T.contents text.old) (T.contents text.new)) }
+    pub fn deliver<T: Write, O: Write>(self, text: &mut T, out: &mut O) -> u8
+        ensures told { IsDelivered self result (held (T.contents text.old) (O.contents out.old)) (held (T.contents text.new) (O.contents out.new)) }
+        ensures out { (out.new ≡ out.old) ⊎ (IsMade self × HandsOut self result (T.contents text.old) (T.contents text.new)) }
     {
-        let told = written(self.text(), 0, text);
-        if told == FAILED {
+        let Reply {
+            status,
+            mut told,
+            image,
+        } = self;
+        if !told.tell(text) {
             return FAILED;
         }
-        match self {
-            Reply::Made(image) | Reply::Optimized(_, image) | Reply::Interrupted(image) => {
-                written(image.as_slice(), self.status(), out)
-            }
-            _ => self.status(),
+        match image {
+            Some(image) => written(image.as_slice(), status.number(), out),
+            None => status.number(),
         }
     }
-}
-
-/// Writes bytes and answers the status, or 4 where the writer fails.
-pub fn written<W: Write>(bytes: &[u8], status: u8, writer: &mut W) -> u8
-    ensures { IsWritten status bytes.now result (W.contents writer.old) (W.contents writer.new) }
-{
-    if !write_whole(bytes, writer) {
-        return FAILED;
-    }
-    if writer.flush().is_err() {
-        return FAILED;
-    }
-    status
-}
-
-// Writes bytes to the last, or as many as the writer takes, and answers whether it took all.
-fn write_whole<W: Write>(bytes: &[u8], writer: &mut W) -> bool
-    ensures whole { IsTrue result → Appends (W.contents writer.old) (W.contents writer.new) bytes.now }
-    ensures front { AppendsFront (W.contents writer.old) (W.contents writer.new) bytes.now }
-{
-    let mut taken = 0;
-    for _ in 0..u64::MAX {
-        if taken == bytes.len() {
-            return true;
-        }
-        match writer.write(&bytes[taken..]) {
-            Ok(0) => return false,
-            Ok(count) => taken += count,
-            Err(error) if error.kind() == ErrorKind::Interrupted => {}
-            Err(_) => return false,
-        }
-    }
-    false
 }

@@ -74,7 +74,32 @@ impl<A: Allocator> VolumeDir<A> {
         entry_at(self.entries.as_slice(), entry as usize).name()
     }
 
-    /// The path of an entry: the names of the directories that lead to it from the volume's and its own, joined by slashes.
+    /// Puts the path of an entry into a text, in place of what it had: the names of the directories that lead to the entry from
+    /// the volume's and its own, joined by slashes. A text with room for it takes no memory.
+    ///
+    /// # Errors
+    /// Want of memory alone.
+    pub fn path_into<B: Allocator>(
+        &self,
+        entry: u32,
+        path: &mut Vec<u8, B>,
+    ) -> Result<(), AllocError>
+        requires { entry < length (directory_of self.now).entries }
+        ensures { OnOk result (path.new.items ≡ path_of (directory_of self.now).entries entry) }
+    {
+        path.clear();
+        push_backward(path, self.name_at(entry))?;
+        let mut number = entry;
+        while let Some(parent) = self.parent(number) {
+            path.push(b'/')?;
+            push_backward(path, self.name_at(parent))?;
+            number = parent;
+        }
+        path.reverse();
+        Ok(())
+    }
+
+    /// The path of an entry, in a text of its own.
     ///
     /// # Errors
     /// Want of memory alone.
@@ -83,14 +108,7 @@ impl<A: Allocator> VolumeDir<A> {
         ensures { IfOk result (λ path. path.items ≡ path_of (directory_of self.now).entries entry) }
     {
         let mut path = Vec::new(alloc);
-        push_backward(&mut path, self.name_at(entry))?;
-        let mut number = entry;
-        while let Some(parent) = self.parent(number) {
-            path.push(b'/')?;
-            push_backward(&mut path, self.name_at(parent))?;
-            number = parent;
-        }
-        path.reverse();
+        self.path_into(entry, &mut path)?;
         Ok(path)
     }
 

@@ -1,32 +1,34 @@
 -- What was read of an image answers for the whole image, and words for their job.
 use Rattle.std.proofs.Common.{◌≡◌, ◌≢◌, ◌∙◌, ℕ, ◌+◌, Bool, true, false, List, take, refl, sym, ap, subst, arith, inl, inr, ⊎_elim}
+use Rattle.std.proofs.lemmas.Bool.{false≢true}
 use Rattle.std.proofs.lemmas.Option.{same_Some}
 use Rattle.std.specs.Io.KnownBytes.{Appends, Keeps}
 use Rattle.std.specs.Prelude.{◌⊎◌, Option, Some, None, IfSome, codes}
 use Rattle.a2_image.specs.declared.order.Order.{Order}
 use Rattle.given_file.specs.Content.{GivenView}
-use Rattle.shop_words.specs.Job.{EditView, JobView, SaveView, catalog, check, read, convert, plan, optimize, edit, save, verify, identify, asked_job, IsTaken}
+use Rattle.shop_jobs.specs.Job.{EditView, JobView, SaveView, catalog, check, read, convert, plan, optimize, edit, save, verify, identify}
+use Rattle.shop_words.specs.Job.{asked_job, IsTaken}
 use Rattle.shop_words.specs.Fault.{IsFaultOf}
 use Rattle.shop_words.specs.declared.fault.WordsFault.{WordsFault}
 use Rattle.shop_words.specs.declared.fault.WordsFault.TheVariants as words
-use Rattle.shop_words.specs.declared.job.VolumeOptions.{VolumeOptions}
-use Rattle.job_reply.specs.declared.reply.Failure.{Failure}
+use Rattle.shop_jobs.specs.declared.job.VolumeOptions.{VolumeOptions}
+use Rattle.job_reply.specs.declared.refusal.Failure.{Failure}
 use Rattle.job_reply.specs.declared.reply.Reply.{Reply}
-use Rattle.job_reply.specs.declared.reply.Reply.TheVariants.{Done, Faulty, Bytes, Made, Optimized, Interrupted, Refused, Unopened, Failed}
+use Rattle.job_reply.specs.declared.reply.Status.{Status}
+use Rattle.job_reply.specs.declared.reply.Told.{Told}
 use Rattle.job_reply.specs.Disk.{most_bytes}
-use Rattle.job_reply.specs.Reply.{HandsOut, Held, IsDelivered, IsMade, held}
+use Rattle.job_reply.specs.Reply.{HandsOut, Held, IsDelivered, IsMade, IsMadeReply, failed, held, refused, status_number, told_text}
 use Rattle.job_reply.proofs.Fronts.{convert-whole}
-use Rattle.job_reply.proofs.NotMade.{refused_not_made}
-use Rattle.job_reply.specs.declared.reply.Refusal.TheVariants as refusals
+use Rattle.job_reply.proofs.NotMade.{converted_image, refused_not_made}
+use Rattle.job_reply.specs.declared.refusal.Refusal.TheVariants as refusals
 use Rattle.volume_jobs.specs.VerifyReply.{most_certificate}
 use Rattle.image_volume.specs.Volume.{device_of, form_of, meaning_of}
 use Rattle.volume_jobs.specs.FileSystems.{edits_of, files_of}
 use Rattle.volume_jobs.specs.Work.{IsWorkReply, WorkView, Catalog, Read, Check, Plan, Optimize, Change, Save, Verify}
-use Rattle.volume_jobs.specs.EditReply.{IsImageReply}
 use Rattle.volume_jobs.specs.SaveReply.{most_input}
 use Rattle.volume_jobs.proofs.NotMade.{edited_image, saved_image, volume_made}
 use Rattle.volume_jobs.proofs.Fronts.{saved-take, verified-take, volume-whole, with_given_bytes}
-use Rattle.shop_commands.specs.Answer.{AreToldNoJob, HandsOutFor, IsGiven, IsInPlaceAnswer, IsReadFailure, IsSaveReply, limit_of, IsToldOf, IsReplyToBytes, IsAnswer, IsCommandAnswer, IsWordsAnswer, MakesImage, ReadsExtra, attributes_of, image_order_of, is_in_place, order_of}
+use Rattle.shop_commands.specs.Answer.{AreToldNoJob, TellsNoJob, HandsOutFor, IsGiven, IsInPlaceAnswer, IsReadFailure, IsSaveReply, limit_of, IsToldOf, IsReplyToBytes, IsAnswer, IsCommandAnswer, IsWordsAnswer, MakesImage, ReadsExtra, attributes_of, image_order_of, is_in_place, order_of}
 use Rattle.image_readings.proofs.Fronts.{identify-whole}
 use Rattle.image_readings.proofs.NotMade.{identify_not_made}
 use Rattle.shop_commands.proofs.NotMade.{told_not_made}
@@ -128,20 +130,20 @@ job_answered job (Some image) extra order front more reply status old new outsid
 
 -- a job in place
 pub placed_answered : (job : JobView) (known extra : Option (List ℕ)) (status : ℕ) (old new : Held) → is_in_place job ≡ true
-    → IsDelivered (Refused refusals.InPlace) status old new → IfSome known (λ image. IsAnswer job image extra status old new)
+    → IsDelivered (refused refusals.InPlace) status old new → IfSome known (λ image. IsAnswer job image extra status old new)
 placed_answered job None extra status old new placed told = tt
-placed_answered job (Some image) extra status old new placed told = (Refused refusals.InPlace, inl (inl (placed, refl)), told)
+placed_answered job (Some image) extra status old new placed told = (refused refusals.InPlace, inl (inl (placed, refl)), told)
 
 -- a job whose bytes could not be read
 pub unread_answered : (job : JobView) (known extra : Option (List ℕ)) (failure : Failure) (status : ℕ) (old new : Held) → is_in_place job ≡ false → IsReadFailure failure
-    → IsDelivered (Failed failure) status old new → IfSome known (λ image. IsAnswer job image extra status old new)
+    → IsDelivered (failed failure) status old new → IfSome known (λ image. IsAnswer job image extra status old new)
 unread_answered job None extra failure status old new outside is told = tt
-unread_answered job (Some image) extra failure status old new outside is told = (Failed failure, inr (outside, (failure, is, refl)), told)
+unread_answered job (Some image) extra failure status old new outside is told = (failed failure, inr (outside, (failure, is, refl)), told)
 
 -- and it hands nothing out
 pub none_handed : {O P : Type 0} (failure : Failure) (old new : O) (status : ℕ) (text_old text_new : Option (List ℕ))
-    → (new ≡ old) ⊎ (IsMade (Failed failure) × HandsOut (Failed failure) status text_old text_new) → (new ≡ old) ⊎ P
-none_handed failure old new status text_old text_new handed = ⊎_elim inl (λ made. absurd made.0) handed
+    → (new ≡ old) ⊎ (IsMade (failed failure) × HandsOut (failed failure) status text_old text_new) → (new ≡ old) ⊎ P
+none_handed failure old new status text_old text_new handed = ⊎_elim inl (λ made. absurd (false≢true made.0)) handed
 
 -- only a job that makes an image has a reply with one
 makes_image : (job : JobView) (image more : List ℕ) (reply : Reply) → is_in_place job ≡ false → IsReplyToBytes job image (Some more) reply → IsMade reply → MakesImage job
@@ -158,49 +160,37 @@ makes_image (identify path) image more reply outside is made = absurd (identify_
 
 -- an edit that makes an image answers with it, and hands it out with `OK`
 edit_makes_image : (volume : VolumeOptions) (reserve : Option (List ℕ)) (image : List ℕ) (change : EditView) (name : List ℕ) (reply : Reply)
-    → IsToldOf volume reserve image (Change change name) reply → IsMade reply → IsImageReply reply
+    → IsToldOf volume reserve image (Change change name) reply → IsMade reply → IsMadeReply reply
 edit_makes_image volume reserve image change name reply is made =
     volume_made volume.file_system (order_of volume.order) volume.data_disk reserve image
-    (IsWorkReply (Change change name) (form_of volume.file_system) (files_of volume.file_system) (edits_of volume.file_system)) reply (IsImageReply reply)
+    (IsWorkReply (Change change name) (form_of volume.file_system) (files_of volume.file_system) (edits_of volume.file_system)) reply (IsMadeReply reply)
     (λ format device told. edited_image change name (files_of volume.file_system) (edits_of volume.file_system) format device reply told made) is made
 
 -- so does a saving
-save_makes_image : (words : SaveView) (reserve : Option (List ℕ)) (image bytes : List ℕ) (reply : Reply) → IsSaveReply words reserve image bytes reply → IsMade reply → IsImageReply reply
+save_makes_image : (words : SaveView) (reserve : Option (List ℕ)) (image bytes : List ℕ) (reply : Reply) → IsSaveReply words reserve image bytes reply → IsMade reply → IsMadeReply reply
 save_makes_image words reserve image bytes reply is made = elim is [
   | inl (refusal, refused, _) ↦ absurd (refused_not_made refusal reply refused made)
   | inr (work, (given, _, asks), told) ↦ told_image given (subst (λ (w : WorkView). IsToldOf words.volume reserve image w reply) asks told)
 ]
   where
-    told_image : (given : GivenView) → IsToldOf words.volume reserve image (Save words.name given) reply → IsImageReply reply
+    told_image : (given : GivenView) → IsToldOf words.volume reserve image (Save words.name given) reply → IsMadeReply reply
     told_image given told =
         volume_made words.volume.file_system (order_of words.volume.order) words.volume.data_disk reserve image
-        (IsWorkReply (Save words.name given) (form_of words.volume.file_system) (files_of words.volume.file_system) (edits_of words.volume.file_system)) reply (IsImageReply reply)
+        (IsWorkReply (Save words.name given) (form_of words.volume.file_system) (files_of words.volume.file_system) (edits_of words.volume.file_system)) reply (IsMadeReply reply)
         (λ format device is. saved_image words.name given (edits_of words.volume.file_system).save format device reply is made) told made
 
-ok_handed : (reply : Reply) (status : ℕ) (old new : Option (List ℕ)) → IsImageReply reply → HandsOut reply status old new
+ok_handed : (reply : Reply) (status : ℕ) (old new : Option (List ℕ)) → IsMadeReply reply → HandsOut reply status old new
     → Appends old new (codes "OK\n") × ((status ≡ 0) ⊎ (status ≡ 4))
-ok_handed (Made content) status old new is out = out
-ok_handed (Optimized text content) status old new is out = absurd is
-ok_handed (Interrupted content) status old new is out = absurd is
-ok_handed (Done text) status old new is out = absurd is
-ok_handed (Faulty text) status old new is out = absurd is
-ok_handed (Bytes content) status old new is out = absurd is
-ok_handed (Refused refusal) status old new is out = absurd is
-ok_handed (Unopened text) status old new is out = absurd is
-ok_handed (Failed failure) status old new is out = absurd is
+ok_handed reply status old new is out = (
+  subst (λ (told : Told). Appends old new (told_text told)) is.1 out.0,
+  subst (λ (ended : Status). (status ≡ status_number ended) ⊎ (status ≡ 4)) is.0.0 out.1,
+)
 
 -- the image of a conversion, of an edit or of a saving is handed out with `OK`
 hands_for : (job : JobView) (image more : List ℕ) (reply : Reply) (status : ℕ) (old new : Option (List ℕ)) → IsReplyToBytes job image (Some more) reply → IsMade reply
     → HandsOut reply status old new → HandsOutFor job status old new
-hands_for (convert words) image more (Made content) status old new is made out = out
-hands_for (convert words) image more (Optimized text content) status old new is made out = absurd is
-hands_for (convert words) image more (Interrupted content) status old new is made out = absurd is
-hands_for (convert words) image more (Done text) status old new is made out = absurd made
-hands_for (convert words) image more (Faulty text) status old new is made out = absurd made
-hands_for (convert words) image more (Bytes content) status old new is made out = absurd made
-hands_for (convert words) image more (Refused refusal) status old new is made out = absurd made
-hands_for (convert words) image more (Unopened text) status old new is made out = absurd made
-hands_for (convert words) image more (Failed failure) status old new is made out = absurd made
+hands_for (convert words) image more reply status old new is made out =
+    ok_handed reply status old new (converted_image (order_of words.order) (order_of words.to) words.volume image reply is made) out
 hands_for (edit path name volume change file reserve) image more reply status old new is made out = ok_handed reply status old new (edit_makes_image volume reserve image change name reply is made) out
 hands_for (save words reserve) image more reply status old new is made out = ok_handed reply status old new (save_makes_image words reserve image more reply is made) out
 hands_for (catalog path volume) image more reply status old new is made out = (reply, made, out)
@@ -219,15 +209,23 @@ image_handed job image more reply status text_old text_new old new outside is ha
 
 -- a refusal hands nothing out
 pub refusal_handed : {O P : Type 0} (old new : O) (status : ℕ) (text_old text_new : Option (List ℕ))
-    → (new ≡ old) ⊎ (IsMade (Refused refusals.InPlace) × HandsOut (Refused refusals.InPlace) status text_old text_new) → (new ≡ old) ⊎ P
-refusal_handed old new status text_old text_new handed = ⊎_elim inl (λ made. absurd made.0) handed
+    → (new ≡ old) ⊎ (IsMade (refused refusals.InPlace) × HandsOut (refused refusals.InPlace) status text_old text_new) → (new ≡ old) ⊎ P
+refusal_handed old new status text_old text_new handed = ⊎_elim inl (λ made. absurd (false≢true made.0)) handed
 
 -- ---- words
 
-pub command_answered : (list : List (List ℕ)) (job : JobView) (known extra : Option (List ℕ)) (status : ℕ) (old new : Held) → asked_job list ≡ Some job
-    → IfSome known (λ image. IsAnswer job image extra status old new) → IfSome known (λ image. IsCommandAnswer list image extra status old new)
-command_answered list job None extra status old new asked answer = tt
-command_answered list job (Some image) extra status old new asked answer = inr (job, asked, answer)
+-- what is known of the words and their job goes over to what is answered
+module _ (list : List (List ℕ)) (job : JobView) (asked : asked_job list ≡ Some job) (status : ℕ) (old mid new : Held) (untold : mid ≡ old) where
+  pub command_answered : (known extra : Option (List ℕ)) → IfSome known (λ image. IsAnswer job image extra status mid new)
+      → IfSome known (λ image. IsCommandAnswer list image extra status old new)
+  command_answered None extra answer = tt
+  command_answered (Some image) extra answer = inr (job, asked, subst (λ (before : Held). IsAnswer job image extra status before new) untold answer)
+
+  pub command_placed : (mine : JobView) → asked_job list ≡ Some mine → is_in_place mine ≡ true → IsInPlaceAnswer job status mid new
+      → AreToldNoJob list status old new ⊎ IsDelivered (refused refusals.InPlace) status old new
+  command_placed mine also placed answer =
+      inr (subst (λ (before : Held). IsDelivered (refused refusals.InPlace) status before new) untold
+      (answer (subst (λ (j : JobView). is_in_place j ≡ true) (same_Some mine job (sym also ∙ asked)) placed)))
 
 pub memory_told : (fault : WordsFault) (status : ℕ) (old new : Option (List ℕ)) → fault ≡ words.Memory → IsWordsAnswer fault status old new → status ≢ 2
 memory_told fault status old new is told two = ⊎_elim (λ all. let four = all.0 in omega (arith, four, two)) (λ front. let four = front.0 in omega (arith, four, two))
@@ -237,17 +235,11 @@ keeps_same : (known : Option (List ℕ)) → Keeps known known
 keeps_same None = tt
 keeps_same (Some bytes) = refl
 
-pub command_refused : (list : List (List ℕ)) (fault : WordsFault) (known extra out : Option (List ℕ)) (status : ℕ) (old new : Option (List ℕ))
-    → (IsTaken list → fault ≡ words.Memory) → IsFaultOf list fault → IsWordsAnswer fault status old new
+pub command_untaken : (list : List (List ℕ)) (out : Option (List ℕ)) (status : ℕ) (old new : Option (List ℕ)) → TellsNoJob list status old new
+    → AreToldNoJob list status (held old out) (held new out)
+command_untaken list out status old new told = (told, keeps_same out)
+
+pub command_refused : (list : List (List ℕ)) (known extra out : Option (List ℕ)) (status : ℕ) (old new : Option (List ℕ)) → TellsNoJob list status old new
     → IfSome known (λ image. IsCommandAnswer list image extra status (held old out) (held new out))
-command_refused list fault None extra out status old new taken at_fault told = tt
-command_refused list fault (Some image) extra out status old new taken at_fault told = inl (fault, taken, at_fault, told, keeps_same out)
-
-pub command_placed : (list : List (List ℕ)) (mine job : JobView) (status : ℕ) (old new : Held) → asked_job list ≡ Some mine → IsInPlaceAnswer mine status old new
-    → asked_job list ≡ Some job → is_in_place job ≡ true → AreToldNoJob list status old new ⊎ IsDelivered (Refused refusals.InPlace) status old new
-command_placed list mine job status old new asked answer also placed =
-    inr (answer (subst (λ (j : JobView). is_in_place j ≡ true) (same_Some job mine (sym also ∙ asked)) placed))
-
-pub command_untaken : (list : List (List ℕ)) (fault : WordsFault) (out : Option (List ℕ)) (status : ℕ) (old new : Option (List ℕ))
-    → (IsTaken list → fault ≡ words.Memory) → IsFaultOf list fault → IsWordsAnswer fault status old new → AreToldNoJob list status (held old out) (held new out)
-command_untaken list fault out status old new taken at_fault told = (fault, taken, at_fault, told, keeps_same out)
+command_refused list None extra out status old new told = tt
+command_refused list (Some image) extra out status old new told = inl (command_untaken list out status old new told)

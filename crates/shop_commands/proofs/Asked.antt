@@ -1,11 +1,11 @@
 -- What is told to a job that changes its volume, by what it asks of it.
 use Rattle.std.proofs.Common.{◌≡◌, ℕ, List, Option, Some, inl, inr, refl, subst}
 use Rattle.a2_image.specs.declared.order.Order.{Order}
-use Rattle.shop_words.specs.Job.{JobView, catalog, check, read, convert, plan, optimize, edit, save, verify, identify}
-use Rattle.shop_words.specs.declared.job.VolumeOptions.{VolumeOptions}
-use Rattle.job_reply.specs.declared.reply.Refusal.{Refusal}
+use Rattle.shop_jobs.specs.Job.{JobView, catalog, check, read, convert, plan, optimize, edit, save, verify, identify}
+use Rattle.shop_jobs.specs.declared.job.VolumeOptions.{VolumeOptions}
+use Rattle.job_reply.specs.declared.refusal.Refusal.{Refusal}
 use Rattle.job_reply.specs.declared.reply.Reply.{Reply}
-use Rattle.job_reply.specs.declared.reply.Reply.TheVariants.{Refused}
+use Rattle.job_reply.specs.Reply.{refused}
 use Rattle.image_volume.specs.Volume.{form_of}
 use Rattle.volume_jobs.specs.FileSystems.{edits_of, files_of}
 use Rattle.volume_jobs.specs.VolumeReply.{IsVolumeReply}
@@ -13,7 +13,7 @@ use Rattle.volume_jobs.specs.Work.{IsWorkReply, WorkView, Optimize, Change}
 use Rattle.shop_commands.specs.Answer.{AsksFor, IsOnVolume, IsReplyToBytes, IsToldOf, RefusesWords, image_order_of, limit_of, order_of}
 
 -- words that are refused
-pub refused_words : (job : JobView) (image bytes : List ℕ) (refusal : Refusal) → RefusesWords job refusal → IsReplyToBytes job image (Some bytes) (Refused refusal)
+pub refused_words : (job : JobView) (image bytes : List ℕ) (refusal : Refusal) → RefusesWords job refusal → IsReplyToBytes job image (Some bytes) (refused refusal)
 refused_words (save words reserve) image bytes refusal is = inl (refusal, refl, is)
 refused_words (catalog path volume) image bytes refusal is = absurd is
 refused_words (check path volume reserve) image bytes refusal is = absurd is

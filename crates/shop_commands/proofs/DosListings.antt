@@ -1,7 +1,7 @@
 -- What is told of a job that lists a DOS 3.3 disk, in the words of its format.
 use Rattle.std.proofs.Common.{◌≡◌, ◌⊎◌, ℕ, List, true, false, inl, inr, ⊎_elim}
 use Rattle.std.specs.Prelude.{Option, Some, None, IfSome}
-use Rattle.shop_words.specs.Job.{JobView, catalog, check, read, convert, plan, optimize, edit, save, verify, identify}
+use Rattle.shop_jobs.specs.Job.{JobView, catalog, check, read, convert, plan, optimize, edit, save, verify, identify}
 use Rattle.job_reply.specs.Reply.{Held}
 use Rattle.volume_jobs.proofs.DosListings.{dos_catalog_listed}
 use Rattle.shop_commands.specs.Answer.{IsAnswer, IsDosCatalogAnswer, order_of}

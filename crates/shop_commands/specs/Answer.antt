@@ -8,23 +8,23 @@ use Rattle.given_file.specs.Content.{GivenView}
 use Rattle.given_file.specs.Words.{IsDateOf, NamesDate, dos_head, dos_kind, pro_kind}
 use Rattle.given_file.specs.declared.content.Head.{Head}
 use Rattle.given_file.specs.declared.content.Head.TheVariants as heads
-use Rattle.shop_words.specs.Job.{JobView, SaveView, TargetView, ToFile, InPlace, catalog, check, read, convert, plan, optimize, edit, save, verify, identify, asked_job, IsTaken}
-use Rattle.shop_words.specs.declared.job.FileSystem.{FileSystem}
-use Rattle.shop_words.specs.declared.job.FileSystem.TheVariants as systems
-use Rattle.shop_words.specs.declared.job.ImageOrder.{ImageOrder}
-use Rattle.shop_words.specs.declared.job.ImageOrder.TheVariants as wanted
-use Rattle.shop_words.specs.declared.job.SaveAttributes.{SaveAttributes}
-use Rattle.shop_words.specs.declared.job.VolumeOptions.{VolumeOptions}
+use Rattle.shop_jobs.specs.Job.{JobView, SaveView, TargetView, ToFile, InPlace, catalog, check, read, convert, plan, optimize, edit, save, verify, identify}
+use Rattle.shop_words.specs.Job.{asked_job, IsTaken}
+use Rattle.shop_jobs.specs.declared.job.FileSystem.{FileSystem}
+use Rattle.shop_jobs.specs.declared.job.FileSystem.TheVariants as systems
+use Rattle.shop_jobs.specs.declared.job.ImageOrder.{ImageOrder}
+use Rattle.shop_jobs.specs.declared.job.ImageOrder.TheVariants as wanted
+use Rattle.shop_jobs.specs.declared.job.SaveAttributes.{SaveAttributes}
+use Rattle.shop_jobs.specs.declared.job.VolumeOptions.{VolumeOptions}
 use Rattle.shop_words.specs.Fault.{IsFaultOf}
 use Rattle.shop_words.specs.declared.fault.WordsFault.{WordsFault}
 use Rattle.shop_words.specs.declared.fault.WordsFault.TheVariants as words
-use Rattle.job_reply.specs.declared.reply.Failure.{Failure}
-use Rattle.job_reply.specs.declared.reply.Failure.TheVariants as failures
+use Rattle.job_reply.specs.declared.refusal.Failure.{Failure}
+use Rattle.job_reply.specs.declared.refusal.Failure.TheVariants as failures
 use Rattle.job_reply.specs.declared.reply.Reply.{Reply}
-use Rattle.job_reply.specs.declared.reply.Refusal.{Refusal}
-use Rattle.job_reply.specs.declared.reply.Refusal.TheVariants as refusals
-use Rattle.job_reply.specs.declared.reply.Reply.TheVariants.{Failed, Refused}
-use Rattle.job_reply.specs.Reply.{HandsImage, Held, IsDelivered, IsWritten, failure_line}
+use Rattle.job_reply.specs.declared.refusal.Refusal.{Refusal}
+use Rattle.job_reply.specs.declared.refusal.Refusal.TheVariants as refusals
+use Rattle.job_reply.specs.Reply.{HandsImage, Held, IsDelivered, IsWritten, failed, failure_line, refused}
 use Rattle.volume_jobs.specs.DosCatalogReply.{IsDosCatalogReply}
 use Rattle.image_volume.specs.Volume.{form_of}
 use Rattle.volume_jobs.specs.FileSystems.{edits_of, files_of}
@@ -176,7 +176,7 @@ RefusesWords job refusal = ⊥
 -- the reply to a saving of these bytes: its words are refused, or it is what is told of the volume
 abbrev pub IsSaveReply : SaveView → Option Text → List ℕ → List ℕ → Reply → Type 0
 IsSaveReply words reserve image bytes reply =
-    ((refusal : Refusal) × (reply ≡ Refused refusal) × RefusesWords (save words reserve) refusal)
+    ((refusal : Refusal) × (reply ≡ refused refusal) × RefusesWords (save words reserve) refusal)
     ⊎ ((work : WorkView) × AsksFor (save words reserve) bytes work × IsToldOf words.volume reserve image work reply)
 
 -- what is told to a job of these bytes of an image, and of those of a file beside it where they are known
@@ -195,7 +195,7 @@ IsReplyToBytes (identify path) image extra reply = IsIdentifyReply image reply
 -- the reply to a job: `InPlace` where the image is to be changed in its own file, which bytes are not; else what is told of the bytes
 abbrev pub IsReplyTo : JobView → List ℕ → Option (List ℕ) → Reply → Type 0
 IsReplyTo job image extra reply =
-    ((is_in_place job ≡ true) × (reply ≡ Refused refusals.InPlace))
+    ((is_in_place job ≡ true) × (reply ≡ refused refusals.InPlace))
     ⊎ ((is_in_place job ≡ false) × IsReplyToBytes job image extra reply)
 
 -- the job reads the image
@@ -247,7 +247,7 @@ IsReadFailure failure = (failure ≡ failures.Input) ⊎ (failure ≡ failures.M
 
 -- the bytes of a job that reads them could not be read
 abbrev pub IsUnread : JobView → Reply → Type 0
-IsUnread job reply = ReadsImage job × ((failure : Failure) × IsReadFailure failure × (reply ≡ Failed failure))
+IsUnread job reply = ReadsImage job × ((failure : Failure) × IsReadFailure failure × (reply ≡ failed failure))
 
 -- a job was answered by one reply, told and handed out behind what the writers had: the reply to its bytes, or that they could not be read
 abbrev pub IsAnswer : JobView → List ℕ → Option (List ℕ) → ℕ → Held → Held → Type 0
@@ -256,13 +256,13 @@ IsAnswer job image extra status old new =
 
 -- a job in place was answered with `InPlace`, whatever the readers have
 abbrev pub IsInPlaceAnswer : JobView → ℕ → Held → Held → Type 0
-IsInPlaceAnswer job status old new = is_in_place job ≡ true → IsDelivered (Refused refusals.InPlace) status old new
+IsInPlaceAnswer job status old new = is_in_place job ≡ true → IsDelivered (refused refusals.InPlace) status old new
 
 -- A job that lists a DOS 3.3 disk has such a reply. Of another job this says nothing.
 abbrev pub IsDosCatalogAnswer : JobView → List ℕ → ℕ → Held → Held → Type 0
 IsDosCatalogAnswer (catalog path volume) image status old new =
     volume.file_system ≡ systems.Dos
-    → (reply : Reply) × (IsDosCatalogReply (order_of volume.order) image reply ⊎ ((failure : Failure) × IsReadFailure failure × (reply ≡ Failed failure)))
+    → (reply : Reply) × (IsDosCatalogReply (order_of volume.order) image reply ⊎ ((failure : Failure) × IsReadFailure failure × (reply ≡ failed failure)))
     × IsDelivered reply status old new
 IsDosCatalogAnswer job image status old new = Unit {0}
 
@@ -273,10 +273,14 @@ IsWordsAnswer (words.Refused text) status old new = IsWritten 2 (string_bytes te
 IsWordsAnswer words.Memory status old new = IsWritten 4 (failure_line failures.Memory) status old new
 
 -- Words that are no job were told: with help, and only words that may ask for it; refused, and only mistaken words, which the workshop does not take; or for want of
--- memory. What is told is one text, and nothing is handed out.
+-- memory. What is told is one text.
+abbrev pub TellsNoJob : List Text → ℕ → Option (List ℕ) → Option (List ℕ) → Type 0
+TellsNoJob list status old new =
+    (fault : WordsFault) × (IsTaken list → fault ≡ words.Memory) × IsFaultOf list fault × IsWordsAnswer fault status old new
+
+-- so they were, and nothing is handed out
 abbrev pub AreToldNoJob : List Text → ℕ → Held → Held → Type 0
-AreToldNoJob list status old new =
-    (fault : WordsFault) × (IsTaken list → fault ≡ words.Memory) × IsFaultOf list fault × IsWordsAnswer fault status old.text new.text × Keeps old.out new.out
+AreToldNoJob list status old new = TellsNoJob list status old.text new.text × Keeps old.out new.out
 
 -- words were answered: as no job, or as the job that they ask for
 abbrev pub IsCommandAnswer : List Text → List ℕ → Option (List ℕ) → ℕ → Held → Held → Type 0
@@ -287,7 +291,7 @@ IsCommandAnswer list image extra status old new =
 -- words that ask for a job in place were answered with `InPlace` or as no job, whatever the readers have
 abbrev pub IsInPlaceCommandAnswer : List Text → ℕ → Held → Held → Type 0
 IsInPlaceCommandAnswer list status old new = (job : JobView) → asked_job list ≡ Some job → is_in_place job ≡ true
-    → AreToldNoJob list status old new ⊎ IsDelivered (Refused refusals.InPlace) status old new
+    → AreToldNoJob list status old new ⊎ IsDelivered (refused refusals.InPlace) status old new
 
 -- the image is read for the job that the words ask for
 abbrev pub CommandReadsImage : List Text → Type 0

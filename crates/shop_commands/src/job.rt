@@ -1,6 +1,6 @@
 // Jobs, from an image's reader to the text and the output file.
 ghost use Rattle.std.specs.Prelude.{◌≡◌, ◌⊎◌, ◌+◌, Some, false, take, IfOk, IfErr, IfSome, option_map};
-ghost use Rattle.shop_words.specs.Job.{job_view};
+ghost use Rattle.shop_jobs.specs.Job.{job_view};
 ghost use Rattle.job_reply.specs.Reply.{held};
 ghost use Rattle.given_file.specs.Content.{given_view};
 ghost use Rattle.volume_jobs.specs.VerifyReply.{most_certificate};
@@ -12,7 +12,7 @@ use a2_image::Order;
 use given_file::{GivenFile, Head, date, dos_head, dos_kind, pro_kind};
 use image_readings::identify_reply;
 use job_reply::{Failure, Refusal, Reply, convert_reply};
-use shop_words::{FileSystem, ImageOrder, Job, SaveAttributes, Target, VolumeOptions};
+use shop_jobs::{FileSystem, ImageOrder, Job, SaveAttributes, Target, VolumeOptions};
 use std::alloc::Global;
 use std::io::{Read, Write};
 use volume_jobs::{Work, volume_reply};
@@ -230,7 +230,7 @@ fn change_reply(alloc: Global, job: &Job, image: Vec<u8>, extra: &[u8]) -> Reply
 {
     let work = match volume_work(job, extra) {
         Ok(work) => work,
-        Err(refusal) => return Reply::Refused(refusal),
+        Err(refusal) => return Reply::refused(refusal),
     };
     let (volume, reserve) = changed_volume(job);
     volume_reply(alloc, work, image, image_order(job), volume, reserve)
@@ -299,15 +299,15 @@ pub fn run_job<I: Read, E: Read, T: Write, O: Write>(
     ensures out { (out.new ≡ out.old) ⊎ (MakesImage (job_view job.now) × HandsOutFor (job_view job.now) result (T.contents text.old) (T.contents text.new)) }
 {
     if is_in_place(job) {
-        return Reply::Refused(Refusal::InPlace).deliver(text, out);
+        return Reply::refused(Refusal::InPlace).deliver(text, out);
     }
     let bytes = match read_image(alloc, image, image_order(job)) {
         Ok(bytes) => bytes,
-        Err(failure) => return Reply::Failed(failure).deliver(text, out),
+        Err(failure) => return Reply::failed(failure).deliver(text, out),
     };
     let more = match extra_for(alloc, job, extra) {
         Ok(more) => more,
-        Err(failure) => return Reply::Failed(failure).deliver(text, out),
+        Err(failure) => return Reply::failed(failure).deliver(text, out),
     };
     reply_to(alloc, job, bytes, more.as_slice()).deliver(text, out)
 }

@@ -6,9 +6,10 @@ use Rattle.clap.specs.Walk.{Row}
 use Rattle.shop_words.specs.Table.{Text, FormView}
 use Rattle.shop_words.specs.Grammar.{shop}
 use Rattle.shop_words.specs.Plain.{Use, IsLine, IsPlain}
-use Rattle.shop_words.specs.Job.{catalog, asked_job, IsTaken, line_job, meant_words, standard_words}
-use Rattle.shop_words.specs.declared.job.FileSystem.TheVariants as file_systems
-use Rattle.shop_words.specs.declared.job.ImageOrder.TheVariants as orders
+use Rattle.shop_jobs.specs.Job.{catalog}
+use Rattle.shop_words.specs.Job.{asked_job, IsTaken, line_job, meant_words, standard_words}
+use Rattle.shop_jobs.specs.declared.job.FileSystem.TheVariants as file_systems
+use Rattle.shop_jobs.specs.declared.job.ImageOrder.TheVariants as orders
 use Rattle.shop_words.proofs.PlainTable.{found_job-plain, is_some-line_job, takes-plain}
 
 pub asked_job-none : asked_job [] ≡ Some (catalog (codes "-") (record { file_system = file_systems.Dos; order = orders.Dos; data_disk = false }))

@@ -4,8 +4,9 @@ use Rattle.std.specs.List.{list_all}
 use Rattle.clap.proofs.OnLiterals.{clap_on_literals}
 use Rattle.shop_words.specs.Table.{Text, convert_form, order, to, out, volume, data_disk}
 use Rattle.shop_words.specs.Plain.{Use, IsPlainLine, is_number}
-use Rattle.shop_words.specs.Job.{convert, conversion_of, line_job, order_named, value_of, volume_number}
-use Rattle.shop_words.specs.declared.job.ImageOrder.{ImageOrder}
+use Rattle.shop_jobs.specs.Job.{convert}
+use Rattle.shop_words.specs.Job.{conversion_of, line_job, order_named, value_of, volume_number}
+use Rattle.shop_jobs.specs.declared.job.ImageOrder.{ImageOrder}
 use Rattle.shop_words.proofs.PlainForms.{IsKnown, Knows, shape_named}
 use Rattle.shop_words.proofs.PlainJobs.{HasPlainDefaults, names_order}
 use Rattle.shop_words.proofs.PlainUsed.{named_only, needed_said, number_ensures, takes_number, takes_words, value_passes, words_ensure}

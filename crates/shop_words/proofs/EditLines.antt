@@ -6,8 +6,9 @@ use Rattle.clap.specs.Takes.{turn_passes}
 use Rattle.clap.specs.Walk.{answers_to, walk_from, walked, nothing_held}
 use Rattle.shop_words.specs.Table.{Text, edit_form, lock_form, unlock_form, delete_form, rename_form, file_system, order, out_file, in_place, data_disk, reserve}
 use Rattle.shop_words.specs.Plain.{Use, IsPlainLine}
-use Rattle.shop_words.specs.Job.{EditView, Rename, JobView, Said, TargetView, change_of, edit_by, job_by, line_job, line_said, target_by, volume_by}
-use Rattle.shop_words.specs.declared.job.VolumeOptions.{VolumeOptions}
+use Rattle.shop_jobs.specs.Job.{EditView, Rename, JobView, TargetView}
+use Rattle.shop_words.specs.Job.{Said, change_of, edit_by, job_by, line_job, line_said, target_by, volume_by}
+use Rattle.shop_jobs.specs.declared.job.VolumeOptions.{VolumeOptions}
 use Rattle.shop_words.proofs.PlainForms.{IsKnown, Knows, shape_named, stopped_at, top_names, top_rules, whole}
 use Rattle.shop_words.proofs.PlainJobs.{HasPlainDefaults, HasVolume, volume_by-line}
 use Rattle.shop_words.proofs.PlainTarget.{HasTarget, target_by-line}

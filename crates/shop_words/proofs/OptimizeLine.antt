@@ -3,8 +3,9 @@ use Rattle.std.proofs.Common.{◌≡◌, ℕ, refl, true, List, [], ◌∷◌, O
 use Rattle.clap.proofs.OnLiterals.{clap_on_literals}
 use Rattle.shop_words.specs.Table.{Text, optimize_form, file_system, order, out_file, in_place, data_disk, reserve, reclaim, stop_after, cert, most_writes}
 use Rattle.shop_words.specs.Plain.{Use, IsPlainLine, is_number}
-use Rattle.shop_words.specs.Job.{OptimizationView, JobView, TargetView, optimize, optimization_of, is_on, limit_named, line_job, line_said, target_by, value_of, volume_by}
-use Rattle.shop_words.specs.declared.job.VolumeOptions.{VolumeOptions}
+use Rattle.shop_jobs.specs.Job.{OptimizationView, JobView, TargetView, optimize}
+use Rattle.shop_words.specs.Job.{optimization_of, is_on, limit_named, line_job, line_said, target_by, value_of, volume_by}
+use Rattle.shop_jobs.specs.declared.job.VolumeOptions.{VolumeOptions}
 use Rattle.shop_words.proofs.PlainForms.{IsKnown, Knows, shape_named}
 use Rattle.shop_words.proofs.PlainJobs.{HasPlainDefaults, HasVolume, volume_by-line}
 use Rattle.shop_words.proofs.PlainTarget.{HasTarget, target_by-line}

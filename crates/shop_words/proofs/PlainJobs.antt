@@ -8,9 +8,9 @@ use Rattle.clap.specs.Walk.{first_of}
 use Rattle.shop_words.specs.Table.{Text, FormView, file_system, order}
 use Rattle.shop_words.specs.Plain.{Use, IsPlainLine, positional_names}
 use Rattle.shop_words.specs.Job.{Said, file_system_named, order_named, is_on, job_by, line_job, line_said, value_of, volume_by}
-use Rattle.shop_words.specs.declared.job.FileSystem.{FileSystem}
-use Rattle.shop_words.specs.declared.job.ImageOrder.{ImageOrder}
-use Rattle.shop_words.specs.declared.job.VolumeOptions.{VolumeOptions}
+use Rattle.shop_jobs.specs.declared.job.FileSystem.{FileSystem}
+use Rattle.shop_jobs.specs.declared.job.ImageOrder.{ImageOrder}
+use Rattle.shop_jobs.specs.declared.job.VolumeOptions.{VolumeOptions}
 use Rattle.shop_words.proofs.PlainForms.{shape_named}
 use Rattle.shop_words.proofs.PlainTaken.{finished_rows}
 use Rattle.shop_words.proofs.PlainUsed.{HasNeeded, named_only, needed_said, takes_words, value_passes, words_ensure}

@@ -7,7 +7,8 @@ use Rattle.clap.specs.Takes.{takes}
 use Rattle.shop_words.specs.Table.{Text, FormView, catalog_form, check_form, read_form, convert_form, plan_form, optimize_form, lock_form, unlock_form, delete_form, rename_form, save_form, verify_form, identify_form, forms}
 use Rattle.shop_words.specs.Grammar.{shop}
 use Rattle.shop_words.specs.Plain.{Use, IsPlainLine, line_words}
-use Rattle.shop_words.specs.Job.{Lock, Unlock, Delete, found_job, line_job}
+use Rattle.shop_jobs.specs.Job.{Lock, Unlock, Delete}
+use Rattle.shop_words.specs.Job.{found_job, line_job}
 use Rattle.shop_words.proofs.PlainForms.{IsKnown, shape_named}
 use Rattle.shop_words.proofs.PlainTaken.{is_simple-whole, is_simple_and_free-whole, subcommand_of-line, takes-line}
 use Rattle.shop_words.proofs.PlainJobs.{HasPlainDefaults, job_by-rows}

@@ -3,8 +3,9 @@ use Rattle.std.proofs.Common.{◌≡◌, refl, true, Bool, List, [], ◌∷◌, 
 use Rattle.clap.proofs.OnLiterals.{clap_on_literals}
 use Rattle.shop_words.specs.Table.{Text, plan_form, file_system, order, data_disk, reserve, reclaim, in_words}
 use Rattle.shop_words.specs.Plain.{Use, IsPlainLine}
-use Rattle.shop_words.specs.Job.{plan, is_on, line_job, line_said, volume_by}
-use Rattle.shop_words.specs.declared.job.VolumeOptions.{VolumeOptions}
+use Rattle.shop_jobs.specs.Job.{plan}
+use Rattle.shop_words.specs.Job.{is_on, line_job, line_said, volume_by}
+use Rattle.shop_jobs.specs.declared.job.VolumeOptions.{VolumeOptions}
 use Rattle.shop_words.proofs.PlainForms.{IsKnown, Knows, shape_named}
 use Rattle.shop_words.proofs.PlainJobs.{HasPlainDefaults, HasVolume, volume_by-line}
 

@@ -1,5 +1,5 @@
 -- What the words ask for.
-use Rattle.std.specs.Prelude.{◌≡◌, ℕ, Bool, true, false, IsSome, List, [], ◌∷◌, Option, Some, None, codes, string_bytes, option_map, option_and_then, find, if◌then◌else◌}
+use Rattle.std.specs.Prelude.{◌≡◌, ℕ, Bool, true, false, IsSome, List, [], ◌∷◌, Option, Some, None, codes, option_map, option_and_then, find, if◌then◌else◌}
 use Rattle.std.specs.Str.{bytes_eq}
 use Rattle.std.specs.Str.Parse.{digits_value}
 use Rattle.clap.specs.Simple.{subcommand_of}
@@ -8,80 +8,27 @@ use Rattle.clap.specs.Walk.{Row, first_of}
 use Rattle.shop_words.specs.Grammar.{shop}
 use Rattle.shop_words.specs.Table.{Text, FormView, most_writes}
 use Rattle.shop_words.specs.Plain.{Use, alone, valued, use_name, positional_names, is_number}
-use Rattle.shop_words.specs.declared.job.FileSystem.{FileSystem}
-use Rattle.shop_words.specs.declared.job.FileSystem.TheVariants as file_systems
-use Rattle.shop_words.specs.declared.job.ImageOrder.{ImageOrder}
-use Rattle.shop_words.specs.declared.job.ImageOrder.TheVariants as orders
-use Rattle.shop_words.specs.declared.job.VolumeOptions.{VolumeOptions}
-use Rattle.shop_words.specs.declared.job.Edit.{Edit}
-use Rattle.shop_words.specs.declared.job.Edit.TheVariants as edits
-use Rattle.shop_words.specs.declared.job.Target.{Target}
-use Rattle.shop_words.specs.declared.job.Target.TheVariants as targets
+use Rattle.shop_jobs.specs.declared.job.FileSystem.{FileSystem}
+use Rattle.shop_jobs.specs.declared.job.FileSystem.TheVariants as file_systems
+use Rattle.shop_jobs.specs.declared.job.ImageOrder.{ImageOrder}
+use Rattle.shop_jobs.specs.declared.job.ImageOrder.TheVariants as orders
+use Rattle.shop_jobs.specs.declared.job.VolumeOptions.{VolumeOptions}
 use Rattle.shop_words.specs.declared.target.TargetWords.{TargetWords}
 use Rattle.shop_words.specs.declared.target.TargetWords.TheVariants as said_targets
 use Rattle.shop_words.specs.declared.optimizing.Optimization.{Optimization}
 use Rattle.shop_words.specs.declared.saving.Saving.{Saving}
 use Rattle.shop_words.specs.declared.reading.Conversion.{Conversion}
-use Rattle.shop_words.specs.declared.job.Job.{Job}
-use Rattle.shop_words.specs.declared.job.Job.TheVariants as jobs
-
--- a conversion as contracts see it, with texts for its words
-pub record ConversionView : Type 0 where
-  pub image : Text
-  pub order : ImageOrder
-  pub to : ImageOrder
-  pub out : Text
-  pub volume : ℕ
+use Rattle.shop_jobs.specs.Job.{ConversionView, Delete, EditView, InPlace, JobView, Lock, OptimizationView, Rename, SaveView, TargetView, ToFile, Unlock, catalog, check, convert, edit, identify, optimize, plan, read, save, verify}
 
 abbrev pub conversion_view : Conversion → ConversionView
 conversion_view c = record { image = c.image.now; order = c.order; to = c.to; out = c.out.now; volume = c.volume }
-
--- where an image goes, as contracts see it
-pub data TargetView : Type 0 where
-  ToFile : Text → TargetView
-  InPlace : TargetView
-
-abbrev pub target_view : Target → TargetView
-target_view (targets.File path) = ToFile (string_bytes path)
-target_view targets.InPlace = InPlace
 
 abbrev pub target_said : TargetWords → TargetView
 target_said (said_targets.File path) = ToFile path.now
 target_said said_targets.InPlace = InPlace
 
--- an optimization as contracts see it, but for its reserved places, whether it reclaims, and the file of its certificate
-pub record OptimizationView : Type 0 where
-  pub image : Text
-  pub volume : VolumeOptions
-  pub target : TargetView
-  pub stop_after : Option ℕ
-
 abbrev pub optimization_view : Optimization → OptimizationView
 optimization_view o = record { image = o.image.now; volume = o.volume; target = target_said o.target; stop_after = o.stop_after }
-
--- what is changed of a file, as contracts see it
-pub data EditView : Type 0 where
-  Lock : EditView
-  Unlock : EditView
-  Delete : EditView
-  Rename : Text → EditView
-
-abbrev pub edit_view : Edit → EditView
-edit_view edits.Lock = Lock
-edit_view edits.Unlock = Unlock
-edit_view edits.Delete = Delete
-edit_view (edits.Rename new) = Rename (string_bytes new)
-
--- a new file as contracts see it, but for the volume's reserved places
-pub record SaveView : Type 0 where
-  pub image : Text
-  pub name : Text
-  pub volume : VolumeOptions
-  pub kind : Option Text
-  pub aux : ℕ
-  pub date : Option Text
-  pub from : Text
-  pub target : TargetView
 
 abbrev pub saving_view : Saving → SaveView
 saving_view s = record {
@@ -94,48 +41,6 @@ saving_view s = record {
   from = s.from.now;
   target = target_said s.target;
 }
-
--- a job as contracts see it
-pub data JobView : Type 0 where
-  catalog : Text → VolumeOptions → JobView
-  check : Text → VolumeOptions → Option Text → JobView
-  read : Text → Text → VolumeOptions → Bool → JobView
-  convert : ConversionView → JobView
-  plan : Text → VolumeOptions → Option Text → Bool → Bool → JobView
-  optimize : OptimizationView → Option Text → Bool → Option Text → JobView
-  edit : Text → Text → VolumeOptions → EditView → TargetView → Option Text → JobView
-  save : SaveView → Option Text → JobView
-  verify : Text → VolumeOptions → Text → Option Text → Bool → JobView
-  identify : Text → JobView
-
-abbrev pub job_view : Job → JobView
-job_view (jobs.Catalog image volume) = catalog (string_bytes image) volume
-job_view (jobs.Check image volume reserve) = check (string_bytes image) volume (option_map string_bytes reserve)
-job_view (jobs.Read image name volume whole) = read (string_bytes image) (string_bytes name) volume whole
-job_view (jobs.Convert image order to out volume) = convert (record {
-  image = string_bytes image;
-  order = order;
-  to = to;
-  out = string_bytes out;
-  volume = volume;
-})
-job_view (jobs.Plan image volume reserve reclaim in_words) = plan (string_bytes image) volume (option_map string_bytes reserve) reclaim in_words
-job_view (jobs.Optimize image volume target reserve reclaim stop_after cert) =
-    optimize (record { image = string_bytes image; volume = volume; target = target_view target; stop_after = stop_after })
-    (option_map string_bytes reserve) reclaim (option_map string_bytes cert)
-job_view (jobs.Edit image name volume change target reserve) = edit (string_bytes image) (string_bytes name) volume (edit_view change) (target_view target) (option_map string_bytes reserve)
-job_view (jobs.Save image name volume attributes from target reserve) = save (record {
-  image = string_bytes image;
-  name = string_bytes name;
-  volume = volume;
-  kind = option_map string_bytes attributes.kind;
-  aux = attributes.aux;
-  date = option_map string_bytes attributes.date;
-  from = string_bytes from;
-  target = target_view target;
-}) (option_map string_bytes reserve)
-job_view (jobs.Verify image volume from reserve reclaim) = verify (string_bytes image) volume (string_bytes from) (option_map string_bytes reserve) reclaim
-job_view (jobs.Identify image) = identify (string_bytes image)
 
 abbrev pub file_system_named : Text → Option FileSystem
 file_system_named word =

@@ -2,12 +2,13 @@
 ghost use Rattle.std.specs.Prelude.{◌≡◌, IfOk, option_map};
 ghost use Rattle.clap.specs.Matches.{found_of};
 ghost use Rattle.clap.specs.Walk.{first_of, rows_of};
-ghost use Rattle.shop_words.specs.Job.{edit_by, edit_view, job_view, rename_by};
+ghost use Rattle.shop_jobs.specs.Job.{edit_view, job_view};
+ghost use Rattle.shop_words.specs.Job.{edit_by, rename_by};
 
-use crate::job::{Edit, Job};
 use crate::reading::{said, text_said, volume_in};
 use crate::target::{target_in, target_of};
 use clap::ArgMatches;
+use shop_jobs::{Edit, Job};
 use std::alloc::{AllocError, Global};
 
 /// The job of a command that changes a file so.

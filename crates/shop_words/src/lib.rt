@@ -22,7 +22,6 @@ mod escaping;
 mod fault;
 mod grammar;
 mod help;
-mod job;
 mod notes;
 mod optimizing;
 mod reading;
@@ -34,5 +33,4 @@ mod words;
 
 pub use escaping::escaped;
 pub use fault::WordsFault;
-pub use job::{Edit, FileSystem, ImageOrder, Job, SaveAttributes, Target, VolumeOptions};
 pub use words::parse_words;

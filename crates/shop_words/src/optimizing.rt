@@ -2,12 +2,13 @@
 ghost use Rattle.std.specs.Prelude.{◌≡◌, codes, IfOk, option_map};
 ghost use Rattle.clap.specs.Matches.{found_of};
 ghost use Rattle.clap.specs.Walk.{first_of, rows_of};
-ghost use Rattle.shop_words.specs.Job.{job_by, job_view, limit_named, optimization_by, optimization_view};
+ghost use Rattle.shop_jobs.specs.Job.{job_view};
+ghost use Rattle.shop_words.specs.Job.{job_by, limit_named, optimization_by, optimization_view};
 
-use crate::job::{Job, VolumeOptions};
 use crate::reading::{has_flag, number_named, said, text_said, volume_in};
 use crate::target::{TargetWords, target_in, target_of};
 use clap::ArgMatches;
+use shop_jobs::{Job, VolumeOptions};
 use std::alloc::{AllocError, Global};
 
 /// The words of an optimization.

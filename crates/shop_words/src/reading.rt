@@ -6,13 +6,14 @@ ghost use Rattle.clap.specs.Matches.{found_of};
 ghost use Rattle.clap.specs.Simple.{subcommand_rows_of};
 ghost use Rattle.clap.specs.Walk.{first_of, rows_of};
 ghost use Rattle.shop_words.specs.Job.{conversion_by, conversion_view, file_system_named, found_job, is_on};
-ghost use Rattle.shop_words.specs.Job.{job_by, job_view, number_named, order_named, volume_by, volume_number};
+ghost use Rattle.shop_jobs.specs.Job.{job_view};
+ghost use Rattle.shop_words.specs.Job.{job_by, number_named, order_named, volume_by, volume_number};
 
 use crate::editing::{edit_in, rename_in};
-use crate::job::{Edit, FileSystem, ImageOrder, Job, VolumeOptions};
 use crate::optimizing::optimize_in;
 use crate::saving::save_in;
 use clap::ArgMatches;
+use shop_jobs::{Edit, FileSystem, ImageOrder, Job, VolumeOptions};
 use std::alloc::{AllocError, Global};
 
 /// What the words say under a parameter's name.

@@ -2,12 +2,13 @@
 ghost use Rattle.std.specs.Prelude.{◌≡◌, codes, IfOk, option_map};
 ghost use Rattle.clap.specs.Matches.{found_of};
 ghost use Rattle.clap.specs.Walk.{first_of, rows_of};
-ghost use Rattle.shop_words.specs.Job.{aux_named, job_by, job_view, saving_by, saving_view};
+ghost use Rattle.shop_jobs.specs.Job.{job_view};
+ghost use Rattle.shop_words.specs.Job.{aux_named, job_by, saving_by, saving_view};
 
-use crate::job::{Job, SaveAttributes, VolumeOptions};
 use crate::reading::{number_named, said, text_of, text_said, volume_in};
 use crate::target::{TargetWords, target_in, target_of};
 use clap::ArgMatches;
+use shop_jobs::{Job, SaveAttributes, VolumeOptions};
 use std::alloc::{AllocError, Global};
 
 /// The words of a new file.

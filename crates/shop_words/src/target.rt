@@ -2,11 +2,12 @@
 ghost use Rattle.std.specs.Prelude.{◌≡◌, IfOk, option_map};
 ghost use Rattle.clap.specs.Matches.{found_of};
 ghost use Rattle.clap.specs.Walk.{first_of, rows_of};
-ghost use Rattle.shop_words.specs.Job.{target_by, target_said, target_view};
+ghost use Rattle.shop_jobs.specs.Job.{target_view};
+ghost use Rattle.shop_words.specs.Job.{target_by, target_said};
 
-use crate::job::Target;
 use crate::reading::{has_flag, said};
 use clap::ArgMatches;
+use shop_jobs::Target;
 use std::alloc::{AllocError, Global};
 
 /// Where an image goes, in words of the command line.

@@ -6,14 +6,15 @@ ghost use Rattle.clap.specs.Takes.{takes};
 ghost use Rattle.shop_words.specs.Table.{FormView, Text};
 ghost use Rattle.shop_words.specs.Fault.{IsFaultIn, IsFaultOf};
 ghost use Rattle.shop_words.specs.Grammar.{shop};
-ghost use Rattle.shop_words.specs.Job.{asked_job, found_job, IsTaken, job_view, line_job};
+ghost use Rattle.shop_jobs.specs.Job.{job_view};
+ghost use Rattle.shop_words.specs.Job.{asked_job, found_job, IsTaken, line_job};
 ghost use Rattle.shop_words.specs.Plain.{IsLine, IsPlain, Use};
 
 use crate::fault::WordsFault;
 use crate::grammar::program;
-use crate::job::{FileSystem, ImageOrder, Job, VolumeOptions};
 use crate::reading::job_in;
 use crate::refusal::{misfit_text, refusal};
+use shop_jobs::{FileSystem, ImageOrder, Job, VolumeOptions};
 use std::alloc::{AllocError, Global};
 
 /// The job of `catalog --fs dos --order dos -`.

@@ -37,7 +37,7 @@ pub struct Answer {
 
 impl Answer {
     /// What is delivered of a reply.
-    pub fn of(alloc: Global, reply: &Reply) -> Answer {
+    pub fn of(alloc: Global, reply: Reply) -> Answer {
         let mut text = Vec::new(alloc);
         let mut out = Vec::new(alloc);
         let status = reply.deliver(&mut text, &mut out);

@@ -7,7 +7,7 @@ use std::test::Fail;
 #[test]
 fn a_made_image_is_handed_out(rt: HostRuntime) -> Result<(), Fail> {
     let image = vec![in rt.alloc(); 7; 3]?;
-    let answer = Answer::of(rt.alloc(), &Reply::Made(image));
+    let answer = Answer::of(rt.alloc(), Reply::made(image));
     assert!(rt; answer.status == 0 && answer.text.as_slice() == b"OK\n".as_slice());
     assert!(rt; answer.out.as_slice() == [7, 7, 7].as_slice());
     Ok(())

@@ -1,6 +1,7 @@
 // The words of commands: `parse_words`.
 use crate::answer::words_of;
-use shop_words::{FileSystem, ImageOrder, Job, VolumeOptions, WordsFault, parse_words};
+use shop_jobs::{FileSystem, ImageOrder, Job, VolumeOptions};
+use shop_words::{WordsFault, parse_words};
 use std::alloc::Global;
 use std::process::Abort;
 use std::test::Fail;

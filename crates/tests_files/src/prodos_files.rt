@@ -1,16 +1,41 @@
-//! Listings and reads of ProDOS volumes: `catalog`, `pro_listing_text`, `read`.
+//! Listings and reads of ProDOS volumes: `read_volume`, `ProLines`, `read`.
 ghost use Rattle.std.specs.Prelude.{◌≡◌, ◌+◌, ◌<◌, ◌≤◌, length};
 ghost use Rattle.a2_device.specs.Device.{DeviceState};
 
 use crate::runs::are_runs;
 use a2_device::Device;
-use file_cmds::{CmdError, catalog, pro_listing_text, read};
+use file_cmds::{CmdError, ProLines, read, read_volume};
 use pro_format::Prodos;
 use refusing::Refusing;
 use reserved_places::Reserved;
 use std::alloc::{AllocError, Allocator, Global};
 use std::test::Fail;
 use test_volumes::{block_device, put_in_block, tree, tree_and_subdirectory};
+
+/// Makes the line of an entry, where there is such an entry.
+fn make_line<A: Allocator + Copy>(lines: &mut ProLines<A>, entry: u32) -> Result<(), AllocError> {
+    if entry < lines.entries() {
+        lines.make_entry(entry)?;
+    }
+    Ok(())
+}
+
+/// The lines of a listing, one behind the other.
+fn text_of_lines<A: Allocator + Copy>(
+    alloc: A,
+    mut lines: ProLines<A>,
+) -> Result<Vec<u8, A>, AllocError> {
+    let mut text = Vec::new(alloc);
+    lines.make_first()?;
+    text.extend_from_slice(lines.line())?;
+    for entry in 0..lines.entries() {
+        make_line(&mut lines, entry)?;
+        text.extend_from_slice(lines.line())?;
+    }
+    lines.make_last()?;
+    text.extend_from_slice(lines.line())?;
+    Ok(text)
+}
 
 /// The text of the listing of a volume.
 fn listing_on<A: Allocator + Copy, D: Device>(
@@ -21,8 +46,8 @@ fn listing_on<A: Allocator + Copy, D: Device>(
     requires places { (16 ≤ (D.state device.old).places) × ((D.state device.old).places < 65536) }
 {
     let format = Prodos::new(alloc, Reserved::none(alloc));
-    let listing = catalog(alloc, device, &format)?;
-    Ok(pro_listing_text(alloc, &listing)?.into_bytes())
+    let volume = read_volume(device, &format)?;
+    Ok(text_of_lines(alloc, ProLines::new(alloc, volume)?)?)
 }
 
 /// The text of the listing of a volume in ProDOS order.
@@ -149,5 +174,38 @@ fn tells_refusals(alloc: Global, call: Call, length: usize) -> Result<bool, Allo
 fn each_refused_block_is_memory(rt: HostRuntime) -> Result<(), Fail> {
     assert!(rt; tells_refusals(rt.alloc(), Call::List, 148)?);
     assert!(rt; tells_refusals(rt.alloc(), Call::Read, 131_075)?);
+    Ok(())
+}
+
+/// How many blocks are asked for while the lines of the listing of a volume are made.
+fn asked_for_lines<D: Device>(heap: &Refusing<Global>, device: &mut D) -> Result<u64, CmdError>
+    requires unit { (D.state device.old).unit_size ≡ 512 }
+    requires places { (16 ≤ (D.state device.old).places) × ((D.state device.old).places < 65536) }
+{
+    let format = Prodos::new(heap, Reserved::none(heap));
+    let volume = read_volume(device, &format)?;
+    let mut lines = ProLines::new(heap, volume)?;
+    let before = heap.asked();
+    lines.make_first()?;
+    for entry in 0..lines.entries() {
+        make_line(&mut lines, entry)?;
+    }
+    lines.make_last()?;
+    Ok(heap.asked().saturating_sub(before))
+}
+
+/// How many blocks are asked for while the lines of the listing of a volume in ProDOS order are made.
+fn asked_for_lines_of(heap: &Refusing<Global>, image: Vec<u8>) -> Result<u64, CmdError> {
+    match block_device(image) {
+        Some(mut device) => asked_for_lines(heap, &mut device),
+        None => Err(CmdError::NotFound),
+    }
+}
+
+#[test]
+fn no_line_takes_memory(rt: HostRuntime) -> Result<(), Fail> {
+    let heap = Refusing::none(rt.alloc());
+    let asked = asked_for_lines_of(&heap, tree_and_subdirectory(rt.alloc())?)?;
+    assert!(rt; asked == 0);
     Ok(())
 }

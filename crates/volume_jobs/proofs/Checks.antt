@@ -13,7 +13,7 @@ use Rattle.vol_check.specs.Answer.{IsRefusal}
 use Rattle.vol_check.specs.declared.error.CheckError.{CheckError}
 use Rattle.vol_check.specs.declared.error.CheckError.TheVariants as checks
 use Rattle.file_cmds.specs.DosText.{Text}
-use Rattle.shop_words.specs.declared.job.FileSystem.{FileSystem}
+use Rattle.shop_jobs.specs.declared.job.FileSystem.{FileSystem}
 use Rattle.job_reply.specs.declared.reply.Reply.{Reply}
 use Rattle.volume_jobs.specs.CheckReply.{IsChecked, TellsRefusal}
 use Rattle.job_reply.specs.Reply.{reply_to_image}

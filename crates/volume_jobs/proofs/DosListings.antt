@@ -1,5 +1,5 @@
 -- What is told of a DOS 3.3 disk that is listed, in the words of its format.
-use Rattle.std.proofs.Common.{◌≡◌, ◌∙◌, ℕ, Bool, List, length, subst, inl, inr}
+use Rattle.std.proofs.Common.{◌≡◌, ◌∙◌, ℕ, Bool, List, length, subst, sym, inl, inr}
 use Rattle.std.proofs.lemmas.List.FromFn.{length-map-range_with_len}
 use Rattle.std.specs.Prelude.{None}
 use Rattle.a2_image.specs.declared.order.Order.{Order}
@@ -10,9 +10,10 @@ use Rattle.a2_device.specs.ImageDevice.{length-stored_units}
 use Rattle.reserved_places.specs.declared.form.PlaceForm.TheVariants.{Sector}
 use Rattle.dos_format.specs.Dos.{dos_meaning}
 use Rattle.file_cmds.specs.DosFiles.{dos_files}
-use Rattle.file_cmds.specs.lemmas.DosListing.{dos_listing, no_dos_listing}
-use Rattle.shop_words.specs.declared.job.FileSystem.{FileSystem}
-use Rattle.shop_words.specs.declared.job.FileSystem.TheVariants.{Dos}
+use Rattle.file_cmds.specs.DosText.{IsListingText}
+use Rattle.file_cmds.specs.lemmas.DosListing.{dos_listing_text, no_dos_listing}
+use Rattle.shop_jobs.specs.declared.job.FileSystem.{FileSystem}
+use Rattle.shop_jobs.specs.declared.job.FileSystem.TheVariants.{Dos}
 use Rattle.job_reply.specs.declared.reply.Reply.{Reply}
 use Rattle.volume_jobs.specs.CatalogReply.{IsListed}
 use Rattle.volume_jobs.specs.DosCatalogReply.{IsDosCatalogReply, IsDosListed}
@@ -26,13 +27,12 @@ unfolding sectors_by_place
 length-disk image = length-stored_units 256 (sectors_by_place image.sectors) ∙ length-map-range_with_len (sector_at image.sectors) 0 560
 
 listed-dos : (data_disk : Bool) (reserved : List Bool) (device : DeviceState) (reply : Reply) → length device.store ≡ 560
-    → IsListed Sector dos_files (dos_meaning data_disk reserved) device reply → IsDosListed device reply
+    → IsListed Sector (dos_meaning data_disk reserved) device reply → IsDosListed device reply
 listed-dos data_disk reserved device reply size is = elim is [
-  | inl shown ↦ inl (record {
-    listing = shown.listing;
-    is_catalog = dos_listing data_disk reserved device.store shown.listing shown.is_listing;
-    told = shown.told;
-  })
+  | inl shown ↦ elim shown.told [
+    | inl told ↦ inl (told.0, subst (λ (text : List ℕ). IsListingText device.store text) (sym told.1) (dos_listing_text data_disk reserved device.store shown.directory shown.described))
+    | inr failed ↦ inr (inr (inr failed))
+  ]
   | inr (inl fault) ↦ inr (inl (fault.0, no_dos_listing data_disk reserved device.store size fault.1))
   | inr (inr (inl lacks)) ↦ inr (inr (inl lacks))
   | inr (inr (inr memory)) ↦ inr (inr (inr memory))

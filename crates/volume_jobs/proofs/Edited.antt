@@ -10,12 +10,12 @@ use Rattle.delete_laws.specs.Writes.{Write}
 use Rattle.file_edits.specs.Writes.{HasEdited, RefusesWrite, StopsIn, device_after, no_write}
 use Rattle.file_edits.specs.declared.error.EditError.{EditError}
 use Rattle.file_edits.specs.declared.error.EditError.TheVariants as refused
-use Rattle.shop_words.specs.Job.{EditView, Lock, Unlock, Delete, Rename}
-use Rattle.job_reply.specs.declared.reply.Refusal.{Refusal}
-use Rattle.job_reply.specs.declared.reply.Refusal.TheVariants as refusals
+use Rattle.shop_jobs.specs.Job.{EditView, Lock, Unlock, Delete, Rename}
+use Rattle.job_reply.specs.declared.refusal.Refusal.{Refusal}
+use Rattle.job_reply.specs.declared.refusal.Refusal.TheVariants as refusals
 use Rattle.job_reply.specs.declared.reply.Reply.{Reply}
-use Rattle.job_reply.specs.Reply.{made_of}
-use Rattle.volume_jobs.specs.EditReply.{AreWritesOf, IsCause, IsEdited, IsImageReply, edited_files}
+use Rattle.job_reply.specs.Reply.{IsMadeReply, made_of}
+use Rattle.volume_jobs.specs.EditReply.{AreWritesOf, IsCause, IsEdited, edited_files}
 use Rattle.volume_jobs.specs.EditRules.{EditRules}
 use Rattle.volume_jobs.specs.OptimizeReply.{AreBytesOf}
 use Rattle.volume_jobs.specs.Refusals.{refusal_of_edit, reply_to_edit_refusal}
@@ -84,7 +84,7 @@ module _ (old new : DeviceState) (honest : IsTrue old.honest) (reads : old.read_
     HasCause error = IfSome (refusal_of_edit error) (λ (refusal : Refusal). IsCause refusal edit name files rules format old.store)
 
     pub was_edited : {T : Type 0} {t : T} (reply : Reply) → HasEdited (AreWritesOf edit name files rules format old.store) (Ok t) old new
-        → HasChanged format (edited_files edit name files rules) old.store new.store → IsImageReply reply → AreBytesOf new (made_of reply)
+        → HasChanged format (edited_files edit name files rules) old.store new.store → IsMadeReply reply → AreBytesOf new (made_of reply)
         → IsEdited edit name files rules format old reply
     was_edited reply edited changed image made =
         let done = edited.done honest in

@@ -4,6 +4,7 @@ pub mod StepLemmas
 pub mod Checks
 pub mod Readings
 pub mod Unopened
+pub mod Quiet
 pub mod Optimized
 pub mod Edited
 pub mod Saved

@@ -7,33 +7,34 @@ use Rattle.reserved_places.specs.declared.form.PlaceForm.{PlaceForm}
 use Rattle.vol_format.specs.Meaning.{Meaning}
 use Rattle.vol_opening.specs.declared.error.OpenError.{OpenError}
 use Rattle.vol_opening.specs.declared.error.OpenError.TheVariants as opens
-use Rattle.shop_words.specs.declared.job.FileSystem.{FileSystem}
-use Rattle.job_reply.specs.declared.reply.Refusal.TheVariants as refusals
-use Rattle.job_reply.specs.declared.reply.Failure.TheVariants as failures
+use Rattle.shop_jobs.specs.declared.job.FileSystem.{FileSystem}
+use Rattle.job_reply.specs.declared.refusal.Refusal.TheVariants as refusals
+use Rattle.job_reply.specs.declared.refusal.Failure.TheVariants as failures
 use Rattle.job_reply.specs.declared.reply.Reply.{Reply}
 use Rattle.file_cmds.specs.Files.{FileMeaning}
 use Rattle.volume_jobs.specs.CatalogReply.{IsListed}
 use Rattle.volume_jobs.specs.ReadReply.{IsRead}
-use Rattle.volume_jobs.specs.EditReply.{IsEdited, IsImageReply}
+use Rattle.volume_jobs.specs.EditReply.{IsEdited}
 use Rattle.volume_jobs.specs.EditRules.{EditRules}
 use Rattle.volume_jobs.specs.SaveReply.{IsSaved}
 use Rattle.save_formats.specs.Saves.{SaveMeaning}
 use Rattle.given_file.specs.Content.{GivenView}
-use Rattle.shop_words.specs.Job.{EditView}
+use Rattle.shop_jobs.specs.Job.{EditView}
 use Rattle.volume_jobs.specs.Work.{IsWorkReply, WorkView, Catalog, Read, Check, Plan, Optimize, Change, Save, Verify}
 use Rattle.volume_jobs.specs.CheckReply.{IsChecked}
 use Rattle.volume_jobs.specs.PlanReply.{IsPlanned, TellsOpening}
 use Rattle.volume_jobs.specs.PlanWords.{IsPlannedInWords}
 use Rattle.volume_jobs.specs.VerifyReply.{IsVerdict, IsVerified}
 use Rattle.vol_layout.specs.Layouts.{Placement}
-use Rattle.job_reply.specs.Reply.{IsMade}
-use Rattle.job_reply.proofs.NotMade.{content_not_made, done_not_made, failed_not_made, faulty_not_made, refused_not_made, unopened_not_made}
+use Rattle.job_reply.specs.Reply.{IsMade, IsMadeReply}
+use Rattle.job_reply.specs.declared.reply.Status.TheVariants.{Done, Refused, Wrong}
+use Rattle.job_reply.proofs.NotMade.{failed_not_made, refused_not_made, told_not_made}
 use Rattle.volume_jobs.specs.VolumeReply.{IsVolumeReply}
 
 pub checked_not_made : (form : PlaceForm) (format : Meaning) (device : DeviceState) (reply : Reply) → IsChecked form format device reply → ¬ IsMade reply
 checked_not_made form format device reply is made = elim is [
-  | inl done ↦ done_not_made reply done.0 made
-  | inr (inl faulty) ↦ faulty_not_made reply faulty.0 made
+  | inl done ↦ told_not_made Done reply done.0 made
+  | inr (inl faulty) ↦ told_not_made Wrong reply faulty.0 made
   | inr (inr (inl failed)) ↦ failed_not_made failures.Device reply failed.0 made
   | inr (inr (inr failed)) ↦ failed_not_made failures.Memory reply failed made
 ]
@@ -41,7 +42,7 @@ checked_not_made form format device reply is made = elim is [
 unopened_told_not_made : {A : Type 0} (error : OpenError A) (reply : Reply) → TellsOpening error reply → ¬ IsMade reply
 unopened_told_not_made (opens.Check faults) reply is made = refused_not_made refusals.Check reply is made
 unopened_told_not_made (opens.Lost count) reply is made = elim is [
-  | inl told ↦ unopened_not_made reply told.0 made
+  | inl told ↦ told_not_made Refused reply told.0 made
   | inr failed ↦ failed_not_made failures.Memory reply failed made
 ]
 unopened_told_not_made opens.NoFreePlace reply is made = refused_not_made refusals.NoFreePlace reply is made
@@ -51,7 +52,7 @@ unopened_told_not_made opens.Memory reply is made = failed_not_made failures.Mem
 pub planned_not_made : (reclaim : Bool) (format : Meaning) (device : DeviceState) (reply : Reply) → IsPlanned reclaim format device reply → ¬ IsMade reply
 planned_not_made reclaim format device reply is made = elim is [
   | inl planned ↦ elim planned.told [
-    | inl told ↦ content_not_made reply told.0 made
+    | inl told ↦ told_not_made Done reply told.0 made
     | inr failed ↦ failed_not_made failures.Memory reply failed made
   ]
   | inr unopened ↦ unopened_told_not_made unopened.error reply unopened.told made
@@ -61,7 +62,7 @@ planned_in_words_not_made : (form : PlaceForm) (files : FileMeaning) (reclaim : 
     → IsPlannedInWords form files reclaim format device reply → ¬ IsMade reply
 planned_in_words_not_made form files reclaim format device reply is made = elim is [
   | inl planned ↦ elim planned.told [
-    | inl told ↦ done_not_made reply told.0 made
+    | inl told ↦ told_not_made Done reply told.0 made
     | inr failed ↦ failed_not_made failures.Memory reply failed made
   ]
   | inr unopened ↦ unopened_told_not_made unopened.error reply unopened.told made
@@ -69,12 +70,12 @@ planned_in_words_not_made form files reclaim format device reply is made = elim 
 
 verdict_not_made : (layout : Placement) (bytes : List ℕ) (reply : Reply) → IsVerdict layout bytes reply → ¬ IsMade reply
 verdict_not_made layout bytes reply is made = elim is [
-  | inl optimal ↦ done_not_made reply optimal.done made
+  | inl optimal ↦ told_not_made Done reply optimal.done made
   | inr (inl other) ↦ elim other.told [
-    | inl told ↦ faulty_not_made reply told.1 made
+    | inl told ↦ told_not_made Wrong reply told.1 made
     | inr failed ↦ failed_not_made failures.Memory reply failed made
   ]
-  | inr (inr (inl none)) ↦ faulty_not_made reply none.faulty made
+  | inr (inr (inl none)) ↦ told_not_made Wrong reply none.faulty made
   | inr (inr (inr failed)) ↦ failed_not_made failures.Memory reply failed made
 ]
 
@@ -97,10 +98,10 @@ volume_not_made file_system order data_disk reserve image Tells reply never is m
   | inr (inr (inr told)) ↦ never _ _ told.2.3 made
 ]
 
-listed_not_made : (form : PlaceForm) (files : FileMeaning) (format : Meaning) (device : DeviceState) (reply : Reply) → IsListed form files format device reply → ¬ IsMade reply
-listed_not_made form files format device reply is made = elim is [
+listed_not_made : (form : PlaceForm) (format : Meaning) (device : DeviceState) (reply : Reply) → IsListed form format device reply → ¬ IsMade reply
+listed_not_made form format device reply is made = elim is [
   | inl listed ↦ elim listed.told [
-    | inl told ↦ done_not_made reply told.0 made
+    | inl told ↦ told_not_made Done reply told.0 made
     | inr failed ↦ failed_not_made failures.Memory reply failed made
   ]
   | inr (inl refused) ↦ refused_not_made refusals.Check reply refused.0 made
@@ -110,7 +111,7 @@ listed_not_made form files format device reply is made = elim is [
 
 read_not_made : (name : List ℕ) (whole : Bool) (files : FileMeaning) (format : Meaning) (device : DeviceState) (reply : Reply) → IsRead name whole files format device reply → ¬ IsMade reply
 read_not_made name whole files format device reply is made = elim is [
-  | inl content ↦ content_not_made reply content.0 made
+  | inl content ↦ told_not_made Done reply content.0 made
   | inr (inl refused) ↦ refused_not_made refusals.Check reply refused.0 made
   | inr (inr (inl refused)) ↦ refused_not_made refusals.NotFound reply refused.0 made
   | inr (inr (inr (inl failed))) ↦ failed_not_made failures.Device reply failed.0 made
@@ -119,7 +120,7 @@ read_not_made name whole files format device reply is made = elim is [
 
 -- an edit that makes an image answers with it
 pub edited_image : (edit : EditView) (name : List ℕ) (files : FileMeaning) (edits : EditRules) (format : Meaning) (device : DeviceState) (reply : Reply)
-    → IsEdited edit name files edits format device reply → IsMade reply → IsImageReply reply
+    → IsEdited edit name files edits format device reply → IsMade reply → IsMadeReply reply
 edited_image edit name files edits format device reply is made = elim is [
   | inl done ↦ done.image
   | inr (inl refused) ↦ absurd (refused_not_made refused.0 reply refused.1 made)
@@ -129,7 +130,7 @@ edited_image edit name files edits format device reply is made = elim is [
 
 -- so does a saving
 pub saved_image : (path : List ℕ) (given : GivenView) (saves : SaveMeaning) (format : Meaning) (device : DeviceState) (reply : Reply)
-    → IsSaved path given saves format device reply → IsMade reply → IsImageReply reply
+    → IsSaved path given saves format device reply → IsMade reply → IsMadeReply reply
 saved_image path given saves format device reply is made = elim is [
   | inl long ↦ absurd (refused_not_made refusals.InputTooLong reply long.0 made)
   | inr (_, inl long) ↦ absurd (refused_not_made refusals.TooLong reply long.0 made)
@@ -158,7 +159,7 @@ MakesNone work = Unit {0}
 
 pub work_not_made : (work : WorkView) → MakesNone work → (form : PlaceForm) (files : FileMeaning) (edits : EditRules) (format : Meaning) (device : DeviceState) (reply : Reply)
     → IsWorkReply work form files edits format device reply → ¬ IsMade reply
-work_not_made Catalog none form files edits format device reply is made = listed_not_made form files format device reply is made
+work_not_made Catalog none form files edits format device reply is made = listed_not_made form format device reply is made
 work_not_made (Read name whole) none form files edits format device reply is made = read_not_made name whole files format device reply is made
 work_not_made Check none form files edits format device reply is made = checked_not_made form format device reply is made
 work_not_made (Plan reclaim false) none form files edits format device reply is made = planned_not_made reclaim format device reply is made

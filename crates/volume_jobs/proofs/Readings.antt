@@ -16,7 +16,7 @@ use Rattle.volume_jobs.specs.Refusals.{reply_to_refusal}
 
 module _ (files : FileMeaning) (format : Meaning) (device : DeviceState) where
   pub not_listed : (form : PlaceForm) (error : CmdError) → error ≢ commands.NotFound → (error ≡ commands.Check → HasHeaderFault format device.store)
-      → FailsForLack device (reply_to_refusal error) → IsListed form files format device (reply_to_refusal error)
+      → FailsForLack device (reply_to_refusal error) → IsListed form format device (reply_to_refusal error)
   not_listed form commands.Check found fault lack = inr (inl (refl, fault refl))
   not_listed form commands.NotFound found fault lack = absurd (found refl)
   not_listed form commands.Device found fault lack = inr (inr (inl (refl, lack refl)))

@@ -10,11 +10,10 @@ use Rattle.file_edits.specs.declared.error.EditError.TheVariants as refused
 use Rattle.file_saving.specs.Saved.{IsSaveRefusal}
 use Rattle.save_formats.specs.Saves.{SaveMeaning}
 use Rattle.given_file.specs.Content.{GivenView}
-use Rattle.job_reply.specs.declared.reply.Refusal.{Refusal}
-use Rattle.job_reply.specs.declared.reply.Refusal.TheVariants as refusals
+use Rattle.job_reply.specs.declared.refusal.Refusal.{Refusal}
+use Rattle.job_reply.specs.declared.refusal.Refusal.TheVariants as refusals
 use Rattle.job_reply.specs.declared.reply.Reply.{Reply}
-use Rattle.job_reply.specs.Reply.{made_of}
-use Rattle.volume_jobs.specs.EditReply.{IsImageReply}
+use Rattle.job_reply.specs.Reply.{IsMadeReply, made_of}
 use Rattle.volume_jobs.specs.OptimizeReply.{AreBytesOf}
 use Rattle.volume_jobs.specs.Refusals.{refusal_of_edit, reply_to_edit_refusal}
 use Rattle.volume_jobs.specs.SaveReply.{AreSaveWrites, HasGivenSaved, IsSaveCause, IsSaveTried}
@@ -31,7 +30,7 @@ module _ (old new : DeviceState) (honest : IsTrue old.honest) (reads : old.read_
   HasCause error = IfSome (refusal_of_edit error) (λ (refusal : Refusal). IsSaveCause refusal path given saves format old.store)
 
   pub was_saved : {T : Type 0} {t : T} (reply : Reply) → HasEdited (AreSaveWrites path given saves format old.store) (Ok t) old new
-      → HasGivenSaved path given saves format old.store new.store → IsImageReply reply → AreBytesOf new (made_of reply) → IsSaveTried path given saves format old reply
+      → HasGivenSaved path given saves format old.store new.store → IsMadeReply reply → AreBytesOf new (made_of reply) → IsSaveTried path given saves format old reply
   was_saved reply edited saved image made =
       let done = edited.done honest in
       inl (record {

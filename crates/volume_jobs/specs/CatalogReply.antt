@@ -1,40 +1,38 @@
 -- What is told of a volume that is listed.
 use Rattle.std.specs.Prelude.{◌≡◌, ◌⊎◌}
-use Rattle.std.specs.declared.alloc.Global.{Global}
 use Rattle.a2_device.specs.Device.{DeviceState}
 use Rattle.reserved_places.specs.declared.form.PlaceForm.{PlaceForm}
 use Rattle.reserved_places.specs.declared.form.PlaceForm.TheVariants.{Sector, Block}
+use Rattle.vol_format.specs.Directory.{Directory}
 use Rattle.vol_format.specs.Meaning.{Meaning}
-use Rattle.file_cmds.specs.DosText.{Text, listing_text}
-use Rattle.file_cmds.specs.Files.{FileMeaning}
-use Rattle.file_cmds.specs.Listing.{HasHeaderFault, IsListingOf}
-use Rattle.file_cmds.specs.ProText.{pro_text}
-use Rattle.file_cmds.specs.declared.listing.Listing.{Listing}
-use Rattle.job_reply.specs.declared.reply.Refusal.TheVariants as refusals
-use Rattle.job_reply.specs.declared.reply.Failure.TheVariants as failures
+use Rattle.file_cmds.specs.DosText.{Text, directory_text as dos_text}
+use Rattle.file_cmds.specs.Listing.{HasHeaderFault}
+use Rattle.file_cmds.specs.ProText.{directory_text as pro_text}
+use Rattle.job_reply.specs.declared.refusal.Refusal.TheVariants as refusals
+use Rattle.job_reply.specs.declared.refusal.Failure.TheVariants as failures
 use Rattle.job_reply.specs.declared.reply.Reply.{Reply}
-use Rattle.job_reply.specs.declared.reply.Reply.TheVariants.{Refused, Failed}
-use Rattle.job_reply.specs.Reply.{IsDone, text_of}
+use Rattle.job_reply.specs.Reply.{IsTold, failed, refused, text_of}
+use Rattle.job_reply.specs.declared.reply.Status.TheVariants.{Done}
 use Rattle.image_volume.specs.Volume.{LacksUnit}
 
--- the text of a listing: of DOS 3.3, whose places are sectors, or of ProDOS
-abbrev pub text_by : {A : Type 0} → PlaceForm → Listing A → Text
-text_by Sector listing = listing_text listing
-text_by Block listing = pro_text listing
+-- the listing of a directory: of DOS 3.3, whose places are sectors, or of ProDOS
+abbrev pub text_by : PlaceForm → Directory → Text
+text_by Sector directory = dos_text directory
+text_by Block directory = pro_text directory
 
-abbrev pub TellsListing : {A : Type 0} → PlaceForm → Listing A → Reply → Type 0
-TellsListing form listing reply = (IsDone reply × (text_of reply ≡ text_by form listing)) ⊎ (reply ≡ Failed failures.Memory)
+abbrev pub TellsListing : PlaceForm → Directory → Reply → Type 0
+TellsListing form directory reply = (IsTold Done reply × (text_of reply ≡ text_by form directory)) ⊎ (reply ≡ failed failures.Memory)
 
--- the text of what the header, the directory and the map of the volume say
-pub record IsListingReply (form : PlaceForm) (files : FileMeaning) (format : Meaning) (device : DeviceState) (reply : Reply) : Type 0 where
-  pub listing : Listing Global
-  pub is_listing : IsListingOf format files device.store listing
-  pub told : TellsListing form listing reply
+-- the listing of what the header, the directory and the map of the volume say
+pub record IsListingReply (form : PlaceForm) (format : Meaning) (device : DeviceState) (reply : Reply) : Type 0 where
+  pub directory : Directory
+  pub described : format.Describes device.store directory
+  pub told : TellsListing form directory reply
 
 -- The reply to `catalog`: the listing; `Check` where the header, the directory or the map's pointer has a fault; a failure where a unit can't be read; or want of memory.
-abbrev pub IsListed : PlaceForm → FileMeaning → Meaning → DeviceState → Reply → Type 0
-IsListed form files format device reply =
-    IsListingReply form files format device reply
-    ⊎ ((reply ≡ Refused refusals.Check) × HasHeaderFault format device.store)
-    ⊎ ((reply ≡ Failed failures.Device) × LacksUnit device)
-    ⊎ (reply ≡ Failed failures.Memory)
+abbrev pub IsListed : PlaceForm → Meaning → DeviceState → Reply → Type 0
+IsListed form format device reply =
+    IsListingReply form format device reply
+    ⊎ ((reply ≡ refused refusals.Check) × HasHeaderFault format device.store)
+    ⊎ ((reply ≡ failed failures.Device) × LacksUnit device)
+    ⊎ (reply ≡ failed failures.Memory)

@@ -14,10 +14,10 @@ use Rattle.vol_check.specs.declared.error.CheckError.{CheckError}
 use Rattle.vol_check.specs.declared.error.CheckError.TheVariants as checks
 use Rattle.file_cmds.specs.DosText.{Text}
 use Rattle.volume_jobs.specs.CheckText.{fault_line, told_line}
-use Rattle.job_reply.specs.declared.reply.Failure.TheVariants as failures
+use Rattle.job_reply.specs.declared.refusal.Failure.TheVariants as failures
 use Rattle.job_reply.specs.declared.reply.Reply.{Reply}
-use Rattle.job_reply.specs.declared.reply.Reply.TheVariants.{Failed}
-use Rattle.job_reply.specs.Reply.{IsDone, IsFaulty, text_of}
+use Rattle.job_reply.specs.Reply.{IsTold, failed, text_of}
+use Rattle.job_reply.specs.declared.reply.Status.TheVariants.{Done, Wrong}
 use Rattle.image_volume.specs.Volume.{LacksUnit}
 
 -- The volume is accepted, and these are its files, their parts, the available places and the lost ones, by number.
@@ -38,22 +38,22 @@ pub record IsFaultsText (form : PlaceForm) (format : Meaning) (store : List (Lis
 
 -- the reply with the text of what is told of an accepted volume, or for want of memory
 abbrev pub TellsAccepted : Told → Reply → Type 0
-TellsAccepted told reply = (IsDone reply × (text_of reply ≡ told_line told)) ⊎ (reply ≡ Failed failures.Memory)
+TellsAccepted told reply = (IsTold Done reply × (text_of reply ≡ told_line told)) ⊎ (reply ≡ failed failures.Memory)
 
 -- the reply with the text of some faults, or for want of memory
 abbrev pub TellsFaults : PlaceForm → List Fault → Reply → Type 0
-TellsFaults form faults reply = (IsFaulty reply × (text_of reply ≡ flat_map (fault_line form) faults)) ⊎ (reply ≡ Failed failures.Memory)
+TellsFaults form faults reply = (IsTold Wrong reply × (text_of reply ≡ flat_map (fault_line form) faults)) ⊎ (reply ≡ failed failures.Memory)
 
 -- the reply to a check that did not accept
 abbrev pub TellsRefusal : {A : Type 0} → PlaceForm → CheckError A → Reply → Type 0
 TellsRefusal form (checks.Faults faults) reply = TellsFaults form faults reply
-TellsRefusal form checks.Device reply = reply ≡ Failed failures.Device
-TellsRefusal form checks.Memory reply = reply ≡ Failed failures.Memory
+TellsRefusal form checks.Device reply = reply ≡ failed failures.Device
+TellsRefusal form checks.Memory reply = reply ≡ failed failures.Memory
 
 -- The reply to a check: what is told of an accepted volume, or a line for each fault; a failure where a unit can't be read; or want of memory.
 abbrev pub IsChecked : PlaceForm → Meaning → DeviceState → Reply → Type 0
 IsChecked form format device reply =
-    (IsDone reply × IsAcceptedText format device.store (text_of reply))
-    ⊎ (IsFaulty reply × IsFaultsText form format device.store (text_of reply))
-    ⊎ ((reply ≡ Failed failures.Device) × LacksUnit device)
-    ⊎ (reply ≡ Failed failures.Memory)
+    (IsTold Done reply × IsAcceptedText format device.store (text_of reply))
+    ⊎ (IsTold Wrong reply × IsFaultsText form format device.store (text_of reply))
+    ⊎ ((reply ≡ failed failures.Device) × LacksUnit device)
+    ⊎ (reply ≡ failed failures.Memory)

@@ -12,13 +12,12 @@ use Rattle.file_edits.specs.Lists.{with_lock_on, without_named}
 use Rattle.file_edits.specs.Renamed.{HasFirstBeside, HasFirstLocked, IsRenameEdit, with_new_name}
 use Rattle.delete_laws.specs.Writes.{Write}
 use Rattle.file_edits.specs.Writes.{device_after}
-use Rattle.shop_words.specs.Job.{EditView, Lock, Unlock, Delete, Rename}
-use Rattle.job_reply.specs.declared.reply.Refusal.{Refusal}
-use Rattle.job_reply.specs.declared.reply.Refusal.TheVariants as refusals
-use Rattle.job_reply.specs.declared.reply.Failure.TheVariants as failures
+use Rattle.shop_jobs.specs.Job.{EditView, Lock, Unlock, Delete, Rename}
+use Rattle.job_reply.specs.declared.refusal.Refusal.{Refusal}
+use Rattle.job_reply.specs.declared.refusal.Refusal.TheVariants as refusals
+use Rattle.job_reply.specs.declared.refusal.Failure.TheVariants as failures
 use Rattle.job_reply.specs.declared.reply.Reply.{Reply}
-use Rattle.job_reply.specs.declared.reply.Reply.TheVariants.{Made, Refused, Failed}
-use Rattle.job_reply.specs.Reply.{made_of}
+use Rattle.job_reply.specs.Reply.{IsMadeReply, failed, made_of, refused}
 use Rattle.volume_jobs.specs.EditRules.{EditRules}
 use Rattle.volume_jobs.specs.OptimizeReply.{AreBytesOf, KeepsBytes}
 use Rattle.image_volume.specs.Volume.{LacksUnit}
@@ -53,18 +52,13 @@ IsCause refusals.Locked (Rename new) name files rules format store = HasFirstLoc
 IsCause refusals.Locked Delete name files rules format store = HasFirstProtected format files rules.erase store name
 IsCause refusal edit name files rules format store = ⊥
 
--- the reply is an image, for the output file
-abbrev pub IsImageReply : Reply → Type 0
-IsImageReply (Made image) = Unit {0}
-IsImageReply reply = ⊥
-
 -- The edit is done: all its writes stand on the device and nothing else has changed, the files are those of before after the edit of their list, and the reply has the image under
 -- the device.
 pub record IsEditedReply (edit : EditView) (name : Text) (files : FileMeaning) (rules : EditRules) (format : Meaning) (device : DeviceState) (reply : Reply) : Type 0 where
   pub writes : List Write
   pub are_writes : AreWritesOf edit name files rules format device.store writes
   pub changed : HasChanged format (edited_files edit name files rules) device.store (device_after writes device).store
-  pub image : IsImageReply reply
+  pub image : IsMadeReply reply
   pub made : AreBytesOf (device_after writes device) (made_of reply)
   pub kept : KeepsBytes device (made_of reply)
 
@@ -72,6 +66,6 @@ pub record IsEditedReply (edit : EditView) (name : Text) (files : FileMeaning) (
 abbrev pub IsEdited : EditView → Text → FileMeaning → EditRules → Meaning → DeviceState → Reply → Type 0
 IsEdited edit name files rules format device reply =
     IsEditedReply edit name files rules format device reply
-    ⊎ ((refusal : Refusal) × (reply ≡ Refused refusal) × IsCause refusal edit name files rules format device.store)
-    ⊎ ((reply ≡ Failed failures.Device) × LacksUnit device)
-    ⊎ (reply ≡ Failed failures.Memory)
+    ⊎ ((refusal : Refusal) × (reply ≡ refused refusal) × IsCause refusal edit name files rules format device.store)
+    ⊎ ((reply ≡ failed failures.Device) × LacksUnit device)
+    ⊎ (reply ≡ failed failures.Memory)

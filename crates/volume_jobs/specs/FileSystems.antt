@@ -11,8 +11,8 @@ use Rattle.file_edits.specs.ProNames.{pro_names}
 use Rattle.save_formats.specs.DosSaves.{dos_saves}
 use Rattle.save_formats.specs.ProSaves.{pro_saves}
 use Rattle.volume_jobs.specs.EditRules.{EditRules, edit_rules}
-use Rattle.shop_words.specs.declared.job.FileSystem.{FileSystem}
-use Rattle.shop_words.specs.declared.job.FileSystem.TheVariants.{Dos, Prodos}
+use Rattle.shop_jobs.specs.declared.job.FileSystem.{FileSystem}
+use Rattle.shop_jobs.specs.declared.job.FileSystem.TheVariants.{Dos, Prodos}
 
 -- how its files are named, shown and read
 abbrev pub files_of : FileSystem → FileMeaning

@@ -14,11 +14,11 @@ use Rattle.vol_mover.specs.declared.progress.StepError.{StepError}
 use Rattle.vol_mover.specs.declared.report.Report.{Report}
 use Rattle.vol_mover.specs.declared.report.OptError.{OptError}
 use Rattle.vol_mover.specs.declared.report.OptError.TheVariants as optimizes
-use Rattle.job_reply.specs.declared.reply.Failure.TheVariants as failures
+use Rattle.job_reply.specs.declared.refusal.Failure.TheVariants as failures
 use Rattle.job_reply.specs.declared.reply.Reply.{Reply}
-use Rattle.job_reply.specs.declared.reply.Reply.TheVariants.{Failed}
 use Rattle.volume_jobs.specs.PlanReply.{IsUnopenedReply, TellsOpening}
-use Rattle.job_reply.specs.Reply.{IsInterrupted, IsOptimizedReply, made_of, text_of}
+use Rattle.job_reply.specs.Reply.{IsHanded, IsInterrupted, failed, made_of, text_of}
+use Rattle.job_reply.specs.declared.reply.Status.TheVariants.{Done}
 
 -- how many moves were made, the rings and the misplaced parts that there were, the writes of the map, and whether all is done
 abbrev pub report_line : ℕ → ℕ → ℕ → ℕ → Bool → Text
@@ -46,20 +46,20 @@ KeepsBytes device bytes = (form : ImageForm) → device.image ≡ Some form → 
 -- the reply with a report and the image under a device, or for want of memory
 abbrev pub TellsReport : {A : Type 0} → DeviceState → Report A → Reply → Type 0
 TellsReport device report reply =
-    (IsOptimizedReply reply × (text_of reply ≡ report_text report) × AreBytesOf device (made_of reply)) ⊎ (reply ≡ Failed failures.Memory)
+    (IsHanded Done reply × (text_of reply ≡ report_text report) × AreBytesOf device (made_of reply)) ⊎ (reply ≡ failed failures.Memory)
 
 -- the reply to a volume that is not opened, or with the image as it stands after a failed step
 abbrev pub TellsStop : {A : Type 0} → DeviceState → OptError A → Reply → Type 0
 TellsStop device (optimizes.Open error) reply = TellsOpening error reply
 TellsStop device (optimizes.Step error) reply = IsInterrupted reply × AreBytesOf device (made_of reply)
-TellsStop device optimizes.Memory reply = reply ≡ Failed failures.Memory
+TellsStop device optimizes.Memory reply = reply ≡ failed failures.Memory
 
 -- the volume was optimized, as the report says, and this is the image and the text
 pub record IsWorkedReply (reclaim : Bool) (limit : ℕ) (format : Meaning) (device : DeviceState) (reply : Reply) : Type 0 where
   pub after : DeviceState
   pub report : Report Global
   pub reported : IsReported format (record { reclaim = reclaim }) limit device after report
-  pub optimized : IsOptimizedReply reply
+  pub optimized : IsHanded Done reply
   pub text : text_of reply ≡ report_text report
   pub made : AreBytesOf after (made_of reply)
   pub kept : KeepsBytes device (made_of reply)
@@ -78,4 +78,4 @@ IsOptimized reclaim limit format device reply =
     IsWorkedReply reclaim limit format device reply
     ⊎ IsUnopenedReply reclaim format device reply
     ⊎ IsStoppedReply reclaim limit format device reply
-    ⊎ (reply ≡ Failed failures.Memory)
+    ⊎ (reply ≡ failed failures.Memory)

@@ -15,11 +15,11 @@ use Rattle.vol_opening.specs.Opening.{IsAllowed, IsPlanOf}
 use Rattle.vol_opening.specs.Refused.{IsRefusal}
 use Rattle.vol_opening.specs.declared.error.OpenError.{OpenError}
 use Rattle.vol_opening.specs.declared.error.OpenError.TheVariants as opens
-use Rattle.job_reply.specs.declared.reply.Refusal.TheVariants as refusals
-use Rattle.job_reply.specs.declared.reply.Failure.TheVariants as failures
+use Rattle.job_reply.specs.declared.refusal.Refusal.TheVariants as refusals
+use Rattle.job_reply.specs.declared.refusal.Failure.TheVariants as failures
 use Rattle.job_reply.specs.declared.reply.Reply.{Reply}
-use Rattle.job_reply.specs.declared.reply.Reply.TheVariants.{Refused, Failed}
-use Rattle.job_reply.specs.Reply.{IsContent, IsUnopened, text_of}
+use Rattle.job_reply.specs.Reply.{IsTold, failed, refused, text_of}
+use Rattle.job_reply.specs.declared.reply.Status.TheVariants.{Done, Refused}
 use Rattle.image_volume.specs.Volume.{LacksUnit}
 
 -- The volume is accepted, and these are its parts, their layout and the lost places, none of which is lost but where they are reclaimed; and it has a free
@@ -37,15 +37,15 @@ abbrev pub certificate_by : {A : Type 0} → Placement → Plan A → List ℕ
 certificate_by layout plan = certificate_text (certificate_of layout plan.misplaced.items plan.rings.items plan.moves.items)
 
 abbrev pub TellsPlan : {A : Type 0} → Placement → Plan A → Reply → Type 0
-TellsPlan layout plan reply = (IsContent reply × (text_of reply ≡ certificate_by layout plan)) ⊎ (reply ≡ Failed failures.Memory)
+TellsPlan layout plan reply = (IsTold Done reply × (text_of reply ≡ certificate_by layout plan)) ⊎ (reply ≡ failed failures.Memory)
 
 -- the reply to a volume that is not opened; how many places are lost is told
 abbrev pub TellsOpening : {A : Type 0} → OpenError A → Reply → Type 0
-TellsOpening (opens.Check faults) reply = reply ≡ Refused refusals.Check
-TellsOpening (opens.Lost count) reply = (IsUnopened reply × (text_of reply ≡ codes "REFUSED Lost " ++ decimal count ++ 10 ∷ [])) ⊎ (reply ≡ Failed failures.Memory)
-TellsOpening opens.NoFreePlace reply = reply ≡ Refused refusals.NoFreePlace
-TellsOpening opens.Device reply = reply ≡ Failed failures.Device
-TellsOpening opens.Memory reply = reply ≡ Failed failures.Memory
+TellsOpening (opens.Check faults) reply = reply ≡ refused refusals.Check
+TellsOpening (opens.Lost count) reply = (IsTold Refused reply × (text_of reply ≡ codes "REFUSED Lost " ++ decimal count ++ 10 ∷ [])) ⊎ (reply ≡ failed failures.Memory)
+TellsOpening opens.NoFreePlace reply = reply ≡ refused refusals.NoFreePlace
+TellsOpening opens.Device reply = reply ≡ failed failures.Device
+TellsOpening opens.Memory reply = reply ≡ failed failures.Memory
 
 -- the volume is not opened: it has faults, lost places that are not reclaimed, or no free place; or a unit can't be read
 pub record IsUnopenedReply (reclaim : Bool) (format : Meaning) (device : DeviceState) (reply : Reply) : Type 0 where

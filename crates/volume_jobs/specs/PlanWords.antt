@@ -15,10 +15,10 @@ use Rattle.vol_opening.specs.Opening.{IsPlanOf}
 use Rattle.file_cmds.specs.DosText.{Text, line, name_text}
 use Rattle.file_cmds.specs.Files.{FileMeaning}
 use Rattle.file_cmds.specs.ProText.{path_text}
-use Rattle.job_reply.specs.declared.reply.Failure.TheVariants as failures
+use Rattle.job_reply.specs.declared.refusal.Failure.TheVariants as failures
 use Rattle.job_reply.specs.declared.reply.Reply.{Reply}
-use Rattle.job_reply.specs.declared.reply.Reply.TheVariants.{Failed}
-use Rattle.job_reply.specs.Reply.{IsDone, text_of}
+use Rattle.job_reply.specs.Reply.{IsTold, failed, text_of}
+use Rattle.job_reply.specs.declared.reply.Status.TheVariants.{Done}
 use Rattle.volume_jobs.specs.CheckText.{told_place}
 use Rattle.volume_jobs.specs.PlanReply.{IsOpened, IsUnopenedReply}
 use Rattle.volume_jobs.specs.Steps.{AreSteps}
@@ -64,7 +64,7 @@ pub record IsPlanText (form : PlaceForm) (files : FileMeaning) (directory : Dire
 
 abbrev pub TellsWords : PlaceForm → FileMeaning → Directory → Told → List Move → Reply → Type 0
 TellsWords form files directory told moves reply =
-    (IsDone reply × IsPlanText form files directory told moves (text_of reply)) ⊎ (reply ≡ Failed failures.Memory)
+    (IsTold Done reply × IsPlanText form files directory told moves (text_of reply)) ⊎ (reply ≡ failed failures.Memory)
 
 -- a shortest plan of the volume's layout, and its moves in words
 pub record IsWordsReply (form : PlaceForm) (files : FileMeaning) (reclaim : Bool) (format : Meaning) (device : DeviceState) (reply : Reply) : Type 0 where

@@ -5,19 +5,19 @@ use Rattle.vol_format.specs.Meaning.{Meaning}
 use Rattle.file_cmds.specs.DosText.{Text}
 use Rattle.file_cmds.specs.Files.{FileMeaning}
 use Rattle.file_cmds.specs.Read.{HasNoFile, IsTextAt, IsUnreadable}
-use Rattle.job_reply.specs.declared.reply.Refusal.TheVariants as refusals
-use Rattle.job_reply.specs.declared.reply.Failure.TheVariants as failures
+use Rattle.job_reply.specs.declared.refusal.Refusal.TheVariants as refusals
+use Rattle.job_reply.specs.declared.refusal.Failure.TheVariants as failures
 use Rattle.job_reply.specs.declared.reply.Reply.{Reply}
-use Rattle.job_reply.specs.declared.reply.Reply.TheVariants.{Refused, Failed}
-use Rattle.job_reply.specs.Reply.{IsContent, text_of}
+use Rattle.job_reply.specs.Reply.{IsTold, failed, refused, text_of}
+use Rattle.job_reply.specs.declared.reply.Status.TheVariants.{Done}
 use Rattle.image_volume.specs.Volume.{LacksUnit}
 
 -- The reply to `read`: the body of the first file with this name, or all of its units; `Check` for a directory or a file that can't be read; `NotFound` where no file has
 -- the name; a failure where a unit can't be read; or want of memory.
 abbrev pub IsRead : Text → Bool → FileMeaning → Meaning → DeviceState → Reply → Type 0
 IsRead name whole files format device reply =
-    (IsContent reply × IsTextAt format files device.store name whole (text_of reply))
-    ⊎ ((reply ≡ Refused refusals.Check) × IsUnreadable format files device.store name)
-    ⊎ ((reply ≡ Refused refusals.NotFound) × HasNoFile format files device.store name)
-    ⊎ ((reply ≡ Failed failures.Device) × LacksUnit device)
-    ⊎ (reply ≡ Failed failures.Memory)
+    (IsTold Done reply × IsTextAt format files device.store name whole (text_of reply))
+    ⊎ ((reply ≡ refused refusals.Check) × IsUnreadable format files device.store name)
+    ⊎ ((reply ≡ refused refusals.NotFound) × HasNoFile format files device.store name)
+    ⊎ ((reply ≡ failed failures.Device) × LacksUnit device)
+    ⊎ (reply ≡ failed failures.Memory)

@@ -1,9 +1,13 @@
 -- Work that only reads a volume, and what is told of the device that has it.
 use Rattle.std.specs.Prelude.{◌≡◌, Bool, true, false}
 use Rattle.a2_device.specs.Device.{DeviceState}
-use Rattle.job_reply.specs.declared.reply.Failure.TheVariants as failures
+use Rattle.job_reply.specs.declared.refusal.Failure.TheVariants as failures
 use Rattle.job_reply.specs.declared.reply.Reply.{Reply}
-use Rattle.job_reply.specs.declared.reply.Reply.TheVariants.{Failed}
+use Rattle.job_reply.specs.declared.reply.Status.{Status}
+use Rattle.job_reply.specs.declared.reply.Status.TheVariants as statuses
+use Rattle.job_reply.specs.declared.reply.Told.{Told}
+use Rattle.job_reply.specs.declared.reply.Told.TheVariants as tells
+use Rattle.job_reply.specs.Reply.{failed}
 use Rattle.image_volume.specs.Volume.{LacksUnit}
 use Rattle.volume_jobs.specs.Work.{WorkView, Optimize, Change, Save}
 
@@ -15,10 +19,19 @@ IsReading (Save path given) = ⊥
 IsReading work = Unit {0}
 
 -- whether a reply tells a failure of the device
+abbrev is_of_device : Told → Bool
+is_of_device (tells.Failure failures.Device) = true
+is_of_device told = false
+
+abbrev pub fails_device : Status → Told → Bool
+fails_device statuses.Done told = false
+fails_device statuses.Wrong told = false
+fails_device statuses.Refused told = false
+fails_device statuses.Failed told = is_of_device told
+
 abbrev pub tells_device : Reply → Bool
-tells_device (Failed failures.Device) = true
-tells_device reply = false
+tells_device reply = fails_device reply.status reply.told
 
 -- a reply tells that the device failed only where a unit of it can't be read
 abbrev pub FailsForLack : DeviceState → Reply → Type 0
-FailsForLack device reply = reply ≡ Failed failures.Device → LacksUnit device
+FailsForLack device reply = reply ≡ failed failures.Device → LacksUnit device

@@ -6,23 +6,23 @@ use Rattle.file_edits.specs.declared.error.EditError.{EditError}
 use Rattle.file_edits.specs.declared.error.EditError.TheVariants as edits
 use Rattle.reserved_places.specs.declared.error.ReserveError.{ReserveError}
 use Rattle.reserved_places.specs.declared.error.ReserveError.TheVariants as reserves
-use Rattle.job_reply.specs.declared.reply.Refusal.{Refusal}
-use Rattle.job_reply.specs.declared.reply.Refusal.TheVariants as refusals
-use Rattle.job_reply.specs.declared.reply.Failure.TheVariants as failures
+use Rattle.job_reply.specs.declared.refusal.Refusal.{Refusal}
+use Rattle.job_reply.specs.declared.refusal.Refusal.TheVariants as refusals
+use Rattle.job_reply.specs.declared.refusal.Failure.TheVariants as failures
 use Rattle.job_reply.specs.declared.reply.Reply.{Reply}
-use Rattle.job_reply.specs.declared.reply.Reply.TheVariants.{Refused, Failed}
+use Rattle.job_reply.specs.Reply.{failed, refused}
 
 -- the reply to a command's refusal
 abbrev pub reply_to_refusal : CmdError → Reply
-reply_to_refusal commands.Check = Refused refusals.Check
-reply_to_refusal commands.NotFound = Refused refusals.NotFound
-reply_to_refusal commands.Device = Failed failures.Device
-reply_to_refusal commands.Memory = Failed failures.Memory
+reply_to_refusal commands.Check = refused refusals.Check
+reply_to_refusal commands.NotFound = refused refusals.NotFound
+reply_to_refusal commands.Device = failed failures.Device
+reply_to_refusal commands.Memory = failed failures.Memory
 
 -- the reply to a text of places to reserve that is not taken
 abbrev pub reply_to_reserve : ReserveError → Reply
-reply_to_reserve reserves.Syntax = Refused refusals.Reserve
-reply_to_reserve reserves.Memory = Failed failures.Memory
+reply_to_reserve reserves.Syntax = refused refusals.Reserve
+reply_to_reserve reserves.Memory = failed failures.Memory
 
 -- the refusal that is told of an edit; none where the device or memory failed
 abbrev pub refusal_of_edit : EditError → Option Refusal
@@ -38,13 +38,13 @@ refusal_of_edit error = None
 
 -- the reply to the refusal of an edit
 abbrev pub reply_to_edit_refusal : EditError → Reply
-reply_to_edit_refusal edits.Check = Refused refusals.Check
-reply_to_edit_refusal edits.NotFound = Refused refusals.NotFound
-reply_to_edit_refusal edits.Name = Refused refusals.Name
-reply_to_edit_refusal edits.Exists = Refused refusals.Exists
-reply_to_edit_refusal edits.Locked = Refused refusals.Locked
-reply_to_edit_refusal edits.TooLong = Refused refusals.TooLong
-reply_to_edit_refusal edits.DirFull = Refused refusals.DirFull
-reply_to_edit_refusal edits.VolumeFull = Refused refusals.VolumeFull
-reply_to_edit_refusal edits.Device = Failed failures.Device
-reply_to_edit_refusal edits.Memory = Failed failures.Memory
+reply_to_edit_refusal edits.Check = refused refusals.Check
+reply_to_edit_refusal edits.NotFound = refused refusals.NotFound
+reply_to_edit_refusal edits.Name = refused refusals.Name
+reply_to_edit_refusal edits.Exists = refused refusals.Exists
+reply_to_edit_refusal edits.Locked = refused refusals.Locked
+reply_to_edit_refusal edits.TooLong = refused refusals.TooLong
+reply_to_edit_refusal edits.DirFull = refused refusals.DirFull
+reply_to_edit_refusal edits.VolumeFull = refused refusals.VolumeFull
+reply_to_edit_refusal edits.Device = failed failures.Device
+reply_to_edit_refusal edits.Memory = failed failures.Memory

@@ -9,13 +9,11 @@ use Rattle.save_formats.specs.Saves.{SaveMeaning}
 use Rattle.save_formats.specs.declared.target.Attributes.{Attributes}
 use Rattle.file_saving.specs.Saved.{HasFewPlaces, HasFullDirectory, HasNameInUse, HasNoDirectory, HasNoName, HasSaved, IsOldOrSaved, IsSaveEdit, IsTooLong}
 use Rattle.given_file.specs.Content.{GivenView, IsTooLongForHead, content, stored_units, unit_bytes}
-use Rattle.job_reply.specs.declared.reply.Refusal.{Refusal}
-use Rattle.job_reply.specs.declared.reply.Refusal.TheVariants as refusals
-use Rattle.job_reply.specs.declared.reply.Failure.TheVariants as failures
+use Rattle.job_reply.specs.declared.refusal.Refusal.{Refusal}
+use Rattle.job_reply.specs.declared.refusal.Refusal.TheVariants as refusals
+use Rattle.job_reply.specs.declared.refusal.Failure.TheVariants as failures
 use Rattle.job_reply.specs.declared.reply.Reply.{Reply}
-use Rattle.job_reply.specs.declared.reply.Reply.TheVariants.{Failed, Refused}
-use Rattle.job_reply.specs.Reply.{made_of}
-use Rattle.volume_jobs.specs.EditReply.{IsImageReply}
+use Rattle.job_reply.specs.Reply.{IsMadeReply, failed, made_of, refused}
 use Rattle.volume_jobs.specs.OptimizeReply.{AreBytesOf, KeepsBytes}
 use Rattle.image_volume.specs.Volume.{LacksUnit}
 
@@ -59,7 +57,7 @@ pub record IsSavedReply (path : List ℕ) (given : GivenView) (saves : SaveMeani
   pub writes : List Write
   pub are_writes : AreSaveWrites path given saves format device.store writes
   pub saved : HasGivenSaved path given saves format device.store (device_after writes device).store
-  pub image : IsImageReply reply
+  pub image : IsMadeReply reply
   pub made : AreBytesOf (device_after writes device) (made_of reply)
   pub kept : KeepsBytes device (made_of reply)
 
@@ -67,13 +65,13 @@ pub record IsSavedReply (path : List ℕ) (given : GivenView) (saves : SaveMeani
 abbrev pub IsSaveTried : List ℕ → GivenView → SaveMeaning → Meaning → DeviceState → Reply → Type 0
 IsSaveTried path given saves format device reply =
     IsSavedReply path given saves format device reply
-    ⊎ ((refusal : Refusal) × (reply ≡ Refused refusal) × IsSaveCause refusal path given saves format device.store)
-    ⊎ ((reply ≡ Failed failures.Device) × LacksUnit device)
-    ⊎ (reply ≡ Failed failures.Memory)
+    ⊎ ((refusal : Refusal) × (reply ≡ refused refusal) × IsSaveCause refusal path given saves format device.store)
+    ⊎ ((reply ≡ failed failures.Device) × LacksUnit device)
+    ⊎ (reply ≡ failed failures.Memory)
 
 -- The reply to a saving: more bytes than are read of a file, before a file that is too long for its head, before what the volume tells.
 abbrev pub IsSaved : List ℕ → GivenView → SaveMeaning → Meaning → DeviceState → Reply → Type 0
 IsSaved path given saves format device reply =
-    ((reply ≡ Refused refusals.InputTooLong) × (most_input < length given.bytes))
-    ⊎ ((length given.bytes ≤ most_input) × (((reply ≡ Refused refusals.TooLong) × IsTooLongForHead given)
+    ((reply ≡ refused refusals.InputTooLong) × (most_input < length given.bytes))
+    ⊎ ((length given.bytes ≤ most_input) × (((reply ≡ refused refusals.TooLong) × IsTooLongForHead given)
     ⊎ (¬ IsTooLongForHead given × IsSaveTried path given saves format device reply)))

@@ -12,12 +12,12 @@ use Rattle.ring_cert.specs.declared.certificate.CertFault.TheVariants as faults
 use Rattle.vol_format.specs.Meaning.{Meaning}
 use Rattle.vol_check.specs.Told.{Told}
 use Rattle.file_cmds.specs.DosText.{Text, line}
-use Rattle.job_reply.specs.declared.reply.Refusal.TheVariants as refusals
-use Rattle.job_reply.specs.declared.reply.Failure.TheVariants as failures
+use Rattle.job_reply.specs.declared.refusal.Refusal.TheVariants as refusals
+use Rattle.job_reply.specs.declared.refusal.Failure.TheVariants as failures
 use Rattle.job_reply.specs.declared.reply.Reply.{Reply}
-use Rattle.job_reply.specs.declared.reply.Reply.TheVariants.{Refused, Failed}
 use Rattle.volume_jobs.specs.PlanReply.{IsOpened, IsUnopenedReply}
-use Rattle.job_reply.specs.Reply.{IsDone, IsFaulty, text_of}
+use Rattle.job_reply.specs.Reply.{IsTold, failed, refused, text_of}
+use Rattle.job_reply.specs.declared.reply.Status.TheVariants.{Done, Wrong}
 
 -- the most bytes that are read of a certificate
 abbrev pub most_certificate : ℕ
@@ -37,11 +37,11 @@ fault_text faults.Memory = codes "Memory"
 -- the reply to a certificate with this fault, and to bytes that are no certificate's text
 abbrev pub TellsFault : CertFault → Reply → Type 0
 TellsFault fault reply =
-    ((fault ≢ faults.Memory) × IsFaulty reply × (text_of reply ≡ line (codes "REFUSED " ++ fault_text fault))) ⊎ (reply ≡ Failed failures.Memory)
+    ((fault ≢ faults.Memory) × IsTold Wrong reply × (text_of reply ≡ line (codes "REFUSED " ++ fault_text fault))) ⊎ (reply ≡ failed failures.Memory)
 
 abbrev pub TellsNoText : CertError → Reply → Type 0
-TellsNoText (texts.Syntax number) reply = (IsFaulty reply × (text_of reply ≡ line (codes "REFUSED Syntax " ++ decimal number))) ⊎ (reply ≡ Failed failures.Memory)
-TellsNoText texts.Memory reply = reply ≡ Failed failures.Memory
+TellsNoText (texts.Syntax number) reply = (IsTold Wrong reply × (text_of reply ≡ line (codes "REFUSED Syntax " ++ decimal number))) ⊎ (reply ≡ failed failures.Memory)
+TellsNoText texts.Memory reply = reply ≡ failed failures.Memory
 
 -- the bytes are the text of a certificate that is good for the layout: no plan has fewer moves than its bound
 pub record IsOptimal (layout : Placement) (bytes : List ℕ) (reply : Reply) : Type 0 where
@@ -49,7 +49,7 @@ pub record IsOptimal (layout : Placement) (bytes : List ℕ) (reply : Reply) : T
   pub has_text : HasText certificate
   pub is_text : bytes ≡ certificate_text certificate
   pub good : IsGood layout certificate
-  pub done : IsDone reply
+  pub done : IsTold Done reply
   pub told : text_of reply ≡ line (codes "OPTIMAL " ++ decimal certificate.bound)
 
 -- they are the text of one that is not, and this is its first fault
@@ -65,12 +65,12 @@ pub record IsNotOptimal (layout : Placement) (bytes : List ℕ) (reply : Reply) 
 pub record IsNoCertificate (bytes : List ℕ) (reply : Reply) : Type 0 where
   pub number : ℕ
   pub none : IsNoText bytes number
-  pub faulty : IsFaulty reply
+  pub faulty : IsTold Wrong reply
   pub told : text_of reply ≡ line (codes "REFUSED Syntax " ++ decimal number)
 
 abbrev pub IsVerdict : Placement → List ℕ → Reply → Type 0
 IsVerdict layout bytes reply =
-    IsOptimal layout bytes reply ⊎ IsNotOptimal layout bytes reply ⊎ IsNoCertificate bytes reply ⊎ (reply ≡ Failed failures.Memory)
+    IsOptimal layout bytes reply ⊎ IsNotOptimal layout bytes reply ⊎ IsNoCertificate bytes reply ⊎ (reply ≡ failed failures.Memory)
 
 -- the verdict on the layout of the volume
 pub record IsVerdictReply (reclaim : Bool) (bytes : List ℕ) (format : Meaning) (device : DeviceState) (reply : Reply) : Type 0 where
@@ -80,5 +80,5 @@ pub record IsVerdictReply (reclaim : Bool) (bytes : List ℕ) (format : Meaning)
 
 abbrev pub IsVerified : Bool → List ℕ → Meaning → DeviceState → Reply → Type 0
 IsVerified reclaim bytes format device reply =
-    ((reply ≡ Refused refusals.InputTooLong) × (most_certificate < length bytes))
+    ((reply ≡ refused refusals.InputTooLong) × (most_certificate < length bytes))
     ⊎ ((length bytes ≤ most_certificate) × (IsVerdictReply reclaim bytes format device reply ⊎ IsUnopenedReply reclaim format device reply))

@@ -6,11 +6,11 @@ use Rattle.reserved_places.specs.Reserved.{IsPlaceList, Reserves}
 use Rattle.reserved_places.specs.declared.form.PlaceForm.{PlaceForm}
 use Rattle.vol_format.specs.Meaning.{Meaning}
 use Rattle.file_cmds.specs.DosText.{Text}
-use Rattle.shop_words.specs.declared.job.FileSystem.{FileSystem}
-use Rattle.job_reply.specs.declared.reply.Refusal.TheVariants as refusals
-use Rattle.job_reply.specs.declared.reply.Failure.TheVariants as failures
+use Rattle.shop_jobs.specs.declared.job.FileSystem.{FileSystem}
+use Rattle.job_reply.specs.declared.refusal.Refusal.TheVariants as refusals
+use Rattle.job_reply.specs.declared.refusal.Failure.TheVariants as failures
 use Rattle.job_reply.specs.declared.reply.Reply.{Reply}
-use Rattle.job_reply.specs.declared.reply.Reply.TheVariants.{Refused, Failed}
+use Rattle.job_reply.specs.Reply.{failed, refused}
 use Rattle.image_volume.specs.Volume.{TakesBytes, OfVolume, form_of, meaning_of}
 use Rattle.std.specs.Prelude.{length}
 
@@ -28,8 +28,8 @@ ReservesNamed form (Some text) reserved = Reserves form text reserved
 -- the volume, where the words reserve these places.
 abbrev pub IsVolumeReply : FileSystem → Order → Bool → Option Text → List ℕ → (Meaning → DeviceState → Reply → Type 0) → Reply → Type 0
 IsVolumeReply file_system order data_disk reserve image Tells reply =
-    ((reply ≡ Refused refusals.Reserve) × ¬ NamesPlaces (form_of file_system) reserve)
-    ⊎ ((reply ≡ Refused refusals.Length) × NamesPlaces (form_of file_system) reserve × ¬ TakesBytes file_system order (length image))
-    ⊎ (reply ≡ Failed failures.Memory)
+    ((reply ≡ refused refusals.Reserve) × ¬ NamesPlaces (form_of file_system) reserve)
+    ⊎ ((reply ≡ refused refusals.Length) × NamesPlaces (form_of file_system) reserve × ¬ TakesBytes file_system order (length image))
+    ⊎ (reply ≡ failed failures.Memory)
     ⊎ ((reserved : List Bool) × ReservesNamed (form_of file_system) reserve reserved
     × OfVolume file_system order image (λ device. Tells (meaning_of file_system data_disk reserved) device reply))

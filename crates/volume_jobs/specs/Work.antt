@@ -7,7 +7,7 @@ use Rattle.job_reply.specs.declared.reply.Reply.{Reply}
 use Rattle.volume_jobs.specs.declared.volume.Work.{Work}
 use Rattle.volume_jobs.specs.declared.volume.Work.TheVariants as works
 use Rattle.file_cmds.specs.Files.{FileMeaning}
-use Rattle.shop_words.specs.Job.{EditView, edit_view}
+use Rattle.shop_jobs.specs.Job.{EditView, edit_view}
 use Rattle.given_file.specs.Content.{GivenView, given_view}
 use Rattle.volume_jobs.specs.CatalogReply.{IsListed}
 use Rattle.volume_jobs.specs.ReadReply.{IsRead}
@@ -42,7 +42,7 @@ work_view (works.Save path given) = Save path.now (given_view given)
 work_view (works.Verify reclaim certificate) = Verify reclaim certificate.now
 
 abbrev pub IsWorkReply : WorkView → PlaceForm → FileMeaning → EditRules → Meaning → DeviceState → Reply → Type 0
-IsWorkReply Catalog form files edits format device reply = IsListed form files format device reply
+IsWorkReply Catalog form files edits format device reply = IsListed form format device reply
 IsWorkReply (Read name whole) form files edits format device reply = IsRead name whole files format device reply
 IsWorkReply Check form files edits format device reply = IsChecked form format device reply
 IsWorkReply (Plan reclaim false) form files edits format device reply = IsPlanned reclaim format device reply

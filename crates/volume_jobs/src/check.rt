@@ -18,8 +18,8 @@ pub fn accepted_reply<V: Drop>(alloc: Global, checked: &Checked<V>) -> Reply
     ensures { TellsAccepted (told_of checked.now) result }
 {
     match accepted_line(alloc, checked) {
-        Ok(text) => Reply::Done(text),
-        Err(_) => Reply::Failed(Failure::Memory),
+        Ok(text) => Reply::done(text),
+        Err(_) => Reply::failed(Failure::Memory),
     }
 }
 
@@ -29,11 +29,11 @@ pub fn refused_reply(alloc: Global, form: PlaceForm, error: &CheckError) -> Repl
 {
     match error {
         CheckError::Faults(faults) => match fault_lines(alloc, form, faults.as_slice()) {
-            Ok(text) => Reply::Faulty(text),
-            Err(_) => Reply::Failed(Failure::Memory),
+            Ok(text) => Reply::wrong(text),
+            Err(_) => Reply::failed(Failure::Memory),
         },
-        CheckError::Device => Reply::Failed(Failure::Device),
-        CheckError::Memory => Reply::Failed(Failure::Memory),
+        CheckError::Device => Reply::failed(Failure::Device),
+        CheckError::Memory => Reply::failed(Failure::Memory),
     }
 }
 

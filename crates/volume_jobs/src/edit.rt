@@ -3,7 +3,7 @@ ghost use Rattle.std.specs.Prelude.{◌≡◌, [], Err, IfErr, IfSome, IsTrue, O
 ghost use Rattle.file_edits.specs.Edited.{HasChanged};
 ghost use Rattle.file_edits.specs.Renamed.{IsRenameRefusal};
 ghost use Rattle.file_edits.specs.Writes.{HasEdited};
-ghost use Rattle.shop_words.specs.Job.{edit_view};
+ghost use Rattle.shop_jobs.specs.Job.{edit_view};
 ghost use Rattle.volume_jobs.specs.EditReply.{AreWritesOf, IsCause, IsEdited, IsOldOrEdited, edited_files};
 ghost use Rattle.volume_jobs.specs.EditRules.{edit_rules};
 ghost use Rattle.volume_jobs.specs.Refusals.{refusal_of_edit, reply_to_edit_refusal};
@@ -13,7 +13,7 @@ use a2_device::{Device, ImageDevice};
 use file_edits::{EditError, delete, lock, rename, unlock};
 use job_reply::{Failure, Refusal, Reply};
 use save_formats::SavableFormat;
-use shop_words::Edit;
+use shop_jobs::Edit;
 use std::alloc::Global;
 
 /// The reply to the refusal of a command that changes a volume.
@@ -21,16 +21,16 @@ pub fn edit_refusal_reply(error: EditError) -> Reply
     ensures { result ≡ reply_to_edit_refusal error }
 {
     match error {
-        EditError::Check => Reply::Refused(Refusal::Check),
-        EditError::NotFound => Reply::Refused(Refusal::NotFound),
-        EditError::Name => Reply::Refused(Refusal::Name),
-        EditError::Exists => Reply::Refused(Refusal::Exists),
-        EditError::Locked => Reply::Refused(Refusal::Locked),
-        EditError::TooLong => Reply::Refused(Refusal::TooLong),
-        EditError::DirFull => Reply::Refused(Refusal::DirFull),
-        EditError::VolumeFull => Reply::Refused(Refusal::VolumeFull),
-        EditError::Device => Reply::Failed(Failure::Device),
-        EditError::Memory => Reply::Failed(Failure::Memory),
+        EditError::Check => Reply::refused(Refusal::Check),
+        EditError::NotFound => Reply::refused(Refusal::NotFound),
+        EditError::Name => Reply::refused(Refusal::Name),
+        EditError::Exists => Reply::refused(Refusal::Exists),
+        EditError::Locked => Reply::refused(Refusal::Locked),
+        EditError::TooLong => Reply::refused(Refusal::TooLong),
+        EditError::DirFull => Reply::refused(Refusal::DirFull),
+        EditError::VolumeFull => Reply::refused(Refusal::VolumeFull),
+        EditError::Device => Reply::failed(Failure::Device),
+        EditError::Memory => Reply::failed(Failure::Memory),
     }
 }
 
@@ -87,7 +87,7 @@ pub fn edit_reply<F: SavableFormat>(
 {
     let mut device = device;
     match edit_file(alloc, &mut device, format, edit, name) {
-        Ok(()) => Reply::Made(image_bytes(device)),
+        Ok(()) => Reply::made(image_bytes(device)),
         Err(error) => edit_refusal_reply(error),
     }
 }

@@ -25,6 +25,7 @@ mod verify;
 mod volume;
 
 pub use edit::{edit_file, edit_refusal_reply};
+pub use listing::ShownFormat;
 pub use plan::unopened_reply;
 pub use reading_work::reading_reply;
 pub use save::{MOST_INPUT, save_file};

@@ -1,56 +1,101 @@
 // The job that lists the files of a volume.
-ghost use Rattle.std.specs.Prelude.{◌≡◌, IsTrue};
+ghost use Rattle.std.specs.Prelude.{◌≡◌, IfOk, IsTrue, string_bytes};
+ghost use Rattle.file_cmds.specs.DosText.{directory_text as dos_text};
 ghost use Rattle.a2_device.specs.Device.{OnlyReads};
-ghost use Rattle.volume_jobs.specs.CatalogReply.{IsListed, TellsListing};
+ghost use Rattle.volume_jobs.specs.CatalogReply.{IsListed};
 ghost use Rattle.volume_jobs.specs.Reading.{FailsForLack, tells_device};
 ghost use Rattle.volume_jobs.specs.Refusals.{reply_to_refusal};
 
 use a2_device::Device;
-use file_cmds::{CmdError, FileFormat, Listing, catalog, dos_listing_text, pro_listing_text};
+use dos_format::{Dos33, DosVolume};
+use file_cmds::{CmdError, ProLines, dos_listing_text, listing_of, read_volume};
 use job_reply::{Failure, Refusal, Reply};
+use pro_format::{ProVolume, Prodos};
 use reserved_places::PlaceForm;
-use std::alloc::Global;
+use save_formats::SavableFormat;
+use std::alloc::{AllocError, Global};
+use vol_format::Format;
 
 /// The reply to a command's refusal.
 pub fn refusal_reply(error: CmdError) -> Reply
     ensures { result ≡ reply_to_refusal error }
 {
     match error {
-        CmdError::Check => Reply::Refused(Refusal::Check),
-        CmdError::NotFound => Reply::Refused(Refusal::NotFound),
-        CmdError::Device => Reply::Failed(Failure::Device),
-        CmdError::Memory => Reply::Failed(Failure::Memory),
+        CmdError::Check => Reply::refused(Refusal::Check),
+        CmdError::NotFound => Reply::refused(Refusal::NotFound),
+        CmdError::Device => Reply::failed(Failure::Device),
+        CmdError::Memory => Reply::failed(Failure::Memory),
     }
 }
 
-/// The text of a listing; volumes of blocks are those of ProDOS.
-pub fn listing_reply(alloc: Global, form: PlaceForm, listing: &Listing) -> Reply
-    ensures { TellsListing form listing.now result }
+// The text of the listing of a DOS 3.3 volume that was read.
+fn dos_listing(alloc: Global, format: &Dos33, volume: &DosVolume) -> Result<String, AllocError>
+    ensures { IfOk result (λ text. string_bytes text ≡ dos_text (⟦<Dos33 as Format>⟧.directory format.now volume.now)) }
 {
-    let text = match form {
-        PlaceForm::Sector => dos_listing_text(alloc, listing),
-        PlaceForm::Block => pro_listing_text(alloc, listing),
-    };
-    match text {
-        Ok(text) => Reply::Done(text),
-        Err(_) => Reply::Failed(Failure::Memory),
+    let listing = listing_of(alloc, format, volume)?;
+    dos_listing_text(alloc, &listing)
+}
+
+/// A format of volumes on which each job is done: what its places are called, and how the listing of a volume is told.
+pub trait ShownFormat: SavableFormat {
+    ghost use Rattle.std.specs.Prelude.{◌≡◌};
+    ghost use Rattle.reserved_places.specs.declared.form.PlaceForm.{PlaceForm};
+    ghost use Rattle.volume_jobs.specs.CatalogReply.{TellsListing};
+
+    ghost form: { Self → PlaceForm };
+
+    /// What places are called.
+    fn form(&self) -> PlaceForm
+        ensures { result ≡ form self.now };
+
+    /// The listing of a volume that was read, or want of memory.
+    fn listing(&self, alloc: Global, volume: Self::Volume) -> Reply
+        ensures { TellsListing (form self.now) (Self.directory self.now volume) result };
+}
+
+impl ShownFormat for Dos33 {
+    ghost use Rattle.reserved_places.specs.declared.form.PlaceForm.TheVariants.{Sector};
+
+    ghost form = { λ f. Sector };
+
+    fn form(&self) -> PlaceForm {
+        PlaceForm::Sector
+    }
+
+    fn listing(&self, alloc: Global, volume: DosVolume) -> Reply {
+        match dos_listing(alloc, self, &volume) {
+            Ok(text) => Reply::done(text),
+            Err(_) => Reply::failed(Failure::Memory),
+        }
+    }
+}
+
+impl ShownFormat for Prodos {
+    ghost use Rattle.reserved_places.specs.declared.form.PlaceForm.TheVariants.{Block};
+
+    ghost form = { λ f. Block };
+
+    fn form(&self) -> PlaceForm {
+        PlaceForm::Block
+    }
+
+    fn listing(&self, alloc: Global, volume: ProVolume) -> Reply {
+        match ProLines::new(alloc, volume) {
+            Ok(lines) => Reply::listing(lines),
+            Err(_) => Reply::failed(Failure::Memory),
+        }
     }
 }
 
 /// The listing of the volume on a device.
-pub fn catalog_reply<D: Device, F: FileFormat>(
-    alloc: Global,
-    device: &mut D,
-    format: &F,
-    form: PlaceForm,
-) -> Reply
+pub fn catalog_reply<D: Device, F: ShownFormat>(alloc: Global, device: &mut D, format: &F) -> Reply
     requires unit { (D.state device.old).unit_size ≡ (F.meaning format.now).unit_size }
     requires places { (F.meaning format.now).Takes (D.state device.old).places }
     ensures reads { OnlyReads (tells_device result) (D.state device.old) (D.state device.new) }
-    ensures told { IsTrue (D.state device.old).honest → FailsForLack (D.state device.old) result → IsListed form (F.files format.now) (F.meaning format.now) (D.state device.old) result }
+    ensures told { IsTrue (D.state device.old).honest → FailsForLack (D.state device.old) result → IsListed (F.form format.now) (F.meaning format.now) (D.state device.old) result }
 {
-    match catalog(alloc, device, format) {
-        Ok(listing) => listing_reply(alloc, form, &listing),
+    match read_volume(device, format) {
+        Ok(volume) => format.listing(alloc, volume),
         Err(error) => refusal_reply(error),
     }
 }

@@ -72,8 +72,8 @@ fn worked_reply(alloc: Global, device: ImageDevice, report: &Report) -> Reply
     ensures { TellsReport (⟦<ImageDevice as Device>⟧.state device) report.now result }
 {
     match report_text(alloc, report) {
-        Ok(text) => Reply::Optimized(text, image_bytes(device)),
-        Err(_) => Reply::Failed(Failure::Memory),
+        Ok(text) => Reply::optimized(text, image_bytes(device)),
+        Err(_) => Reply::failed(Failure::Memory),
     }
 }
 
@@ -83,8 +83,8 @@ fn stopped_reply(alloc: Global, device: ImageDevice, error: &OptError) -> Reply
 {
     match error {
         OptError::Open(error) => unopened_reply(alloc, error),
-        OptError::Step(_) => Reply::Interrupted(image_bytes(device)),
-        OptError::Memory => Reply::Failed(Failure::Memory),
+        OptError::Step(_) => Reply::interrupted(image_bytes(device)),
+        OptError::Memory => Reply::failed(Failure::Memory),
     }
 }
 

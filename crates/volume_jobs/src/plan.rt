@@ -17,14 +17,14 @@ pub fn unopened_reply(alloc: Global, error: &OpenError) -> Reply
     ensures { TellsOpening error.now result }
 {
     match error {
-        OpenError::Check(_) => Reply::Refused(Refusal::Check),
+        OpenError::Check(_) => Reply::refused(Refusal::Check),
         OpenError::Lost(count) => match format!(in alloc; "REFUSED Lost {count}\n") {
-            Ok(text) => Reply::Unopened(text),
-            Err(_) => Reply::Failed(Failure::Memory),
+            Ok(text) => Reply::unopened(text),
+            Err(_) => Reply::failed(Failure::Memory),
         },
-        OpenError::NoFreePlace => Reply::Refused(Refusal::NoFreePlace),
-        OpenError::Device => Reply::Failed(Failure::Device),
-        OpenError::Memory => Reply::Failed(Failure::Memory),
+        OpenError::NoFreePlace => Reply::refused(Refusal::NoFreePlace),
+        OpenError::Device => Reply::failed(Failure::Device),
+        OpenError::Memory => Reply::failed(Failure::Memory),
     }
 }
 
@@ -36,8 +36,8 @@ pub fn certificate_reply<V: Drop>(alloc: Global, opening: &Opening<V>) -> Reply
     // A layout has few parts, and so few claims.
     let _parts = opening.layout.at().len();
     match print(alloc, &opening.layout, &opening.plan) {
-        Ok(text) => Reply::Bytes(text),
-        Err(_) => Reply::Failed(Failure::Memory),
+        Ok(text) => Reply::content(text),
+        Err(_) => Reply::failed(Failure::Memory),
     }
 }
 

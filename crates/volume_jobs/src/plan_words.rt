@@ -130,8 +130,8 @@ pub fn words_reply<F: FileFormat>(
         (told_in (F.directory format.now opening.now.volume) opening.now) opening.now.plan.moves.items result }
 {
     match plan_text(alloc, format, form, opening) {
-        Ok(text) => Reply::Done(text),
-        Err(_) => Reply::Failed(Failure::Memory),
+        Ok(text) => Reply::done(text),
+        Err(_) => Reply::failed(Failure::Memory),
     }
 }
 

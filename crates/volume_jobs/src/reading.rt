@@ -24,7 +24,7 @@ pub fn read_reply<D: Device, F: FileFormat>(
     ensures told { IsTrue (D.state device.old).honest → FailsForLack (D.state device.old) result → IsRead name.now whole (F.files format.now) (F.meaning format.now) (D.state device.old) result }
 {
     match read(alloc, device, format, name, whole) {
-        Ok(content) => Reply::Bytes(content),
+        Ok(content) => Reply::content(content),
         Err(error) => refusal_reply(error),
     }
 }

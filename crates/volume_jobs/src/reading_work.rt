@@ -6,7 +6,7 @@ ghost use Rattle.volume_jobs.specs.Reading.{FailsForLack, IsReading, tells_devic
 ghost use Rattle.volume_jobs.specs.Work.{IsWorkReply, work_view};
 
 use crate::check::check_reply;
-use crate::listing::catalog_reply;
+use crate::listing::{ShownFormat, catalog_reply};
 use crate::plan::plan_reply;
 use crate::plan_words::plan_words_reply;
 use crate::reading::read_reply;
@@ -14,30 +14,27 @@ use crate::verify::verify_reply;
 use crate::volume::Work;
 use a2_device::Device;
 use job_reply::Reply;
-use reserved_places::PlaceForm;
-use save_formats::SavableFormat;
 use std::alloc::Global;
 
 /// The reply to work that only reads the volume of a device. Each failure of the device is told, and nothing else is told as one.
-pub fn reading_reply<D: Device, F: SavableFormat>(
+pub fn reading_reply<D: Device, F: ShownFormat>(
     alloc: Global,
     work: Work<'_>,
     device: &mut D,
     format: &F,
-    form: PlaceForm,
 ) -> Reply
     requires reading { IsReading (work_view work) }
     requires unit { (D.state device.old).unit_size ≡ (F.meaning format.now).unit_size }
     requires places { (F.meaning format.now).Takes (D.state device.old).places }
     ensures reads { OnlyReads (tells_device result) (D.state device.old) (D.state device.new) }
     ensures told { IsTrue (D.state device.old).honest → FailsForLack (D.state device.old) result
-        → IsWorkReply (work_view work.entry) form (F.files format.now) (edit_rules (F.edits format.now) (F.names format.now) (F.erasures format.now) (F.saves format.now))
+        → IsWorkReply (work_view work.entry) (F.form format.now) (F.files format.now) (edit_rules (F.edits format.now) (F.names format.now) (F.erasures format.now) (F.saves format.now))
         (F.meaning format.now) (D.state device.old) result }
 {
     match work {
-        Work::Catalog => catalog_reply(alloc, device, format, form),
+        Work::Catalog => catalog_reply(alloc, device, format),
         Work::Read { name, whole } => read_reply(alloc, device, format, name, whole),
-        Work::Check => check_reply(alloc, device, format, form),
+        Work::Check => check_reply(alloc, device, format, format.form()),
         Work::Plan {
             reclaim,
             words: false,
@@ -45,7 +42,7 @@ pub fn reading_reply<D: Device, F: SavableFormat>(
         Work::Plan {
             reclaim,
             words: true,
-        } => plan_words_reply(alloc, device, format, form, reclaim),
+        } => plan_words_reply(alloc, device, format, format.form(), reclaim),
         Work::Verify {
             reclaim,
             certificate,

@@ -95,7 +95,7 @@ fn units_reply<F: SavableFormat>(
 {
     let mut device = device;
     match save_file(alloc, &mut device, format, path, given, file) {
-        Ok(()) => Reply::Made(image_bytes(device)),
+        Ok(()) => Reply::made(image_bytes(device)),
         Err(error) => edit_refusal_reply(error),
     }
 }
@@ -116,11 +116,11 @@ pub fn save_reply<F: SavableFormat>(
         → IsSaved path.now (given_view given.entry) (F.saves format.now) (F.meaning format.now) (⟦<ImageDevice as Device>⟧.state device) result }
 {
     if given.bytes.len() > MOST_INPUT {
-        return Reply::Refused(Refusal::InputTooLong);
+        return Reply::refused(Refusal::InputTooLong);
     }
     match file_units(alloc, &given, device.unit()) {
         Ok(file) => units_reply(alloc, device, format, path, &given, &file),
-        Err(GivenError::TooLong) => Reply::Refused(Refusal::TooLong),
-        Err(GivenError::Memory) => Reply::Failed(Failure::Memory),
+        Err(GivenError::TooLong) => Reply::refused(Refusal::TooLong),
+        Err(GivenError::Memory) => Reply::failed(Failure::Memory),
     }
 }

@@ -43,12 +43,12 @@ fn fault_reply(alloc: Global, fault: CertFault) -> Reply
     ensures { TellsFault fault result }
 {
     if fault == CertFault::Memory {
-        return Reply::Failed(Failure::Memory);
+        return Reply::failed(Failure::Memory);
     }
     let name = FaultName(fault);
     match format!(in alloc; "REFUSED {name}\n") {
-        Ok(text) => Reply::Faulty(text),
-        Err(_) => Reply::Failed(Failure::Memory),
+        Ok(text) => Reply::wrong(text),
+        Err(_) => Reply::failed(Failure::Memory),
     }
 }
 
@@ -57,11 +57,11 @@ fn no_text_reply(alloc: Global, error: CertError) -> Reply
     ensures { TellsNoText error result }
 {
     let CertError::Syntax(line) = error else {
-        return Reply::Failed(Failure::Memory);
+        return Reply::failed(Failure::Memory);
     };
     match format!(in alloc; "REFUSED Syntax {line}\n") {
-        Ok(text) => Reply::Faulty(text),
-        Err(_) => Reply::Failed(Failure::Memory),
+        Ok(text) => Reply::wrong(text),
+        Err(_) => Reply::failed(Failure::Memory),
     }
 }
 
@@ -78,8 +78,8 @@ pub fn verdict_reply(alloc: Global, layout: &Layout, text: &[u8]) -> Reply
     }
     let bound = cert.bound;
     match format!(in alloc; "OPTIMAL {bound}\n") {
-        Ok(text) => Reply::Done(text),
-        Err(_) => Reply::Failed(Failure::Memory),
+        Ok(text) => Reply::done(text),
+        Err(_) => Reply::failed(Failure::Memory),
     }
 }
 
@@ -97,7 +97,7 @@ pub fn verify_reply<D: Device, F: Format>(
     ensures told { IsTrue (D.state device.old).honest → FailsForLack (D.state device.old) result → IsVerified reclaim text.now (F.meaning format.now) (D.state device.old) result }
 {
     if text.len() > MOST_CERTIFICATE {
-        return Reply::Refused(Refusal::InputTooLong);
+        return Reply::refused(Refusal::InputTooLong);
     }
     match Opening::read(alloc, device, format, Options { reclaim }) {
         Ok(opening) => verdict_reply(alloc, &opening.layout, text),

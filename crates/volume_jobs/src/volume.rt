@@ -2,17 +2,18 @@
 ghost use Rattle.std.specs.Prelude.{◌≡◌, ◌⊎◌, [], None, Some, IsTrue, false, IfOk, IfErr, option_map};
 ghost use Rattle.a2_image.specs.Image.{IsOfDisk};
 ghost use Rattle.reserved_places.specs.declared.error.ReserveError.TheVariants.{Syntax};
-ghost use Rattle.shop_words.specs.declared.job.FileSystem.TheVariants.{Dos as OfDos, Prodos as OfProdos};
+ghost use Rattle.shop_jobs.specs.declared.job.FileSystem.TheVariants.{Dos as OfDos, Prodos as OfProdos};
 ghost use Rattle.image_volume.specs.Volume.{device_of, form_of as form_by, meaning_of};
 ghost use Rattle.volume_jobs.specs.EditRules.{edit_rules};
 ghost use Rattle.volume_jobs.specs.Refusals.{reply_to_reserve};
 ghost use Rattle.volume_jobs.specs.FileSystems.{edits_of, files_of};
 ghost use Rattle.volume_jobs.specs.VolumeReply.{IsVolumeReply, NamesPlaces, ReservesNamed};
 ghost use Rattle.volume_jobs.specs.Work.{IsWorkReply, work_view};
-ghost use Rattle.job_reply.specs.declared.reply.Reply.TheVariants.{Failed as AFailed};
-ghost use Rattle.job_reply.specs.declared.reply.Failure.TheVariants.{Memory as OfMemory};
+ghost use Rattle.job_reply.specs.Reply.{failed};
+ghost use Rattle.job_reply.specs.declared.refusal.Failure.TheVariants.{Memory as OfMemory};
 
 use crate::edit::edit_reply;
+use crate::listing::ShownFormat;
 use crate::optimize::optimize_reply;
 use crate::reading_work::reading_reply;
 use crate::save::save_reply;
@@ -24,8 +25,7 @@ use image_volume::{form_of, open_volume};
 use job_reply::{Failure, Refusal, Reply};
 use pro_format::Prodos;
 use reserved_places::{PlaceForm, ReserveError, Reserved};
-use save_formats::SavableFormat;
-use shop_words::{Edit, FileSystem, VolumeOptions};
+use shop_jobs::{Edit, FileSystem, VolumeOptions};
 use std::alloc::Global;
 
 /// The reply to a text of places to reserve that is not taken.
@@ -33,8 +33,8 @@ pub fn reserve_reply(error: ReserveError) -> Reply
     ensures { result ≡ reply_to_reserve error }
 {
     match error {
-        ReserveError::Syntax => Reply::Refused(Refusal::Reserve),
-        ReserveError::Memory => Reply::Failed(Failure::Memory),
+        ReserveError::Syntax => Reply::refused(Refusal::Reserve),
+        ReserveError::Memory => Reply::failed(Failure::Memory),
     }
 }
 
@@ -96,18 +96,17 @@ pub fn reserved_by(
 }
 
 // The reply to work on the volume of a device.
-fn work_reply<F: SavableFormat>(
+fn work_reply<F: ShownFormat>(
     alloc: Global,
     work: Work<'_>,
     device: ImageDevice,
     format: &F,
-    form: PlaceForm,
 ) -> Reply
     requires unit { (⟦<ImageDevice as Device>⟧.state device).unit_size ≡ (F.meaning format.now).unit_size }
     requires places { (F.meaning format.now).Takes (⟦<ImageDevice as Device>⟧.state device).places }
     ensures { IsTrue (⟦<ImageDevice as Device>⟧.state device).honest → (⟦<ImageDevice as Device>⟧.state device).read_failures ≡ Some 0
         → (⟦<ImageDevice as Device>⟧.state device).write_failures ≡ Some [] → (⟦<ImageDevice as Device>⟧.state device).passes ≡ None → (⟦<ImageDevice as Device>⟧.state device).writes ≡ 0
-        → IsWorkReply (work_view work.entry) form (F.files format.now) (edit_rules (F.edits format.now) (F.names format.now) (F.erasures format.now) (F.saves format.now)) (F.meaning format.now) (⟦<ImageDevice as Device>⟧.state device) result }
+        → IsWorkReply (work_view work.entry) (F.form format.now) (F.files format.now) (edit_rules (F.edits format.now) (F.names format.now) (F.erasures format.now) (F.saves format.now)) (F.meaning format.now) (⟦<ImageDevice as Device>⟧.state device) result }
 {
     let mut device = device;
     match work {
@@ -115,7 +114,7 @@ fn work_reply<F: SavableFormat>(
         Work::Edit { edit, name } => edit_reply(alloc, device, format, edit, name),
         Work::Save { path, given } => save_reply(alloc, device, format, path, given),
         Work::Catalog | Work::Read { .. } | Work::Check | Work::Plan { .. } | Work::Verify { .. } =>
-            reading_reply(alloc, work, &mut device, format, form),
+            reading_reply(alloc, work, &mut device, format),
     }
 }
 
@@ -128,18 +127,12 @@ fn dos_reply(
     reserved: Reserved,
 ) -> Reply
     requires { IsOfDisk disk }
-    ensures { (result ≡ AFailed OfMemory) ⊎ IsWorkReply (work_view work.entry) (form_by OfDos) (files_of OfDos) (edits_of OfDos) (meaning_of OfDos data_disk reserved) (device_of OfDos disk) result }
+    ensures { (result ≡ failed OfMemory) ⊎ IsWorkReply (work_view work.entry) (form_by OfDos) (files_of OfDos) (edits_of OfDos) (meaning_of OfDos data_disk reserved) (device_of OfDos disk) result }
 {
     let Ok(format) = Dos33::new(alloc, data_disk, reserved) else {
-        return Reply::Failed(Failure::Memory);
+        return Reply::failed(Failure::Memory);
     };
-    work_reply(
-        alloc,
-        work,
-        ImageDevice::dos(disk),
-        &format,
-        PlaceForm::Sector,
-    )
+    work_reply(alloc, work, ImageDevice::dos(disk), &format)
 }
 
 // The reply to work on the ProDOS volume of an image.
@@ -150,7 +143,7 @@ fn prodos_reply(alloc: Global, work: Work<'_>, image: Image, reserved: Reserved)
     // An image has 16 to 65,535 blocks.
     let _blocks = image.blocks();
     let device = ImageDevice::prodos(image);
-    work_reply(alloc, work, device, &format, PlaceForm::Block)
+    work_reply(alloc, work, device, &format)
 }
 
 /// The reply to work on the volume in an image of this order. The words may reserve places, as sectors or as blocks.

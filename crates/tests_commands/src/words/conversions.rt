@@ -1,6 +1,7 @@
 // The words of conversions.
 use super::{asks, refuses};
-use shop_words::{ImageOrder, Job, WordsFault};
+use shop_jobs::{ImageOrder, Job};
+use shop_words::WordsFault;
 use std::alloc::{AllocError, Global};
 use std::process::Abort;
 use std::test::Fail;

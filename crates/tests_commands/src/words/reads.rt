@@ -1,6 +1,7 @@
 // The words of reads.
 use super::asks;
-use shop_words::{FileSystem, ImageOrder, Job, VolumeOptions, WordsFault};
+use shop_jobs::{FileSystem, ImageOrder, Job, VolumeOptions};
+use shop_words::WordsFault;
 use std::alloc::Global;
 use std::process::Abort;
 use std::test::Fail;

@@ -1,4 +1,4 @@
-use Rattle.shop_words.specs.declared.job.FileSystem.TheVariants.{Prodos}
+use Rattle.shop_jobs.specs.declared.job.FileSystem.TheVariants.{Prodos}
 use Rattle.image_volume.specs.Volume.{device_of}
 use Rattle.image_readings.proofs.Stopped.{told_none}
 use Rattle.image_readings.proofs.volume.prodos_finding.Goals as goal

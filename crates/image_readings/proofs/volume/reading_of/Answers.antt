@@ -1,5 +1,5 @@
 use Rattle.std.proofs.Common.{sym, subst, List, ℕ}
-use Rattle.shop_words.specs.declared.job.FileSystem.{FileSystem}
+use Rattle.shop_jobs.specs.declared.job.FileSystem.{FileSystem}
 use Rattle.image_volume.specs.Volume.{IsImageOf, device_of}
 use Rattle.image_readings.specs.Readings.{IsToldOf}
 use Rattle.image_readings.proofs.volume.reading_of.Goals as goal

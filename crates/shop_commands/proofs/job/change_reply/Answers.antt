@@ -1,5 +1,5 @@
 use Rattle.std.proofs.Common.{option_map}
-use Rattle.shop_words.specs.Job.{job_view}
+use Rattle.shop_jobs.specs.Job.{job_view}
 use Rattle.volume_jobs.specs.Work.{work_view}
 use Rattle.shop_commands.proofs.Asked.{asked_told}
 use Rattle.shop_commands.proofs.job.change_reply.Goals as goal

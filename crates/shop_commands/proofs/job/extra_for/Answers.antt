@@ -1,6 +1,6 @@
 use Rattle.std.proofs.Common.{◌≡◌, false, inr, sym, subst}
-use Rattle.shop_words.specs.Job.{job_view}
-use Rattle.shop_words.specs.declared.job.Job.{Job}
+use Rattle.shop_jobs.specs.Job.{job_view}
+use Rattle.shop_jobs.specs.declared.job.Job.{Job}
 use Rattle.shop_commands.specs.Answer.{ReadsExtra, is_in_place}
 use Rattle.shop_commands.proofs.job.extra_for.Goals as goal
 

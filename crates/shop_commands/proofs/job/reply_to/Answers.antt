@@ -1,7 +1,7 @@
 use Rattle.std.proofs.Common.{◌∙◌, ap, sym, subst, ℕ, List, Some, None}
 use Rattle.a2_image.specs.declared.order.Order.{Order}
-use Rattle.shop_words.specs.Job.{job_view}
-use Rattle.shop_words.specs.declared.job.Job.{Job}
+use Rattle.shop_jobs.specs.Job.{job_view}
+use Rattle.shop_jobs.specs.declared.job.Job.{Job}
 use Rattle.shop_commands.specs.Answer.{IsReplyToBytes, image_order_of}
 use Rattle.image_volume.specs.Volume.{form_of}
 use Rattle.volume_jobs.specs.FileSystems.{edits_of, files_of}

@@ -1,7 +1,8 @@
 use Rattle.std.proofs.Common.{◌≡◌, sym, ap, subst, IfOk, List, Option, option_map}
 use Rattle.clap.specs.Walk.{Row}
 use Rattle.shop_words.specs.Table.{Text}
-use Rattle.shop_words.specs.Job.{found_job, job_view}
+use Rattle.shop_jobs.specs.Job.{job_view}
+use Rattle.shop_words.specs.Job.{found_job}
 use Rattle.shop_words.proofs.AskedLemmas.{pairs-none, pairs-some}
 use Rattle.shop_words.proofs.reading.job_in.Goals as goal
 

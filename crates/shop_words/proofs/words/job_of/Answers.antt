@@ -2,7 +2,8 @@ use Rattle.std.proofs.Common.{◌∙◌, sym, ap, subst, inr, map, option_map, s
 use Rattle.clap.specs.Faults.{fault_of, is_simple_and_free}
 use Rattle.clap.specs.Kinds.{HasKind, Kinds}
 use Rattle.clap.specs.Simple.{App, is_simple, subcommand_of}
-use Rattle.shop_words.specs.Job.{found_job, job_view}
+use Rattle.shop_jobs.specs.Job.{job_view}
+use Rattle.shop_words.specs.Job.{found_job}
 use Rattle.shop_words.proofs.AskedLemmas.{none_is_not_some}
 use Rattle.shop_words.proofs.FaultLemmas.{told_fault, unfit}
 use Rattle.shop_words.proofs.PlainTable.{is_simple-shop, is_simple_and_free-shop}

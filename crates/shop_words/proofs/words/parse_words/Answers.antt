@@ -2,7 +2,8 @@ use Rattle.std.proofs.Common.{◌≡◌, ◌∙◌, sym, ap, subst, IfOk, IsSome
 use Rattle.clap.specs.Simple.{subcommand_of}
 use Rattle.clap.specs.Takes.{takes}
 use Rattle.shop_words.specs.Grammar.{shop}
-use Rattle.shop_words.specs.Job.{found_job, JobView, job_view}
+use Rattle.shop_jobs.specs.Job.{JobView, job_view}
+use Rattle.shop_words.specs.Job.{found_job}
 use Rattle.shop_words.specs.Table.{Text}
 use Rattle.shop_words.proofs.AskedLemmas.{asked_job-line, meant_words-some, plain_taken}
 use Rattle.shop_words.proofs.words.parse_words.Goals as goal

@@ -1,5 +1,5 @@
 use Rattle.std.proofs.Common.{◌∙◌, ap, sym, Some}
-use Rattle.shop_words.specs.Job.{catalog}
+use Rattle.shop_jobs.specs.Job.{catalog}
 use Rattle.shop_words.proofs.AskedLemmas.{asked_job-none}
 use Rattle.shop_words.proofs.words.standard_job.Goals as goal
 

@@ -1,6 +1,7 @@
 use Rattle.std.proofs.Common.{inl, inr}
 use Rattle.vol_opening.specs.Opening.{told_in}
 use Rattle.volume_jobs.proofs.Unopened.{unopened}
+use Rattle.volume_jobs.proofs.Quiet.{opening_reads, text_reads}
 use Rattle.volume_jobs.proofs.plan_words.plan_words_reply.Goals as goal
 
 pub returns-in-Ok-clause-told : goal.returns-in-Ok-clause-told
@@ -26,3 +27,12 @@ returns-in-Ok-clause-told g c = λ honest lack.
 pub returns-in-Err-clause-told : goal.returns-in-Err-clause-told
 returns-in-Err-clause-told g c = λ honest lack.
     inr (unopened c.args.reclaim (g.F.Format.meaning c.args.format.now) (g.D.Device.state c.args.device.now) c.in-Err.error c.unopened_reply.result lack (c.in-Err.ensures.refused honest) c.unopened_reply.ensures)
+
+pub returns-in-Ok-clause-reads : goal.returns-in-Ok-clause-reads
+returns-in-Ok-clause-reads g c =
+    text_reads c.words_reply.result (g.D.Device.state c.args.device.now) (g.D.Device.state c.read.new.device) c.words_reply.ensures c.in-Ok.ensures.device
+
+pub returns-in-Err-clause-reads : goal.returns-in-Err-clause-reads
+returns-in-Err-clause-reads g c =
+    opening_reads c.unopened_reply.result (g.D.Device.state c.args.device.now) (g.D.Device.state c.read.new.device)
+    c.in-Err.error c.unopened_reply.ensures c.in-Err.ensures.device

@@ -1,6 +1,7 @@
 use Rattle.std.proofs.Common.{arith, tests, inl, inr}
 use Rattle.vol_opening.specs.Opening.{told_in}
 use Rattle.volume_jobs.proofs.Unopened.{unopened}
+use Rattle.volume_jobs.proofs.Quiet.{opening_reads}
 use Rattle.volume_jobs.proofs.verify.verify_reply.Goals as goal
 
 pub returns-in-Ok-clause-told : goal.returns-in-Ok-clause-told
@@ -29,3 +30,8 @@ returns-in-Err-clause-told g c = λ honest lack. inr (
   omega (arith, tests, c.if-text-gt-MOST_CERTIFICATE.false),
   inr (unopened c.args.reclaim (g.F.Format.meaning c.args.format.now) (g.D.Device.state c.args.device.now) c.in-Err.error c.unopened_reply.result lack (c.in-Err.ensures.refused honest) c.unopened_reply.ensures),
 )
+
+pub returns-in-Err-clause-reads : goal.returns-in-Err-clause-reads
+returns-in-Err-clause-reads g c =
+    opening_reads c.unopened_reply.result (g.D.Device.state c.args.device.now) (g.D.Device.state c.read.new.device)
+    c.in-Err.error c.unopened_reply.ensures c.in-Err.ensures.device

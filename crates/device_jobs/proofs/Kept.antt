@@ -1,0 +1,96 @@
+-- Work that is not done, where no failure of the device is told, leaves the device as it was.
+use Rattle.std.proofs.Common.{◌≡◌, ◌≢◌, ◌∙◌, ℕ, Bool, refl, sym, ap, subst, inl, inr, List}
+use Rattle.std.specs.Prelude.{◌⊎◌, IsTrue, Option, Result, Ok, Err}
+use Rattle.std.specs.declared.alloc.Global.{Global}
+use Rattle.a2_device.specs.Device.{DeviceState}
+use Rattle.vol_format.specs.Meaning.{Meaning}
+use Rattle.file_cmds.specs.Files.{FileMeaning}
+use Rattle.file_edits.specs.declared.error.EditError.{EditError}
+use Rattle.file_edits.specs.declared.error.EditError.TheVariants as edits
+use Rattle.vol_mover.specs.Optimizing.{IsRefused}
+use Rattle.vol_mover.specs.declared.report.OptError.{OptError}
+use Rattle.vol_mover.specs.declared.report.OptError.TheVariants.{Open, Step, Memory}
+use Rattle.vol_opening.specs.declared.error.OpenError.TheVariants as opens
+use Rattle.job_reply.specs.declared.refusal.Failure.TheVariants as failures
+use Rattle.job_reply.specs.declared.refusal.Refusal.TheVariants as refusals
+use Rattle.job_reply.specs.declared.reply.Reply.{Reply}
+use Rattle.job_reply.specs.Reply.{failed, refused}
+use Rattle.image_volume.specs.Volume.{form_of, meaning_of}
+use Rattle.shop_jobs.specs.declared.job.FileSystem.{FileSystem}
+use Rattle.volume_jobs.specs.EditRules.{EditRules}
+use Rattle.volume_jobs.specs.FileSystems.{edits_of, files_of}
+use Rattle.volume_jobs.specs.VolumeReply.{ReservesNamed}
+use Rattle.volume_jobs.specs.Work.{WorkView, Catalog, Read, Check, Plan, Optimize, Change, Save, Verify}
+use Rattle.device_jobs.specs.Changing.{IsChangeOutcome, IsWorkOutcome}
+use Rattle.device_jobs.specs.EditOutcome.{TellsEdit}
+use Rattle.device_jobs.specs.OptimizeOutcome.{IsOptimizeOutcome, TellsError}
+use Rattle.device_jobs.specs.declared.outcome.Outcome.{Outcome}
+use Rattle.device_jobs.specs.declared.outcome.Outcome.TheVariants.{Optimized, Changed, Unfinished}
+
+same_reply : (a b : Reply) → Unfinished a ≡ Unfinished b → a ≡ b
+same_reply a b is = cc
+
+module _ (old new : DeviceState) (honest : IsTrue old.honest) (reply : Reply) (quiet : reply ≢ failed failures.Device) where
+  error_kept : (format : Meaning) (reclaim : Bool) (limit : ℕ) (error : OptError Global) (told : Reply) → told ≡ reply → TellsError error told
+      → IsRefused format (record { reclaim = reclaim }) limit old new error → new ≡ old
+  error_kept format reclaim limit (Open (opens.Check faults)) told same tells refused = refused.0.kept honest refl
+  error_kept format reclaim limit (Open (opens.Lost count)) told same tells refused = refused.0.kept honest refl
+  error_kept format reclaim limit (Open opens.NoFreePlace) told same tells refused = refused.0.kept honest refl
+  error_kept format reclaim limit (Open opens.Device) told same tells refused = absurd (quiet (sym same ∙ tells))
+  error_kept format reclaim limit (Open opens.Memory) told same tells refused = refused.0.kept honest refl
+  error_kept format reclaim limit (Step error) told same tells refused = absurd (quiet (sym same ∙ tells))
+  error_kept format reclaim limit Memory told same tells refused = refused.2 ∙ refused.1.reads.kept honest refl
+
+  optimize_kept : (format : Meaning) (reclaim : Bool) (limit : ℕ) (outcome : Outcome) → IsOptimizeOutcome reclaim limit format old new outcome → outcome ≡ Unfinished reply → new ≡ old
+  optimize_kept format reclaim limit (Optimized report) is told = absurd (let e : Optimized report ≡ Unfinished reply = told in cc)
+  optimize_kept format reclaim limit Changed is told = absurd is
+  optimize_kept format reclaim limit (Unfinished answer) is told = error_kept format reclaim limit is.0 answer (same_reply answer reply told) is.2 is.1
+
+  edit_kept : (result : Result (Unit {0}) EditError) (outcome : Outcome) → TellsEdit result outcome
+      → ((error : EditError) → result ≡ Err error → error ≢ edits.Device → new ≡ old) → outcome ≡ Unfinished reply → new ≡ old
+  edit_kept (Ok done) outcome tells refused told = absurd (let e : Changed ≡ Unfinished reply = sym tells ∙ told in cc)
+  edit_kept (Err edits.Device) outcome tells refused told = absurd (quiet (same_reply reply (failed failures.Device) (sym told ∙ tells)))
+  edit_kept (Err edits.Check) outcome tells refused told = refused edits.Check refl (λ is. cc)
+  edit_kept (Err edits.NotFound) outcome tells refused told = refused edits.NotFound refl (λ is. cc)
+  edit_kept (Err edits.Name) outcome tells refused told = refused edits.Name refl (λ is. cc)
+  edit_kept (Err edits.Exists) outcome tells refused told = refused edits.Exists refl (λ is. cc)
+  edit_kept (Err edits.Locked) outcome tells refused told = refused edits.Locked refl (λ is. cc)
+  edit_kept (Err edits.TooLong) outcome tells refused told = refused edits.TooLong refl (λ is. cc)
+  edit_kept (Err edits.DirFull) outcome tells refused told = refused edits.DirFull refl (λ is. cc)
+  edit_kept (Err edits.VolumeFull) outcome tells refused told = refused edits.VolumeFull refl (λ is. cc)
+  edit_kept (Err edits.Memory) outcome tells refused told = refused edits.Memory refl (λ is. cc)
+
+  pub work_kept : (work : WorkView) (files : FileMeaning) (rules : EditRules) (format : Meaning) (outcome : Outcome) → IsWorkOutcome work files rules format old new outcome
+      → outcome ≡ Unfinished reply → new ≡ old
+  work_kept Catalog files rules format outcome is told = absurd is
+  work_kept (Read name whole) files rules format outcome is told = absurd is
+  work_kept Check files rules format outcome is told = absurd is
+  work_kept (Plan reclaim in_words) files rules format outcome is told = absurd is
+  work_kept (Optimize reclaim limit) files rules format outcome is told = optimize_kept format reclaim limit outcome is told
+  work_kept (Change edit name) files rules format outcome is told = edit_kept is.result outcome is.told (is.edited.refused honest) told
+  work_kept (Save path given) files rules format outcome is told = elim is [
+    | inl long ↦ long.2
+    | inr (inl long) ↦ long.3
+    | inr (inr (inl memory)) ↦ memory.2
+    | inr (inr (inr tried)) ↦ edit_kept tried.2.result outcome tried.2.told (tried.2.edited.refused honest) told
+  ]
+  work_kept (Verify reclaim bytes) files rules format outcome is told = absurd is
+
+-- what a format's work makes of a volume, or want of memory for the format
+module _ (file_system : FileSystem) (data_disk : Bool) (reserved : List Bool) (work : WorkView) (old new : DeviceState) (outcome : Outcome) where
+  abbrev pub IsMadeOf : Type 0
+  IsMadeOf = ((outcome ≡ Unfinished (failed failures.Memory)) × (new ≡ old))
+      ⊎ IsWorkOutcome work (files_of file_system) (edits_of file_system) (meaning_of file_system data_disk reserved) old new outcome
+
+  pub was_changed : (reserve : Option (List ℕ)) → ReservesNamed (form_of file_system) reserve reserved → IsMadeOf
+      → IsChangeOutcome file_system data_disk reserve (IsWorkOutcome work (files_of file_system) (edits_of file_system)) old new outcome
+  was_changed reserve named made = record {
+    tried = elim made [
+      | inl memory ↦ inr (inl memory)
+      | inr works ↦ inr (inr (reserved, named, works))
+    ];
+    kept = λ honest reply told quiet. elim made [
+      | inl memory ↦ memory.1
+      | inr works ↦ work_kept old new honest reply quiet work (files_of file_system) (edits_of file_system) (meaning_of file_system data_disk reserved) outcome works told
+    ];
+  }

@@ -1,0 +1,76 @@
+// How a job with output files ends.
+use crate::output::Output;
+use job_reply::{FAILED, Failure, Reply, written};
+use std::io::{ErrorKind, Write};
+
+// The certificate in what is told of a volume that was brought into order: all behind the first line.
+fn certificate_in(told: &[u8]) -> &[u8] {
+    match told.iter().position(|byte| *byte == b'\n') {
+        Some(end) => &told[end + 1..],
+        None => &[],
+    }
+}
+
+/// Ends a job that has told its text to memory and handed its image to a file: the certificate of a job that is done is written
+/// to its own file, both are put onto the disk, then the text is told, and then they take their places. Where one of these
+/// fails, what stood at the places stands, and the answer is 4; of an image that is not on the disk, nothing is told.
+///
+/// The certificate takes its place first. It tells the layout of the image that stood there before, so where the image can't
+/// take its own place then, it is good for the one that stands.
+pub fn settle<T: Write>(
+    mut out: Output<'_>,
+    mut certificate: Output<'_>,
+    status: u8,
+    told: &[u8],
+    text: &mut T,
+) -> u8 {
+    if out.is_empty() {
+        return tell(status, told, text);
+    }
+    if status == 0 {
+        // A failure stays with the file, which then can't be put onto the disk.
+        let _ = certificate.write_all(certificate_in(told));
+    }
+    let flushed = flush_both(&mut out, &mut certificate);
+    if flushed == Err(ErrorKind::OutOfMemory) {
+        discard_both(out, certificate);
+        return Reply::failed(Failure::Memory).tell(text);
+    }
+    if flushed.is_err() || written(told, status, text) != status {
+        discard_both(out, certificate);
+        return FAILED;
+    }
+    if take_both_places(out, certificate) {
+        status
+    } else {
+        FAILED
+    }
+}
+
+// Puts both files onto the disk.
+fn flush_both(out: &mut Output<'_>, certificate: &mut Output<'_>) -> Result<(), ErrorKind> {
+    out.flush_to_disk().map_err(|error| error.kind())?;
+    certificate.flush_to_disk().map_err(|error| error.kind())
+}
+
+// Puts both files into their places, and answers whether that was done.
+fn take_both_places(out: Output<'_>, certificate: Output<'_>) -> bool {
+    if certificate.take_place().is_err() {
+        out.discard();
+        return false;
+    }
+    out.take_place().is_ok()
+}
+
+fn discard_both(out: Output<'_>, certificate: Output<'_>) {
+    out.discard();
+    certificate.discard();
+}
+
+// Tells the text of a job that handed no image out. A text that found no room in memory is told as that.
+fn tell<T: Write>(status: u8, told: &[u8], text: &mut T) -> u8 {
+    if status == FAILED && told.is_empty() {
+        return Reply::failed(Failure::Memory).tell(text);
+    }
+    written(told, status, text)
+}
