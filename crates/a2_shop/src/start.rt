@@ -116,10 +116,12 @@ fn run_telling<T: Write>(rt: &HostRuntime, text: &mut T) -> u8 {
 }
 
 /// Does what the program's words ask for, and answers its status. Standard output is written through a buffer, so that a listing is
-/// not written a line at a time.
+/// not written a line at a time. What a write that failed has left in the buffer is not written again.
 pub fn run(rt: &HostRuntime) -> u8 {
-    match BufWriter::new(rt.alloc(), rt.stdout()) {
-        Ok(mut text) => run_telling(rt, &mut text),
-        Err(_) => Reply::failed(Failure::Memory).tell(&mut rt.stdout()),
-    }
+    let Ok(mut text) = BufWriter::new(rt.alloc(), rt.stdout()) else {
+        return Reply::failed(Failure::Memory).tell(&mut rt.stdout());
+    };
+    let status = run_telling(rt, &mut text);
+    let _ = text.into_parts();
+    status
 }
