@@ -32,5 +32,6 @@ pub use format::FileFormat;
 pub use law::{a_read_answers_by_the_list_of_files, answers_exclude_one_another};
 pub use listing::{ListEntry, Listing};
 pub use name::StoredName;
-pub use pro_lines::ProLines;
+pub use pro::listed_entry;
+pub use pro_lines::{ProLines, most_path_bytes};
 pub use reading::read;

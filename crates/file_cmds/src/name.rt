@@ -44,8 +44,8 @@ impl<A: Allocator> StoredName<A> {
         self.bytes.as_slice()
     }
 
-    // The bytes, in their vector.
-    pub(crate) fn into_bytes(self) -> Vec<u8, A>
+    /// The bytes, in their vector.
+    pub fn into_bytes(self) -> Vec<u8, A>
         ensures { result.items ≡ self }
     {
         self.bytes

@@ -3,7 +3,7 @@ ghost use Rattle.std.specs.Prelude.{◌≡◌, ◌<◌, IfOk, OnOk};
 ghost use Rattle.pro_format.specs.Pro.{directory_with};
 ghost use Rattle.pro_format.specs.ProVolume.{map_in, system_of, tree_of};
 ghost use Rattle.vol_format.specs.Directory.{entries, entry_of};
-ghost use Rattle.file_cmds.specs.ProLines.{directory_in, line_in};
+ghost use Rattle.file_cmds.specs.ProLines.{directory_in, line_in, most_path_bytes};
 ghost use Rattle.file_cmds.specs.ProText.{entry_line, first_line, last_line};
 
 use crate::pro::listed_entry;
@@ -20,6 +20,14 @@ const MOST_BLOCKS: usize = 65_535;
 
 /// The most bytes that a line takes beside its path.
 const LINE_BYTES: usize = 64;
+
+/// The most bytes that the path of a file of a volume has.
+pub fn most_path_bytes<A: Allocator>(volume: &ProVolume<A>) -> usize
+    ensures { result ≡ most_path_bytes (tree_of volume.now) }
+{
+    let directories = volume.directory().blocks().len().min(MOST_BLOCKS);
+    NAME_BYTES * (directories + 1)
+}
 
 /// The lines of the listing of a ProDOS volume that was read, made one at a time. The room for the longest is taken first, so that
 /// no line that is made later wants memory.
@@ -39,8 +47,7 @@ impl<A: Allocator + Copy> ProLines<A> {
     pub fn new(alloc: A, volume: ProVolume<A>) -> Result<ProLines<A>, AllocError>
         ensures { IfOk result (λ lines. directory_in lines ≡ directory_with (system_of volume) (tree_of volume) (map_in volume).units) }
     {
-        let directories = volume.directory().blocks().len().min(MOST_BLOCKS);
-        let most = NAME_BYTES * (directories + 1);
+        let most = most_path_bytes(&volume);
         let path = Vec::with_capacity(alloc, most)?;
         let line = String::with_capacity(alloc, most + LINE_BYTES)?;
         Ok(ProLines {

@@ -5,8 +5,6 @@ use Rattle.std.proofs.Math.ListN.{drop}
 use Rattle.std.proofs.Math.Seq.{take-add}
 use Rattle.std.proofs.lemmas.List.{append-nil, take-append-drop}
 use Rattle.std.specs.Io.KnownBytes.{Appends, Keeps}
-use Rattle.vol_format.specs.Directory.{Directory, entries, entry_of, no_entry}
-use Rattle.file_cmds.specs.ProText.{entry_line}
 use Rattle.job_reply.specs.Reply.{AppendsFront}
 
 pub appends_on : (old mid new : Option (List ℕ)) (bytes : List ℕ) (n m : ℕ) → Appends old mid (take n bytes) → Appends mid new (take m (drop n bytes))
@@ -74,22 +72,20 @@ texts_on f (x ∷ items) (suc at) d within =
 pub all_front : (old new : Option (List ℕ)) (text : List ℕ) → Appends old new text → AppendsFront old new text
 all_front old new text grown = as_front old new text [] text (sym (append-nil text)) grown
 
--- the lines of the entries of a directory: a front of the next one's behind those before it, and all of it
-module _ (directory now : Directory) (at : ℕ) (old mid new : Option (List ℕ)) (same : now ≡ directory) (within : at < entries directory)
-    (before : Appends old mid (flat_map entry_line (take at directory.listed))) where
-  pub lines_stopped : AppendsFront mid new (entry_line (entry_of now at)) → AppendsFront old new (flat_map entry_line directory.listed)
-  lines_stopped front =
-      subst (λ text. AppendsFront old new text) (sym (texts_at entry_line directory.listed at no_entry within))
-      (front_before old new (flat_map entry_line (take at directory.listed) ++ entry_line (entry_of directory at)) (flat_map entry_line (drop (suc at) directory.listed))
-      (front_behind old mid new (flat_map entry_line (take at directory.listed)) (entry_line (entry_of directory at)) before
-      (subst (λ d. AppendsFront mid new (entry_line (entry_of d at))) same front)))
+-- the texts of some items in turn: a front of the next one's behind those before it, and all of it
+module _ {X : Type 0} (f : X → List ℕ) (items : List X) (d : X) (at : ℕ) (old mid new : Option (List ℕ)) (within : at < length items)
+    (before : Appends old mid (flat_map f (take at items))) where
+  pub texts_stopped : AppendsFront mid new (f (slice_index_or items at d)) → AppendsFront old new (flat_map f items)
+  texts_stopped front =
+      subst (λ text. AppendsFront old new text) (sym (texts_at f items at d within))
+      (front_before old new (flat_map f (take at items) ++ f (slice_index_or items at d)) (flat_map f (drop (suc at) items))
+      (front_behind old mid new (flat_map f (take at items)) (f (slice_index_or items at d)) before front))
 
-  pub lines_on : Appends mid new (entry_line (entry_of now at)) → Appends old new (flat_map entry_line (take (at + 1) directory.listed))
-  lines_on line =
-      subst (λ n. Appends old new (flat_map entry_line (take n directory.listed))) (next)
-      (subst (λ text. Appends old new text) (sym (texts_on entry_line directory.listed at no_entry within))
-      (appends_both old mid new (flat_map entry_line (take at directory.listed)) (entry_line (entry_of directory at)) before
-      (subst (λ d. Appends mid new (entry_line (entry_of d at))) same line)))
+  pub texts_grown : Appends mid new (f (slice_index_or items at d)) → Appends old new (flat_map f (take (at + 1) items))
+  texts_grown text =
+      subst (λ n. Appends old new (flat_map f (take n items))) next
+      (subst (λ text. Appends old new text) (sym (texts_on f items at d within))
+      (appends_both old mid new (flat_map f (take at items)) (f (slice_index_or items at d)) before text))
     where
       next : suc at ≡ at + 1
       next = omega arith

@@ -5,6 +5,7 @@ use Rattle.a2_image.specs.declared.error.ImageError.{ImageError}
 use Rattle.a2_image.specs.declared.error.ImageError.TheVariants as images
 use Rattle.file_cmds.specs.ProLines.{directory_in}
 use Rattle.file_cmds.specs.ProText.{directory_text}
+use Rattle.plan_steps.specs.ProSteps.{plan_in, plan_text}
 use Rattle.job_reply.specs.declared.refusal.Refusal.{Refusal}
 use Rattle.job_reply.specs.declared.refusal.Refusal.TheVariants as refusals
 use Rattle.job_reply.specs.declared.refusal.Failure.{Failure}
@@ -51,6 +52,7 @@ told_text tells.Ok = codes "OK\n"
 told_text (tells.Text text) = string_bytes text
 told_text (tells.Bytes bytes) = bytes.items
 told_text (tells.Listing lines) = directory_text (directory_in lines)
+told_text (tells.Plan lines) = plan_text (plan_in lines)
 told_text (tells.Refusal refusal) = refusal_line refusal
 told_text (tells.Failure failure) = failure_line failure
 

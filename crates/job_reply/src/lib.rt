@@ -8,6 +8,7 @@
 
 mod convert;
 mod disk;
+mod plan_writing;
 mod refusal;
 mod reply;
 mod writing;

@@ -3,9 +3,11 @@ ghost use Rattle.std.specs.Prelude.{◌≡◌, ◌⊎◌, IsTrue, None, Some};
 ghost use Rattle.std.specs.Io.KnownBytes.{Appends};
 ghost use Rattle.job_reply.specs.Reply.{AppendsFront, HandsOut, IsDelivered, IsMade, IsWritten, failed, held, refused, status_number, status_of, text_of, told_text};
 
+use crate::plan_writing::write_plan;
 use crate::refusal::{Failure, Refusal};
 use crate::writing::{write_lines, write_whole, written};
 use file_cmds::ProLines;
+use plan_steps::ProSteps;
 use std::io::Write;
 
 /// How a job ended.
@@ -32,6 +34,8 @@ pub enum Told {
     Bytes(Vec<u8>),
     /// The lines of a listing, which are made as they are told.
     Listing(ProLines),
+    /// The steps of a plan in words, which are made as they are told.
+    Plan(ProSteps),
     /// Why it was refused.
     Refusal(Refusal),
     /// What failed.
@@ -77,6 +81,7 @@ impl Told {
             Told::Text(told) => write_whole(told.as_bytes(), text),
             Told::Bytes(bytes) => write_whole(bytes.as_slice(), text),
             Told::Listing(lines) => write_lines(lines, text),
+            Told::Plan(lines) => write_plan(lines, text),
             Told::Refusal(refusal) => write_whole(refusal.line(), text),
             Told::Failure(failure) => write_whole(failure.line(), text),
         }
@@ -136,6 +141,13 @@ impl Reply {
         ensures { result ≡ record { status = Status.Done; told = Told.Listing lines; image = None } }
     {
         Reply::told(Status::Done, Told::Listing(lines))
+    }
+
+    /// The steps of a plan in words.
+    pub fn plan(lines: ProSteps) -> Reply
+        ensures { result ≡ record { status = Status.Done; told = Told.Plan lines; image = None } }
+    {
+        Reply::told(Status::Done, Told::Plan(lines))
     }
 
     /// A job was refused.

@@ -1,5 +1,5 @@
 -- Reserved places, and the words that name them.
-use Rattle.std.specs.Prelude.{◌≡◌, ◌↔◌, ◌<◌, ◌==◌, ℕ, ◌/◌, ◌%◌, Bool, true, false, List, ◌∷◌, ◌++◌, map, All, Contains, slice_index_or}
+use Rattle.std.specs.Prelude.{◌≡◌, ◌↔◌, ◌<◌, ◌==◌, ℕ, ◌/◌, ◌%◌, Bool, true, false, List, ◌∷◌, ◌++◌, map, codes, All, Contains, slice_index_or}
 use Rattle.std.specs.List.{slice_split}
 use Rattle.std.specs.Fmt.{decimal}
 use Rattle.reserved_places.specs.declared.form.PlaceForm.{PlaceForm}
@@ -18,6 +18,11 @@ places_named Block = 65536
 abbrev pub place_word : PlaceForm → ℕ → List ℕ
 place_word Sector place = decimal (place / 16) ++ 47 ∷ decimal (place % 16)
 place_word Block place = decimal place
+
+-- a place as it is told: its track, `/` and its sector, or `block` and its block
+abbrev pub told_place : PlaceForm → ℕ → List ℕ
+told_place Sector place = place_word Sector place
+told_place Block place = codes "block " ++ place_word Block place
 
 -- the words of a text, between its commas
 abbrev pub words_of : List ℕ → List (List ℕ)

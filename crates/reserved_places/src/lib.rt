@@ -7,9 +7,11 @@
 
 mod error;
 mod form;
+mod place_word;
 mod reserved;
 mod words;
 
 pub use error::ReserveError;
 pub use form::PlaceForm;
+pub use place_word::PlaceWord;
 pub use reserved::Reserved;

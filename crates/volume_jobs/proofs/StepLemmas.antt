@@ -12,7 +12,7 @@ use Rattle.vol_format.specs.Directory.{Directory, entries}
 use Rattle.vol_format.specs.Standing.{index_in, no_part}
 use Rattle.vol_check.specs.Told.{Told, IsToldOf}
 use Rattle.volume_jobs.specs.Steps.{AreSteps, IsStep}
-use Rattle.volume_jobs.specs.declared.steps.Step.{Step}
+use Rattle.plan_steps.specs.declared.step.Step.{Step}
 
 length-after : (layout : List ℕ) (moves : List Move) → length (after layout moves) ≡ length layout
 length-after layout [] = refl

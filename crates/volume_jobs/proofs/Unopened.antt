@@ -1,5 +1,5 @@
 -- What is told of a volume that is not opened.
-use Rattle.std.proofs.Common.{◌≡◌, Bool, Global, subst}
+use Rattle.std.proofs.Common.{Bool, Global, subst}
 use Rattle.a2_device.specs.Device.{DeviceState}
 use Rattle.vol_format.specs.Meaning.{Meaning}
 use Rattle.vol_opening.specs.Refused.{IsRefusal}

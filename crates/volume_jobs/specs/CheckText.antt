@@ -2,9 +2,8 @@
 use Rattle.std.specs.Prelude.{ℕ, ◌∷◌, ◌++◌, length, codes, decimal}
 use Rattle.vol_parts.specs.declared.fault.Fault.{Fault}
 use Rattle.vol_parts.specs.declared.fault.Fault.TheVariants.{Geometry, CatalogLink, DirLink, MapPointer, StorageType, OutOfRange, InSystem, Shared, MarkedFree}
-use Rattle.reserved_places.specs.Reserved.{place_word}
+use Rattle.reserved_places.specs.Reserved.{told_place}
 use Rattle.reserved_places.specs.declared.form.PlaceForm.{PlaceForm}
-use Rattle.reserved_places.specs.declared.form.PlaceForm.TheVariants.{Sector, Block}
 use Rattle.vol_check.specs.Told.{Told}
 use Rattle.file_cmds.specs.DosText.{Text, line}
 
@@ -29,11 +28,6 @@ fault_place (OutOfRange place) = place
 fault_place (InSystem place) = place
 fault_place (Shared place) = place
 fault_place (MarkedFree place) = place
-
--- the word for a place: track, `/` and sector, or `block` and the block
-abbrev pub told_place : PlaceForm → ℕ → Text
-told_place Sector place = place_word Sector place
-told_place Block place = codes "block " ++ place_word Block place
 
 -- a fault by its name and its place
 abbrev pub fault_text : PlaceForm → Fault → Text

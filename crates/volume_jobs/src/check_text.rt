@@ -1,9 +1,9 @@
 // The text of what a check answers.
 ghost use Rattle.std.specs.Prelude.{◌≡◌, Some, IfOk, flat_map, string_bytes};
 ghost use Rattle.vol_check.specs.Told.{told_of};
-ghost use Rattle.volume_jobs.specs.CheckText.{accepted_text, fault_line, fault_name as name_of, fault_place as place_of, fault_text, told_line, told_place};
+ghost use Rattle.volume_jobs.specs.CheckText.{accepted_text, fault_line, fault_name as name_of, fault_place as place_of, fault_text, told_line};
 
-use reserved_places::PlaceForm;
+use reserved_places::{PlaceForm, PlaceWord};
 use std::alloc::{AllocError, Global};
 use std::fmt;
 use vol_check::Checked;
@@ -38,29 +38,6 @@ fn fault_place(fault: Fault) -> u32
         | Fault::InSystem(place)
         | Fault::Shared(place)
         | Fault::MarkedFree(place) => place,
-    }
-}
-
-/// A place, by its track and its sector or by its block.
-#[derive(Clone, Copy)]
-pub struct PlaceWord {
-    pub form: PlaceForm,
-    pub place: u32,
-}
-
-impl fmt::Display for PlaceWord {
-    ghost output = { λ w. Some (told_place w.form w.place) };
-
-    fn fmt<W: fmt::Write>(&self, f: &mut fmt::Formatter<W>) -> fmt::Result {
-        let place = self.place;
-        match self.form {
-            PlaceForm::Sector => {
-                let track = place / 16;
-                let sector = place % 16;
-                write!(f, "{track}/{sector}")
-            }
-            PlaceForm::Block => write!(f, "block {place}"),
-        }
     }
 }
 

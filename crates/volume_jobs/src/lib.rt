@@ -19,7 +19,6 @@ mod plan_words;
 mod reading;
 mod reading_work;
 mod save;
-mod shown_path;
 mod steps;
 mod verify;
 mod volume;

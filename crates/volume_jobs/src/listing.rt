@@ -6,10 +6,12 @@ ghost use Rattle.volume_jobs.specs.CatalogReply.{IsListed};
 ghost use Rattle.volume_jobs.specs.Reading.{FailsForLack, tells_device};
 ghost use Rattle.volume_jobs.specs.Refusals.{reply_to_refusal};
 
+use crate::plan_words::steps_text;
 use a2_device::Device;
 use dos_format::{Dos33, DosVolume};
 use file_cmds::{CmdError, ProLines, dos_listing_text, listing_of, read_volume};
 use job_reply::{Failure, Refusal, Reply};
+use plan_steps::{ProSteps, Step};
 use pro_format::{ProVolume, Prodos};
 use reserved_places::PlaceForm;
 use save_formats::SavableFormat;
@@ -36,11 +38,13 @@ fn dos_listing(alloc: Global, format: &Dos33, volume: &DosVolume) -> Result<Stri
     dos_listing_text(alloc, &listing)
 }
 
-/// A format of volumes on which each job is done: what its places are called, and how the listing of a volume is told.
+/// A format of volumes on which each job is done: what its places are called, and how the listing of a volume and a plan are told.
 pub trait ShownFormat: SavableFormat {
-    ghost use Rattle.std.specs.Prelude.{◌≡◌};
+    ghost use Rattle.std.specs.Prelude.{◌≡◌, ◌<◌, All};
     ghost use Rattle.reserved_places.specs.declared.form.PlaceForm.{PlaceForm};
+    ghost use Rattle.vol_format.specs.Directory.{entries};
     ghost use Rattle.volume_jobs.specs.CatalogReply.{TellsListing};
+    ghost use Rattle.volume_jobs.specs.PlanWords.{TellsSteps};
 
     ghost form: { Self → PlaceForm };
 
@@ -51,6 +55,11 @@ pub trait ShownFormat: SavableFormat {
     /// The listing of a volume that was read, or want of memory.
     fn listing(&self, alloc: Global, volume: Self::Volume) -> Reply
         ensures { TellsListing (form self.now) (Self.directory self.now volume) result };
+
+    /// The steps of a plan of a volume that was read, in words, or want of memory.
+    fn plan(&self, alloc: Global, volume: Self::Volume, steps: Vec<Step>) -> Reply
+        requires { All (λ step. step.part.file < entries (Self.directory self.now volume)) steps.items }
+        ensures { TellsSteps (form self.now) (Self.files self.now) (Self.directory self.now volume) steps.items result };
 }
 
 impl ShownFormat for Dos33 {
@@ -64,6 +73,13 @@ impl ShownFormat for Dos33 {
 
     fn listing(&self, alloc: Global, volume: DosVolume) -> Reply {
         match dos_listing(alloc, self, &volume) {
+            Ok(text) => Reply::done(text),
+            Err(_) => Reply::failed(Failure::Memory),
+        }
+    }
+
+    fn plan(&self, alloc: Global, volume: DosVolume, steps: Vec<Step>) -> Reply {
+        match steps_text(alloc, self, &volume, PlaceForm::Sector, steps.as_slice()) {
             Ok(text) => Reply::done(text),
             Err(_) => Reply::failed(Failure::Memory),
         }
@@ -82,6 +98,13 @@ impl ShownFormat for Prodos {
     fn listing(&self, alloc: Global, volume: ProVolume) -> Reply {
         match ProLines::new(alloc, volume) {
             Ok(lines) => Reply::listing(lines),
+            Err(_) => Reply::failed(Failure::Memory),
+        }
+    }
+
+    fn plan(&self, alloc: Global, volume: ProVolume, steps: Vec<Step>) -> Reply {
+        match ProSteps::new(alloc, volume, steps) {
+            Ok(lines) => Reply::plan(lines),
             Err(_) => Reply::failed(Failure::Memory),
         }
     }

@@ -1,82 +1,28 @@
 // The job that tells in words the fewest moves that bring the files of a volume into order.
-ghost use Rattle.std.specs.Prelude.{◌≡◌, ◌<◌, ℕ, Some, All, IfOk, IsTrue, string_bytes};
+ghost use Rattle.std.specs.Prelude.{◌≡◌, ◌<◌, All, IfOk, IsTrue, string_bytes};
 ghost use Rattle.a2_device.specs.Device.{OnlyReads};
 ghost use Rattle.vol_format.specs.Directory.{entries};
 ghost use Rattle.vol_opening.specs.Opening.{IsPlanOf, IsToldIn, told_in};
+ghost use Rattle.plan_steps.specs.Steps.{plan_words_text};
 ghost use Rattle.volume_jobs.specs.Reading.{FailsForLack, tells_device};
-ghost use Rattle.volume_jobs.specs.PlanWords.{IsPlannedInWords, IsPlanText, TellsWords, count_text, kind_word, plan_words_text, step_text};
+ghost use Rattle.volume_jobs.specs.PlanWords.{IsPlannedInWords, TellsWords};
 
-use crate::check_text::PlaceWord;
+use crate::listing::ShownFormat;
 use crate::plan::unopened_reply;
-use crate::shown_path::ShownPath;
-use crate::steps::{Step, steps_of};
+use crate::steps::steps_of;
 use a2_device::Device;
 use file_cmds::FileFormat;
 use job_reply::{Failure, Reply};
+use plan_steps::{CountText, Step, StepText};
 use reserved_places::PlaceForm;
 use std::alloc::{AllocError, Global};
-use std::fmt;
 use vol_opening::{Opening, Options};
-use vol_parts::PartKind;
 
-fn kind_word(kind: PartKind) -> &'static str
-    ensures { result.now ≡ kind_word kind }
-{
-    match kind {
-        PartKind::List => "list",
-        PartKind::Master => "master",
-        PartKind::Index => "index",
-        PartKind::Body => "body",
-    }
-}
-
-// A step of a plan, with the path of its file.
-#[derive(Clone, Copy)]
-struct StepText<'a> {
-    form: PlaceForm,
-    path: &'a [u8],
-    step: Step,
-}
-
-impl fmt::Display for StepText<'_> {
-    ghost output = { λ t. Some (step_text t.form t.path.now t.step) };
-
-    fn fmt<W: fmt::Write>(&self, f: &mut fmt::Formatter<W>) -> fmt::Result {
-        let StepText { form, path, step } = *self;
-        let path = ShownPath { form, path };
-        let kind = kind_word(step.part.kind);
-        let number = step.part.number;
-        let from = PlaceWord {
-            form,
-            place: step.part.place,
-        };
-        let to = PlaceWord {
-            form,
-            place: step.to,
-        };
-        write!(f, "{path} {kind} {number} from {from} to {to}")
-    }
-}
-
-// How many moves there are.
-#[derive(Clone, Copy)]
-struct CountText(usize);
-
-impl fmt::Display for CountText {
-    ghost output = { λ t. Some (count_text t.0) };
-
-    fn fmt<W: fmt::Write>(&self, f: &mut fmt::Formatter<W>) -> fmt::Result {
-        let count = self.0;
-        if count == 1 {
-            write!(f, "{count} move")
-        } else {
-            write!(f, "{count} moves")
-        }
-    }
-}
-
-// A line for each step, and how many there are.
-fn steps_text<F: FileFormat>(
+/// A line for each step, and how many there are.
+///
+/// # Errors
+/// Want of memory alone.
+pub fn steps_text<F: FileFormat>(
     alloc: Global,
     format: &F,
     volume: &F::Volume,
@@ -101,55 +47,35 @@ fn steps_text<F: FileFormat>(
     Ok(text)
 }
 
-// The plan of a volume in words.
-fn plan_text<F: FileFormat>(
-    alloc: Global,
-    format: &F,
-    form: PlaceForm,
-    opening: &Opening<F::Volume>,
-) -> Result<String, AllocError>
-    requires told { IsToldIn (F.directory format.now opening.now.volume) opening.now }
-    requires plan { IsPlanOf opening.now.layout opening.now.plan }
-    ensures { IfOk result (λ text. IsPlanText form (F.files format.now) (F.directory format.now opening.now.volume)
-        (told_in (F.directory format.now opening.now.volume) opening.now) opening.now.plan.moves.items (string_bytes text)) }
-{
-    let steps = steps_of(alloc, format, opening)?;
-    steps_text(alloc, format, &opening.volume, form, steps.as_slice())
-}
-
 /// The reply with the plan of a volume.
-pub fn words_reply<F: FileFormat>(
-    alloc: Global,
-    format: &F,
-    form: PlaceForm,
-    opening: &Opening<F::Volume>,
-) -> Reply
-    requires told { IsToldIn (F.directory format.now opening.now.volume) opening.now }
-    requires plan { IsPlanOf opening.now.layout opening.now.plan }
-    ensures { TellsWords form (F.files format.now) (F.directory format.now opening.now.volume)
-        (told_in (F.directory format.now opening.now.volume) opening.now) opening.now.plan.moves.items result }
+pub fn words_reply<F: ShownFormat>(alloc: Global, format: &F, opening: Opening<F::Volume>) -> Reply
+    requires told { IsToldIn (F.directory format.now opening.volume) opening }
+    requires plan { IsPlanOf opening.layout opening.plan }
+    ensures { TellsWords (F.form format.now) (F.files format.now) (F.directory format.now opening.volume)
+        (told_in (F.directory format.now opening.volume) opening) opening.plan.moves.items result }
 {
-    match plan_text(alloc, format, form, opening) {
-        Ok(text) => Reply::done(text),
-        Err(_) => Reply::failed(Failure::Memory),
-    }
+    let Ok(steps) = steps_of(alloc, format, &opening) else {
+        return Reply::failed(Failure::Memory);
+    };
+    let Opening { volume, .. } = opening;
+    format.plan(alloc, volume, steps)
 }
 
 /// The moves of the shortest plan that brings the parts of a volume into order, in words, or why there is none.
-pub fn plan_words_reply<D: Device, F: FileFormat>(
+pub fn plan_words_reply<D: Device, F: ShownFormat>(
     alloc: Global,
     device: &mut D,
     format: &F,
-    form: PlaceForm,
     reclaim: bool,
 ) -> Reply
     requires unit { (D.state device.old).unit_size ≡ (F.meaning format.now).unit_size }
     requires places { (F.meaning format.now).Takes (D.state device.old).places }
     ensures reads { OnlyReads (tells_device result) (D.state device.old) (D.state device.new) }
-    ensures told { IsTrue (D.state device.old).honest → FailsForLack (D.state device.old) result → IsPlannedInWords form (F.files format.now) reclaim (F.meaning format.now) (D.state device.old) result }
+    ensures told { IsTrue (D.state device.old).honest → FailsForLack (D.state device.old) result
+        → IsPlannedInWords (F.form format.now) (F.files format.now) reclaim (F.meaning format.now) (D.state device.old) result }
 {
     match Opening::read(alloc, device, format, Options { reclaim }) {
-        Ok(opening) => words_reply(alloc, format, form, &opening),
+        Ok(opening) => words_reply(alloc, format, opening),
         Err(error) => unopened_reply(alloc, &error),
     }
 }

@@ -42,7 +42,7 @@ pub fn reading_reply<D: Device, F: ShownFormat>(
         Work::Plan {
             reclaim,
             words: true,
-        } => plan_words_reply(alloc, device, format, format.form(), reclaim),
+        } => plan_words_reply(alloc, device, format, reclaim),
         Work::Verify {
             reclaim,
             certificate,

@@ -6,18 +6,12 @@ ghost use Rattle.vol_format.specs.Directory.{entries};
 ghost use Rattle.vol_opening.specs.Opening.{IsPlanOf, IsToldIn};
 ghost use Rattle.volume_jobs.specs.Steps.{AreSteps, IsStep};
 
+use plan_steps::Step;
 use std::alloc::{AllocError, Global};
 use vol_format::Format;
 use vol_layout::Move;
 use vol_opening::Opening;
 use vol_parts::Part;
-
-/// One move of a plan: the part where it stands before the move, and the place to which it goes.
-#[derive(Clone, Copy)]
-pub struct Step {
-    pub part: Part,
-    pub to: u32,
-}
 
 // The available place of a number that there is.
 fn place_at<F: Format>(format: &F, volume: &F::Volume, number: u32) -> u32

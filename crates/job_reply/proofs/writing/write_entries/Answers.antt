@@ -1,26 +1,29 @@
 use Rattle.std.proofs.Common.{◌<◌, ◌∙◌, arith, flat_map, take_all, subst}
 use Rattle.std.specs.Io.KnownBytes.{Appends}
-use Rattle.vol_format.specs.Directory.{entries}
+use Rattle.vol_format.specs.Directory.{Directory, entries, entry_of, no_entry}
 use Rattle.file_cmds.specs.ProLines.{directory_in}
 use Rattle.file_cmds.specs.ProText.{entry_line}
-use Rattle.job_reply.proofs.Appended.{all_front, lines_on, lines_stopped}
+use Rattle.job_reply.specs.Reply.{AppendsFront}
+use Rattle.job_reply.proofs.Appended.{all_front, texts_grown, texts_stopped}
 use Rattle.job_reply.proofs.writing.write_entries.Goals as goal
 
 pub returns-then-not-write_entry-clause-front : goal.returns-then-not-write_entry-clause-front
 returns-then-not-write_entry-clause-front g c =
     let within : c.loop-entry.entry < entries (directory_in c.args.lines.now) = omega (arith, c.loop-entry-test.true, c.entries-entry-end.ensures) in
-    lines_stopped (directory_in c.args.lines.now) (directory_in c.loop-entry.lines) c.loop-entry.entry
-    (g.W.Write.contents c.args.writer.now) (g.W.Write.contents c.loop-entry.writer) (g.W.Write.contents c.write_entry.new.writer)
-    c.loop-entry.invariant.lines within c.loop-entry.invariant.grown c.write_entry.ensures.front
+    let mid = g.W.Write.contents c.loop-entry.writer in
+    let new = g.W.Write.contents c.write_entry.new.writer in
+    texts_stopped entry_line (directory_in c.args.lines.now).listed no_entry c.loop-entry.entry (g.W.Write.contents c.args.writer.now) mid new within c.loop-entry.invariant.grown
+    (subst (λ (d : Directory). AppendsFront mid new (entry_line (entry_of d c.loop-entry.entry))) c.loop-entry.invariant.lines c.write_entry.ensures.front)
 
 pub loop-entry-preserved : goal.loop-entry-preserved
 loop-entry-preserved g c =
     let within : c.loop-entry.entry < entries (directory_in c.args.lines.now) = omega (arith, c.loop-entry-test.true, c.entries-entry-end.ensures) in
+    let mid = g.W.Write.contents c.loop-entry.writer in
+    let new = g.W.Write.contents c.write_entry.new.writer in
     record {
       lines = c.write_entry.ensures.lines ∙ c.loop-entry.invariant.lines;
-      grown = lines_on (directory_in c.args.lines.now) (directory_in c.loop-entry.lines) c.loop-entry.entry
-          (g.W.Write.contents c.args.writer.now) (g.W.Write.contents c.loop-entry.writer) (g.W.Write.contents c.write_entry.new.writer)
-          c.loop-entry.invariant.lines within c.loop-entry.invariant.grown (c.write_entry.ensures.whole c.if-not-write_entry.false);
+      grown = texts_grown entry_line (directory_in c.args.lines.now).listed no_entry c.loop-entry.entry (g.W.Write.contents c.args.writer.now) mid new within c.loop-entry.invariant.grown
+          (subst (λ (d : Directory). Appends mid new (entry_line (entry_of d c.loop-entry.entry))) c.loop-entry.invariant.lines (c.write_entry.ensures.whole c.if-not-write_entry.false));
     }
 
 pub returns-clause-front : goal.returns-clause-front

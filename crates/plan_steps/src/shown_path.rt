@@ -1,7 +1,7 @@
 // The paths of files, as a listing shows them.
 ghost use Rattle.std.specs.Prelude.{◌≡◌, Some, map};
 ghost use Rattle.file_cmds.specs.DosText.{shown};
-ghost use Rattle.volume_jobs.specs.PlanWords.{shown_path};
+ghost use Rattle.plan_steps.specs.Steps.{shown_path};
 
 use file_cmds::{shown_byte, shown_part};
 use reserved_places::PlaceForm;
