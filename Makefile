@@ -8,18 +8,20 @@
 
 PREFIX ?= /usr/local
 JOBS ?= $(shell nproc)
-TOP = image_readings shop_commands a2_shop
+FIRST = file_cmds
+APART = shop_words whole_file front_words explanations
 
 .PHONY: all demo test assure install bench clean FORCE
 
 all: a2shop
 
-# Proves what has changed of the program and of what it stands on, compiles, and runs it once on a sample. Most crates are proved
-# side by side; those at the top stand on one another, so each of them is proved by itself on all processors.
+# Proves what has changed of the program and of what it stands on, compiles, and runs it once on a sample. The crates up to FIRST, of
+# which many do not stand on one another, are proved side by side, and beside them the crates APART, which share none with them; of
+# the others most wait for the one before, so each of them is proved by itself on all processors.
 a2shop: FORCE
 	@echo "proving what has changed, with $(JOBS) jobs; build.log has what the prover says"
-	@{ (cd crates/volume_jobs && rt all check --jobs $(JOBS)) && \
-	  for crate in $(TOP); do (cd crates/$$crate && rt check --jobs $(JOBS)) || exit 1; done; \
+	@{ (for crate in $(APART); do (cd crates/$$crate && rt lib --jobs 1) || exit 1; done) & apart=$$!; \
+	  (cd crates/$(FIRST) && rt all check --jobs $(JOBS)) && wait $$apart && (cd crates/a2_shop && rt check --jobs $(JOBS)); \
 	} > build.log 2>&1 || { tail -n 40 build.log; exit 1; }
 	@cd crates/a2_shop && rt run < ../../samples/hello.dsk > /dev/null
 	cp crates/a2_shop/out/a2_shop $@
