@@ -1,30 +1,22 @@
 # make            builds the proved program to ./a2shop
 # make demo       builds it; lists, checks, plans and optimizes a DOS sample, in place too, and lists it again, from disk bytes too;
 #                 saves a file to it and reads it back; unlocks, renames and deletes files; checks, plans and optimizes a ProDOS sample, lists it before and after, and verifies the plan
-# make test       runs the gate (every proof from nothing, the must-fail edits, all tests) and the end-to-end tests
+# make test       runs the gate (the proofs from nothing, the must-fail edits), all tests, and the end-to-end tests
 # make assure     tries the further edits, crates/*/assure, that the prover must refuse; each run of the gate tries a share
 # make install    copies the program that was built, its manual page and the completions of the shells to $(PREFIX), and proves nothing
 # make bench      measures the program beside plain programs of the same work; no part of the tests
 
 PREFIX ?= /usr/local
-JOBS ?= $(shell nproc)
-FIRST = file_cmds
-APART = shop_words whole_file front_words explanations
+SOURCES := $(wildcard $(shell git ls-files --cached --others --exclude-standard crates crates.txt HANDLES))
 
-.PHONY: all demo test assure install bench clean FORCE
+.PHONY: all demo test assure install bench clean
 
 all: a2shop
 
-# Proves what has changed of the program and of what it stands on, compiles, and runs it once on a sample. The crates up to FIRST, of
-# which many do not stand on one another, are proved side by side, and beside them the crates APART, which share none with them; of
-# the others most wait for the one before, so each of them is proved by itself on all processors.
-a2shop: FORCE
-	@echo "proving what has changed, with $(JOBS) jobs; build.log has what the prover says"
-	@{ (for crate in $(APART); do (cd crates/$$crate && rt lib --jobs 1) || exit 1; done) & apart=$$!; \
-	  (cd crates/$(FIRST) && rt all check --jobs $(JOBS)) && wait $$apart && (cd crates/a2_shop && rt check --jobs $(JOBS)); \
-	} > build.log 2>&1 || { tail -n 40 build.log; exit 1; }
-	@cd crates/a2_shop && rt run < ../../samples/hello.dsk > /dev/null
-	cp crates/a2_shop/out/a2_shop $@
+# A run of the gate leaves the program too, and what it has proved is not proved again.
+a2shop: $(SOURCES)
+	@echo "proving the program and what it stands on; build.log has what the prover says"
+	@bash tests/gate program > build.log 2>&1 || { tail -n 40 build.log; exit 1; }
 
 demo: a2shop
 	./a2shop catalog samples/hello.dsk --fs dos --order dos
