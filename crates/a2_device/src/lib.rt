@@ -1,5 +1,5 @@
-//! Units of a disk by place: the trait `Device`, the device over an image in memory, one that fails to order, and one that
-//! stops after so many writes.
+//! Units of a disk by place: the trait `Device`, a device over another one that fails to order, and one that stops after so
+//! many writes.
 //!
 //! A unit is a sector of 256 bytes (DOS) or a block of 512 (ProDOS); a place is its number, for a sector 16 times the track
 //! plus the logical sector. The model of a device is one record, `DeviceState` (`specs/Device.antt`): its size, the counts
@@ -11,12 +11,8 @@
 mod counts;
 mod device;
 mod failing;
-mod image;
 mod stopping;
-mod units;
 
 pub use device::{Device, DeviceError};
 pub use failing::FaultDevice;
-pub use image::ImageDevice;
 pub use stopping::StopDevice;
-pub use units::UnitKind;

@@ -4,8 +4,9 @@ use Rattle.std.specs.Prelude.{◌==◌, slice_range, slice_set}
 use Rattle.std.proofs.Math.Seq.{take-append_seam, drop-append_seam}
 use Rattle.std.proofs.lemmas.List.{drop-drop, length-take-le, take_all}
 use Rattle.std.proofs.lemmas.Bool.{cases_order}
-use Rattle.a2_image.specs.declared.order.Order.{Order}
-use Rattle.a2_image.specs.Image.{DiskImage, CanLend, HoldsSectors, IsImageLength, number_in, sectors_by}
+use Rattle.sector_order.specs.declared.order.Order.{Order}
+use Rattle.sector_order.specs.Order.{IsImageLength}
+use Rattle.a2_image.specs.Image.{DiskImage, CanLend, HoldsSectors, number_in, sectors_by}
 use Rattle.a2_image.specs.Lending.{is_lent, sector_offset, written, with_lent}
 use Rattle.a2_image.proofs.ImageLemmas.{length_of_disk, holds_plain}
 use Rattle.a2_image.proofs.LentLemmas.{lends, lent_where, length-written}

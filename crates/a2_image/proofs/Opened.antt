@@ -1,7 +1,8 @@
 -- Images in DOS order: their length, and that they are those of a disk.
 use Rattle.std.proofs.Common.{◌≡◌, ℕ, length, ap}
-use Rattle.a2_image.specs.declared.order.Order.TheVariants.{Dos}
-use Rattle.a2_image.specs.Image.{DiskImage, IsImageLength, IsOfDisk, blocks_of}
+use Rattle.sector_order.specs.declared.order.Order.TheVariants.{Dos}
+use Rattle.sector_order.specs.Order.{IsImageLength, blocks_of}
+use Rattle.a2_image.specs.Image.{DiskImage, IsOfDisk}
 
 pub IsImageLength-Dos : (bytes : ℕ) → bytes ≡ 143360 → IsImageLength Dos bytes
 unfolding IsImageLength

@@ -1,9 +1,9 @@
 -- A disk image, and the sectors and blocks that it holds whatever its order.
 use Rattle.std.specs.Prelude.{◌≡◌, ◌≢◌, ◌==◌, ℕ, ◌+◌, ◌*◌, ◌/◌, ◌%◌, ◌<◌, ◌≤◌, ◌⊎◌, List, [], length, map, replicate, Option, Some, None, unwrap_or, slice_range, slice_index_or, if◌then◌else◌}
 use Rattle.std.specs.List.{range_with_len}
-use Rattle.a2_image.specs.declared.order.Order.{Order}
-use Rattle.a2_image.specs.declared.order.Order.TheVariants.{Dos, Prodos, Nibble}
-use Rattle.a2_image.specs.Skew.{dos_of_physical, half_of_physical}
+use Rattle.sector_order.specs.declared.order.Order.{Order}
+use Rattle.sector_order.specs.declared.order.Order.TheVariants.{Dos, Prodos, Nibble}
+use Rattle.sector_order.specs.Order.{blocks_of, in_track}
 use Rattle.a2_image.specs.Tracks.{HoldsTracks}
 
 -- An image: the order of its sectors, its bytes, for each physical sector s of each track t, at 16 t + s, its content,
@@ -13,18 +13,6 @@ pub record DiskImage : Type 0 where
   pub bytes : List ℕ
   pub sectors : List (Option (List ℕ))
   pub kept : List (Option ℕ)
-
--- the lengths that an image may have: one disk, but in ProDOS order any number of blocks from 16 to 65,535
-unfoldable pub IsImageLength : Order → ℕ → Type 0
-IsImageLength Dos bytes = bytes ≡ 143360
-IsImageLength Prodos bytes = (bytes % 512 ≡ 0) × (512 * 16 ≤ bytes) × (bytes ≤ 512 * 65535)
-IsImageLength Nibble bytes = bytes ≡ 232960
-
--- how many blocks an image of so many bytes has, and how many a disk has
-unfoldable pub blocks_of : Order → ℕ → ℕ
-blocks_of Dos bytes = 280
-blocks_of Prodos bytes = bytes / 512
-blocks_of Nibble bytes = 280
 
 abbrev pub block_count : DiskImage → ℕ
 block_count image = blocks_of image.order (length image.bytes)
@@ -36,12 +24,6 @@ IsOfDisk image = block_count image ≡ 280
 -- the 256 bytes of a sector that lies behind so many others
 abbrev pub bytes_of_sector : List ℕ → ℕ → List ℕ
 bytes_of_sector bytes number = slice_range bytes (256 * number) (256 * number + 256)
-
--- how many sectors of its track lie before a physical sector; a track of disk bytes has them in their own order
-unfoldable pub in_track : Order → ℕ → ℕ
-in_track Dos sector = dos_of_physical sector
-in_track Prodos sector = half_of_physical sector
-in_track Nibble sector = sector
 
 -- how many sectors of the image lie before physical sector s of track t, for 16 t + s
 abbrev pub number_in : Order → ℕ → ℕ

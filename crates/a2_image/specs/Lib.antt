@@ -1,4 +1,3 @@
-pub mod Skew
 pub mod Tracks
 pub mod Image
 pub mod KeptBytes

@@ -3,9 +3,9 @@ ghost use Rattle.std.specs.Prelude.{◌≡◌, ◌+◌, ◌*◌, ◌<◌, ◌≤
 ghost use Rattle.a2_image.specs.Image.{IsDisk, IsOfDisk, block_count};
 ghost use Rattle.a2_image.specs.Blocks.{blocks as blocks_of_image, block_in, sector_of_half, with_block, HasBlock, LacksBlock};
 
-use crate::order::block_to_phys;
 use crate::part::{copy_part, replace};
-use crate::{BLOCK_BYTES, DISK_BLOCKS, Image, ImageError, SECTOR_BYTES};
+use crate::{Image, ImageError, SECTOR_BYTES};
+use sector_order::{BLOCK_BYTES, DISK_BLOCKS, block_to_phys};
 use std::alloc::Allocator;
 
 /// The track of a block of a disk, and its two physical sectors, the first half's first.

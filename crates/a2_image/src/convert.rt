@@ -5,11 +5,11 @@ ghost use Rattle.a2_image.specs.Tracks.{track_of};
 ghost use Rattle.a2_image.specs.Converting.{HasAll, LacksSome, RefusesToConvert, AreContents, MakesTrack};
 
 use crate::nibble::made_fields;
-use crate::order::{DISK_BLOCKS, IMAGE_BYTES, NIBBLE_BYTES, SECTORS, TRACKS};
 use crate::part::replace;
 use crate::plain::write_plain;
-use crate::{Image, ImageError, Order, SECTOR_BYTES};
+use crate::{Image, ImageError, SECTOR_BYTES};
 use a2_nibble::{TRACK_LEN, make_track};
+use sector_order::{DISK_BLOCKS, IMAGE_BYTES, NIBBLE_BYTES, Order, SECTORS, TRACKS};
 use std::alloc::Allocator;
 
 // The sectors of a disk.

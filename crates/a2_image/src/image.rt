@@ -1,19 +1,20 @@
 // A disk image in memory.
 ghost use Rattle.std.specs.Prelude.{◌≡◌, ◌≢◌, ◌+◌, ◌*◌, ◌<◌, ◌≤◌, ◌↔◌, length, IsTrue, IsErrOf, IsOk, IfSome, IfNone, IfOk, IfErr, OnOk, OnErr, Some, None, Err, [], slice_set};
 ghost use Rattle.std.specs.Borrow.{sem};
-ghost use Rattle.a2_image.specs.Image.{IsDisk, IsImageLength, IsOfDisk, IsOutside, LacksSector, HasSector, HoldsSectors, CanLend, sector_in, sectors_by, block_count};
+ghost use Rattle.sector_order.specs.Order.{IsImageLength};
+ghost use Rattle.a2_image.specs.Image.{IsDisk, IsOfDisk, IsOutside, LacksSector, HasSector, HoldsSectors, CanLend, sector_in, sectors_by, block_count};
 ghost use Rattle.a2_image.specs.Blocks.{bytes_of_block, blocks as blocks_of_image};
 ghost use Rattle.a2_image.specs.Tracks.{WritesTrack};
 ghost use Rattle.a2_image.specs.Kept.{HasField, IsKept, kept_sectors};
 ghost use Rattle.a2_image.specs.KeptBytes.{HoldsKept};
 ghost use Rattle.a2_image.specs.Opening.{RefusesToOpen};
 
+use crate::ImageError;
 use crate::nibble::{fields_of_disk, read_kept, write_kept};
-use crate::order::{BLOCK_BYTES, DISK_BLOCKS, SECTORS, TRACKS};
 use crate::part::{copy_part, replace};
 use crate::plain::{read_plain, write_plain};
-use crate::{ImageError, Order};
 use a2_nibble::Field;
+use sector_order::{BLOCK_BYTES, DISK_BLOCKS, Order, SECTORS, TRACKS};
 use std::alloc::{Allocator, Global};
 use std::marker::Model;
 

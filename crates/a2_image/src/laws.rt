@@ -1,11 +1,12 @@
 // Laws of images.
 ghost use Rattle.std.specs.Prelude.{◌≡◌, ◌<◌, ◌+◌, ◌*◌, ℕ, List, Option, Some, length, slice_set};
-ghost use Rattle.a2_image.specs.Image.{DiskImage, CanLend, HoldsSectors, IsImageLength, block_count};
+ghost use Rattle.sector_order.specs.Order.{IsImageLength};
+ghost use Rattle.a2_image.specs.Image.{DiskImage, CanLend, HoldsSectors, block_count};
 ghost use Rattle.a2_image.specs.KeptBytes.{HoldsKept};
 ghost use Rattle.a2_image.specs.Lending.{with_lent};
 ghost use Rattle.a2_image.specs.Blocks.{block_in, bytes_of_block};
 
-use crate::Order;
+use sector_order::Order;
 
 /// A law: the bytes of an image hold one list of sectors at most.
 pub fn sectors_are_one()

@@ -4,10 +4,10 @@ ghost use Rattle.a2_image.specs.Image.{sector_in, CanLend};
 ghost use Rattle.a2_image.specs.Blocks.{block_in, CanLendBlock};
 ghost use Rattle.a2_image.specs.Lending.{is_lent, lent_range};
 
+use crate::Image;
 use crate::image::SECTOR_BYTES;
-use crate::order::{BLOCK_BYTES, DISK_BLOCKS, SECTORS, TRACKS};
 use crate::plain::{lent_plain, stored_number};
-use crate::{Image, Order};
+use sector_order::{BLOCK_BYTES, DISK_BLOCKS, Order, SECTORS, TRACKS};
 use std::alloc::Allocator;
 
 impl<A: Allocator> Image<A> {

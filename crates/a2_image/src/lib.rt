@@ -16,7 +16,6 @@ mod image;
 mod laws;
 mod lend;
 mod nibble;
-mod order;
 mod part;
 mod plain;
 
@@ -25,8 +24,4 @@ pub use error::ImageError;
 pub use image::{Image, SECTOR_BYTES};
 pub use laws::{
     a_lent_sector_is_one, kept_bytes_are_one, prodos_blocks_lie_in_order, sectors_are_one,
-};
-pub use order::{
-    BLOCK_BYTES, DISK_BLOCKS, IMAGE_BYTES, NIBBLE_BYTES, Order, SECTORS, TRACKS, block_to_phys,
-    dos_to_phys,
 };

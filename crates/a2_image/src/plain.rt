@@ -2,8 +2,9 @@
 ghost use Rattle.std.specs.Prelude.{◌≡◌, ◌+◌, ◌*◌, ◌<◌, Some, length, slice_set};
 ghost use Rattle.a2_image.specs.Image.{number_in, sector_in, sectors_by};
 
+use crate::SECTOR_BYTES;
 use crate::part::replace;
-use crate::{Order, SECTOR_BYTES};
+use sector_order::Order;
 
 // How many sectors such an image has before this one.
 pub(crate) fn stored_number(order: Order, track: u8, sector: u8) -> usize

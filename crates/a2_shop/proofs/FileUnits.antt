@@ -1,12 +1,12 @@
 -- The units of an image's file are those of its file system.
 use Rattle.std.proofs.Common.{◌≡◌, ◌*◌, ◌≤◌, ◌<◌, ℕ, inl, inr, refl, sym, subst, arith}
 use Rattle.std.specs.Prelude.{Result, Ok, Err, IfOk}
-use Rattle.a2_image.specs.Image.{IsImageLength}
-use Rattle.a2_image.specs.declared.order.Order.{Order}
-use Rattle.a2_image.specs.declared.order.Order.TheVariants as orders
+use Rattle.sector_order.specs.Order.{IsImageLength}
+use Rattle.sector_order.specs.declared.order.Order.{Order}
+use Rattle.sector_order.specs.declared.order.Order.TheVariants as orders
 use Rattle.a2_device.specs.Device.{DeviceState}
-use Rattle.a2_device.specs.declared.units.UnitKind.{UnitKind}
-use Rattle.a2_device.specs.declared.units.UnitKind.TheVariants.{Sector, Block}
+use Rattle.image_device.specs.declared.units.UnitKind.{UnitKind}
+use Rattle.image_device.specs.declared.units.UnitKind.TheVariants.{Sector, Block}
 use Rattle.shop_jobs.specs.declared.job.FileSystem.{FileSystem}
 use Rattle.shop_jobs.specs.declared.job.FileSystem.TheVariants.{Dos, Prodos}
 use Rattle.device_jobs.specs.Units.{HasUnitsOf}

@@ -2,9 +2,9 @@
 use crate::job_paths::{image_order, volume_of};
 use crate::stop::Stop;
 use crate::units::order_of;
-use a2_image::Order;
 use front_words::{AutoOption, asks_auto, in_place};
 use image_readings::{Choice, best_reading, file_system_word, order_word};
+use sector_order::Order;
 use shop_jobs::{FileSystem, Job};
 use shop_words::parse_words;
 use std::alloc::{AllocError, Global};

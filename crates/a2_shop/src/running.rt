@@ -4,9 +4,9 @@ use crate::job_paths::{
 };
 use crate::placing::run_placed;
 use crate::straight::run_straight;
-use a2_image::Order;
 use job_endings::{Output, settle};
 use job_reply::{Failure, Reply, most_bytes, written};
+use sector_order::Order;
 use shop_commands::{is_in_place, run_job};
 use shop_jobs::Job;
 use std::alloc::Global;

@@ -1,14 +1,15 @@
 // The file of an image as a device of its units.
 ghost use Rattle.std.specs.Prelude.{◌≡◌, IfOk};
-ghost use Rattle.a2_device.specs.declared.units.UnitKind.TheVariants.{Sector as OfSectors, Block as OfBlocks};
+ghost use Rattle.image_device.specs.declared.units.UnitKind.TheVariants.{Sector as OfSectors, Block as OfBlocks};
 ghost use Rattle.shop_jobs.specs.declared.job.FileSystem.TheVariants.{Dos as OfDos, Prodos as OfProdos};
 ghost use Rattle.device_jobs.specs.Units.{HasUnitsOf};
 ghost use Rattle.shop_commands.specs.Answer.{order_of as named};
 
 use crate::job_paths::{image_path, is_on_standard_input};
-use a2_device::{Device, UnitKind};
-use a2_image::Order;
+use a2_device::Device;
 use file_device::{FileDevice, FileError, SystemFile};
+use image_device::UnitKind;
+use sector_order::Order;
 use shop_jobs::{FileSystem, ImageOrder, Job, VolumeOptions};
 
 /// The units of an image's file, where they stand in it.

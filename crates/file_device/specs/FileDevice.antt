@@ -1,9 +1,9 @@
 -- The units of a file as a device.
 use Rattle.std.specs.Prelude.{ℕ, ◌+◌, ◌*◌, List, [], map, slice_range, None}
 use Rattle.std.specs.List.{range_with_len}
-use Rattle.a2_device.specs.declared.units.UnitKind.{UnitKind}
+use Rattle.image_device.specs.declared.units.UnitKind.{UnitKind}
 use Rattle.a2_device.specs.Device.{DeviceState}
-use Rattle.a2_device.specs.ImageDevice.{unit_bytes}
+use Rattle.image_device.specs.ImageDevice.{unit_bytes}
 use Rattle.file_device.specs.File.{FileState}
 
 -- the unit that stands at a place of a file

@@ -1,12 +1,12 @@
 -- A file of the system, and which of its units are those of an image.
 use Rattle.std.specs.Prelude.{◌≡◌, ◌⊎◌, ℕ, ◌*◌, false, []}
-use Rattle.a2_image.specs.declared.order.Order.{Order}
-use Rattle.a2_image.specs.declared.order.Order.TheVariants.{Dos, Prodos}
-use Rattle.a2_image.specs.Image.{IsImageLength}
+use Rattle.sector_order.specs.declared.order.Order.{Order}
+use Rattle.sector_order.specs.declared.order.Order.TheVariants.{Dos, Prodos}
+use Rattle.sector_order.specs.Order.{IsImageLength}
 use Rattle.a2_device.specs.Device.{DeviceState}
-use Rattle.a2_device.specs.ImageDevice.{unit_bytes}
-use Rattle.a2_device.specs.declared.units.UnitKind.{UnitKind}
-use Rattle.a2_device.specs.declared.units.UnitKind.TheVariants.{Sector, Block}
+use Rattle.image_device.specs.ImageDevice.{unit_bytes}
+use Rattle.image_device.specs.declared.units.UnitKind.{UnitKind}
+use Rattle.image_device.specs.declared.units.UnitKind.TheVariants.{Sector, Block}
 use Rattle.file_device.specs.File.{FileState}
 use Rattle.file_device.specs.FileDevice.{file_device_state}
 

@@ -1,13 +1,15 @@
 // The units of a file as a device.
 ghost use Rattle.std.specs.Prelude.{◌≡◌, ◌≤◌, ◌*◌, IsTrue};
 ghost use Rattle.a2_device.specs.Device.{counted as counted_once};
-ghost use Rattle.a2_device.specs.ImageDevice.{unit_bytes};
+ghost use Rattle.image_device.specs.ImageDevice.{unit_bytes};
 ghost use Rattle.file_device.specs.FileDevice.{file_device_state};
 ghost use Rattle.file_device.specs.lemmas.Units.{whole_file};
 
 use crate::file::{FileFailure, PositionedFile};
-use a2_device::{Device, DeviceError, UnitKind};
-use a2_image::{BLOCK_BYTES, SECTOR_BYTES};
+use a2_device::{Device, DeviceError};
+use a2_image::SECTOR_BYTES;
+use image_device::UnitKind;
+use sector_order::BLOCK_BYTES;
 
 /// The units of a file by place: the sectors of an image in DOS order, or the blocks of one in ProDOS order.
 #[derive(Drop)]

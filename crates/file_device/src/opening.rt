@@ -1,15 +1,17 @@
 // Opening a file of the system in place of an image.
 ghost use Rattle.std.specs.Prelude.{◌≡◌, ◌≢◌, ◌↔◌, ◌*◌, IfErr, IfOk, IsErrOf, IsTrue};
-ghost use Rattle.a2_device.specs.ImageDevice.{unit_bytes};
-ghost use Rattle.a2_image.specs.Image.{IsImageLength};
+ghost use Rattle.image_device.specs.ImageDevice.{unit_bytes};
+ghost use Rattle.sector_order.specs.Order.{IsImageLength};
 ghost use Rattle.file_device.specs.declared.opening.FileError.TheVariants.{Io};
 ghost use Rattle.file_device.specs.System.{IsDeviceOf, IsInPlace};
 
 use crate::device::FileDevice;
 use crate::file::FileFailure;
 use crate::system::SystemFile;
-use a2_device::{Device, UnitKind};
-use a2_image::{BLOCK_BYTES, IMAGE_BYTES, Order, SECTOR_BYTES};
+use a2_device::Device;
+use a2_image::SECTOR_BYTES;
+use image_device::UnitKind;
+use sector_order::{BLOCK_BYTES, IMAGE_BYTES, Order};
 use std::fs::{self, File, OpenOptions};
 use std::io::{self, ErrorKind};
 use std::os::fd::AsRawFd;
@@ -64,7 +66,7 @@ fn is_in_place(order: Order, kind: UnitKind) -> bool
     }
 }
 
-#[tactic(auto, unfolding(a2_image::specs::Image::IsImageLength))]
+#[tactic(auto, unfolding(sector_order::specs::Order::IsImageLength))]
 // How many units an image of so many bytes has, which stand in place.
 fn places_in(order: Order, kind: UnitKind, bytes: u64) -> Result<u32, FileError>
     requires in_place { IsInPlace order kind }

@@ -1,7 +1,7 @@
 -- The reply to `identify`.
 use Rattle.std.specs.Prelude.{◌≡◌, ◌≢◌, ◌⊎◌, ℕ, ◌==◌, ◌%◌, nat_le, ◌&&◌, Bool, List, [], ◌∷◌, length, map, filter, All}
-use Rattle.a2_image.specs.declared.order.Order.{Order}
-use Rattle.a2_image.specs.declared.order.Order.TheVariants as orders
+use Rattle.sector_order.specs.declared.order.Order.{Order}
+use Rattle.sector_order.specs.declared.order.Order.TheVariants as orders
 use Rattle.shop_jobs.specs.declared.job.FileSystem.{FileSystem}
 use Rattle.shop_jobs.specs.declared.job.FileSystem.TheVariants as systems
 use Rattle.job_reply.specs.declared.refusal.Refusal.TheVariants as refusals

@@ -6,7 +6,7 @@ ghost use Rattle.image_readings.specs.BestReading.{IsChoice, choice_of as choice
 use crate::identify::{WAYS, readings_of};
 use crate::ranking::{Verdict, rank};
 use crate::reading::Reading;
-use a2_image::Order;
+use sector_order::Order;
 use shop_jobs::FileSystem;
 use std::alloc::{AllocError, Global};
 

@@ -7,8 +7,8 @@ use crate::identify_text::identify_text;
 use crate::ranking::{Verdict, rank};
 use crate::reading::Reading;
 use crate::volume::reading_of;
-use a2_image::{BLOCK_BYTES, IMAGE_BYTES, NIBBLE_BYTES, Order};
 use job_reply::{Failure, Refusal, Reply};
+use sector_order::{BLOCK_BYTES, IMAGE_BYTES, NIBBLE_BYTES, Order};
 use shop_jobs::FileSystem;
 use std::alloc::{AllocError, Global};
 

@@ -5,7 +5,7 @@ ghost use Rattle.image_readings.specs.IdentifyText.{file_system_word as word_of_
 
 use crate::ranking::Verdict;
 use crate::reading::{Finding, Found, Reading, Standing};
-use a2_image::Order;
+use sector_order::Order;
 use shop_jobs::FileSystem;
 use std::alloc::{AllocError, Global};
 use std::fmt;

@@ -1,5 +1,5 @@
 // The ways to read an image, and what is found in each.
-use a2_image::Order;
+use sector_order::Order;
 use shop_jobs::FileSystem;
 
 /// What the checker says of a volume whose directory can be read.

@@ -9,15 +9,17 @@ ghost use Rattle.image_readings.specs.Readings.{HasEntries, HasUnits, IsFound, I
 
 use crate::reading::{Finding, Found, Reading, Standing};
 use crate::stop::{ReadStop, finding_of};
-use a2_device::{Device, ImageDevice};
-use a2_image::{Image, ImageError, Order};
+use a2_device::Device;
+use a2_image::{Image, ImageError};
 use dos_catalog::Catalog;
 use dos_format::Dos33;
 use dos_vtoc::{VTOC_PLACE, Vtoc};
+use image_device::ImageDevice;
 use image_volume::open_volume;
 use pro_dir::VolumeDir;
 use pro_format::Prodos;
 use reserved_places::Reserved;
+use sector_order::Order;
 use shop_jobs::FileSystem;
 use std::alloc::{AllocError, Global};
 use vol_check::{CheckError, check};

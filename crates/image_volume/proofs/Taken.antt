@@ -1,6 +1,6 @@
 -- Which bytes are not taken as the image of a volume.
 use Rattle.std.proofs.Common.{ℕ, List, length}
-use Rattle.a2_image.specs.declared.order.Order.{Order}
+use Rattle.sector_order.specs.declared.order.Order.{Order}
 use Rattle.a2_image.specs.declared.error.ImageError.{ImageError}
 use Rattle.a2_image.specs.declared.error.ImageError.TheVariants as images
 use Rattle.a2_image.specs.Opening.{RefusesToOpen}

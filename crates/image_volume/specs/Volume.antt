@@ -1,15 +1,16 @@
 -- The volume that an image has.
 use Rattle.std.specs.Prelude.{◌≡◌, ℕ, Bool, List, length, Contains}
-use Rattle.a2_image.specs.declared.order.Order.{Order}
-use Rattle.a2_image.specs.declared.order.Order.TheVariants.{Nibble}
+use Rattle.sector_order.specs.declared.order.Order.{Order}
+use Rattle.sector_order.specs.declared.order.Order.TheVariants.{Nibble}
 use Rattle.a2_image.specs.declared.error.ImageError.{ImageError}
 use Rattle.a2_image.specs.declared.error.ImageError.TheVariants as images
-use Rattle.a2_image.specs.Image.{DiskImage, HoldsSectors, IsImageLength}
+use Rattle.sector_order.specs.Order.{IsImageLength}
+use Rattle.a2_image.specs.Image.{DiskImage, HoldsSectors}
 use Rattle.a2_image.specs.KeptBytes.{HoldsKept}
 use Rattle.a2_device.specs.Device.{DeviceState}
-use Rattle.a2_device.specs.ImageDevice.{image_state}
-use Rattle.a2_device.specs.declared.units.UnitKind.{UnitKind}
-use Rattle.a2_device.specs.declared.units.UnitKind.TheVariants as kinds
+use Rattle.image_device.specs.ImageDevice.{image_state}
+use Rattle.image_device.specs.declared.units.UnitKind.{UnitKind}
+use Rattle.image_device.specs.declared.units.UnitKind.TheVariants as kinds
 use Rattle.reserved_places.specs.declared.form.PlaceForm.{PlaceForm}
 use Rattle.reserved_places.specs.declared.form.PlaceForm.TheVariants as forms
 use Rattle.vol_format.specs.Meaning.{Meaning}

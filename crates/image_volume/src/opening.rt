@@ -4,9 +4,10 @@ ghost use Rattle.a2_image.specs.Image.{IsOfDisk};
 ghost use Rattle.shop_jobs.specs.declared.job.FileSystem.TheVariants.{Dos as OfDos};
 ghost use Rattle.image_volume.specs.Volume.{IsImageOf, RefusesBytes, TakesBytes, form_of as form_by};
 
-use a2_image::{Image, ImageError, Order};
+use a2_image::{Image, ImageError};
 use job_reply::open_disk;
 use reserved_places::PlaceForm;
+use sector_order::Order;
 use shop_jobs::FileSystem;
 
 /// How the places of a file system are named.

@@ -1,7 +1,7 @@
 // What is told to people beside the answer.
-use a2_image::Order;
 use explanations::{Explanation, FINDINGS, REFUSALS, explained};
 use job_reply::most_bytes;
+use sector_order::Order;
 use shop_jobs::ImageOrder;
 use shop_words::escaped;
 use std::{fmt, io};

@@ -1,9 +1,10 @@
 -- The image of the same sectors in another order.
 use Rattle.std.proofs.Common.{◌≡◌, ◌∙◌, ℕ, ◌<◌, List, length, sym, ap, subst}
-use Rattle.a2_image.specs.declared.order.Order.{Order}
-use Rattle.a2_image.specs.declared.order.Order.TheVariants.{Nibble}
+use Rattle.sector_order.specs.declared.order.Order.{Order}
+use Rattle.sector_order.specs.declared.order.Order.TheVariants.{Nibble}
 use Rattle.a2_image.specs.Converting.{HasAll, MakesTrack}
-use Rattle.a2_image.specs.Image.{DiskImage, HoldsSectors, IsImageLength, IsOfDisk, blocks_of}
+use Rattle.sector_order.specs.Order.{IsImageLength, blocks_of}
+use Rattle.a2_image.specs.Image.{DiskImage, HoldsSectors, IsOfDisk}
 use Rattle.a2_image.specs.Tracks.{track_of}
 use Rattle.job_reply.specs.ConvertReply.{IsConverted}
 use Rattle.job_reply.specs.Disk.{IsDiskImage, OfDisk}

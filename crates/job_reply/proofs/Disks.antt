@@ -1,8 +1,8 @@
 -- Images of a disk by their length, and which bytes are none.
 use Rattle.std.proofs.Common.{◌≡◌, ℕ, List, length, arith, refl}
-use Rattle.a2_image.specs.declared.order.Order.{Order}
-use Rattle.a2_image.specs.declared.order.Order.TheVariants.{Dos, Prodos, Nibble}
-use Rattle.a2_image.specs.Image.{IsImageLength, blocks_of}
+use Rattle.sector_order.specs.declared.order.Order.{Order}
+use Rattle.sector_order.specs.declared.order.Order.TheVariants.{Dos, Prodos, Nibble}
+use Rattle.sector_order.specs.Order.{IsImageLength, blocks_of}
 use Rattle.a2_image.specs.declared.error.ImageError.{ImageError}
 use Rattle.a2_image.specs.declared.error.ImageError.TheVariants as images
 use Rattle.a2_image.specs.Opening.{RefusesToOpen}

@@ -1,8 +1,8 @@
 -- What was read of an image, up to one byte past the most that an image of its order has, answers for all of it.
 use Rattle.std.proofs.Common.{◌≡◌, ℕ, ◌+◌, ◌≤◌, List, length, take, take_all, length-take, arith, ap, subst, ◌∙◌, inl, inr}
 use Rattle.std.specs.Prelude.{Option}
-use Rattle.a2_image.specs.declared.order.Order.{Order}
-use Rattle.a2_image.specs.declared.order.Order.TheVariants.{Dos, Prodos, Nibble}
+use Rattle.sector_order.specs.declared.order.Order.{Order}
+use Rattle.sector_order.specs.declared.order.Order.TheVariants.{Dos, Prodos, Nibble}
 use Rattle.job_reply.specs.declared.reply.Reply.{Reply}
 use Rattle.job_reply.specs.Reply.{made_of}
 use Rattle.job_reply.specs.ConvertReply.{IsConvertReply, IsConverted}

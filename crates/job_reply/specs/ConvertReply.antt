@@ -1,7 +1,7 @@
 -- The reply to `convert`.
 use Rattle.std.specs.Prelude.{◌≡◌, ◌⊎◌, ℕ, ◌<◌, List, Option}
-use Rattle.a2_image.specs.declared.order.Order.{Order}
-use Rattle.a2_image.specs.declared.order.Order.TheVariants.{Nibble}
+use Rattle.sector_order.specs.declared.order.Order.{Order}
+use Rattle.sector_order.specs.declared.order.Order.TheVariants.{Nibble}
 use Rattle.a2_image.specs.declared.error.ImageError.{ImageError}
 use Rattle.a2_image.specs.declared.error.ImageError.TheVariants as images
 use Rattle.a2_image.specs.Converting.{MakesTrack}

@@ -5,7 +5,8 @@ ghost use Rattle.job_reply.specs.ConvertReply.{IsConvertReply, IsConverted, Refu
 
 use crate::disk::open_disk;
 use crate::reply::Reply;
-use a2_image::{ImageError, Order};
+use a2_image::ImageError;
+use sector_order::Order;
 
 /// The bytes of an image in the wanted order with the sectors of another; in nibble order its tracks have this volume
 /// number.

@@ -7,7 +7,8 @@ ghost use Rattle.job_reply.specs.Disk.{IsDiskImage, RefusesDisk, most_bytes as m
 
 use crate::refusal::{Failure, Refusal};
 use crate::reply::Reply;
-use a2_image::{BLOCK_BYTES, DISK_BLOCKS, IMAGE_BYTES, Image, ImageError, NIBBLE_BYTES, Order};
+use a2_image::{Image, ImageError};
+use sector_order::{BLOCK_BYTES, DISK_BLOCKS, IMAGE_BYTES, NIBBLE_BYTES, Order};
 
 /// The most blocks of an image in ProDOS order.
 const MOST_BLOCKS: usize = 65_535;

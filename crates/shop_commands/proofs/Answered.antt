@@ -4,7 +4,7 @@ use Rattle.std.proofs.lemmas.Bool.{false≢true}
 use Rattle.std.proofs.lemmas.Option.{same_Some}
 use Rattle.std.specs.Io.KnownBytes.{Appends, Keeps}
 use Rattle.std.specs.Prelude.{◌⊎◌, Option, Some, None, IfSome, codes}
-use Rattle.a2_image.specs.declared.order.Order.{Order}
+use Rattle.sector_order.specs.declared.order.Order.{Order}
 use Rattle.given_file.specs.Content.{GivenView}
 use Rattle.shop_jobs.specs.Job.{EditView, JobView, SaveView, catalog, check, read, convert, plan, optimize, edit, save, verify, identify}
 use Rattle.shop_words.specs.Job.{asked_job, IsTaken}

@@ -1,6 +1,6 @@
 -- What is told to a job that changes its volume, by what it asks of it.
 use Rattle.std.proofs.Common.{◌≡◌, ℕ, List, Option, Some, inl, inr, refl, subst}
-use Rattle.a2_image.specs.declared.order.Order.{Order}
+use Rattle.sector_order.specs.declared.order.Order.{Order}
 use Rattle.shop_jobs.specs.Job.{JobView, catalog, check, read, convert, plan, optimize, edit, save, verify, identify}
 use Rattle.shop_jobs.specs.declared.job.VolumeOptions.{VolumeOptions}
 use Rattle.job_reply.specs.declared.refusal.Refusal.{Refusal}

@@ -1,8 +1,8 @@
 -- What the program answers to a job on an image, and to words.
 use Rattle.std.specs.Prelude.{◌≡◌, ◌⊎◌, ℕ, Bool, true, false, List, Option, Some, None, IfSome, IsSome, codes, string_bytes, option_map}
 use Rattle.std.specs.Io.KnownBytes.{Appends, Keeps}
-use Rattle.a2_image.specs.declared.order.Order.{Order}
-use Rattle.a2_image.specs.declared.order.Order.TheVariants as orders
+use Rattle.sector_order.specs.declared.order.Order.{Order}
+use Rattle.sector_order.specs.declared.order.Order.TheVariants as orders
 use Rattle.file_cmds.specs.DosText.{Text}
 use Rattle.given_file.specs.Content.{GivenView}
 use Rattle.given_file.specs.Words.{IsDateOf, NamesDate, dos_head, dos_kind, pro_kind}

@@ -4,8 +4,8 @@ ghost use Rattle.job_reply.specs.Disk.{most_bytes as most};
 ghost use Rattle.shop_commands.specs.Answer.{IsReadFailure};
 ghost use Rattle.volume_jobs.specs.VerifyReply.{most_certificate};
 
-use a2_image::Order;
 use job_reply::{Failure, most_bytes};
+use sector_order::Order;
 use std::alloc::Global;
 use std::io::{ErrorKind, Read};
 use volume_jobs::MOST_CERTIFICATE;

@@ -1,11 +1,13 @@
 // ProDOS volumes.
 ghost use Rattle.std.specs.Prelude.{◌≡◌, ◌+◌, ◌*◌, ◌<◌, ◌≤◌, length, take, drop, slice_range, vec_len, IfOk, IfSome, IfNone, IsTrue};
-ghost use Rattle.a2_image.specs.declared.order.Order.TheVariants.{Prodos};
-ghost use Rattle.a2_image.specs.Image.{IsImageLength};
+ghost use Rattle.sector_order.specs.declared.order.Order.TheVariants.{Prodos};
+ghost use Rattle.sector_order.specs.Order.{IsImageLength};
 
 use crate::IMAGE_BYTES;
-use a2_device::{Device, ImageDevice};
-use a2_image::{Image, Order};
+use a2_device::Device;
+use a2_image::Image;
+use image_device::ImageDevice;
+use sector_order::Order;
 use std::alloc::{AllocError, Allocator, Global};
 
 /// The bytes of an image of 8,192 blocks.

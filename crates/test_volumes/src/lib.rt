@@ -10,12 +10,14 @@ mod late_failure;
 
 ghost use Rattle.std.specs.Prelude.{◌≡◌, ◌+◌, ◌*◌, ◌<◌, ◌≤◌, length, take, drop, slice_range, vec_len, IfOk, IsTrue};
 
-use a2_device::{Device, ImageDevice};
-use a2_image::{Image, Order};
+use a2_device::Device;
+use a2_image::Image;
 pub use blocks::{
     LARGE_BYTES, block_device, put_in_block, seedlings_far_out, tree, tree_and_subdirectory,
 };
+use image_device::ImageDevice;
 pub use late_failure::LateFailure;
+use sector_order::Order;
 use std::alloc::{AllocError, Allocator, Global};
 
 /// The bytes of a disk's image.

@@ -1,7 +1,8 @@
 // What is told and handed out of replies: `job_reply`.
 use crate::answer::Answer;
-use a2_image::{ImageError, Order};
+use a2_image::ImageError;
 use job_reply::{Reply, most_bytes, open_disk, written};
+use sector_order::Order;
 use std::test::Fail;
 
 #[test]

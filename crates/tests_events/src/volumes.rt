@@ -1,9 +1,10 @@
 //! Replays of events on the volumes that the tests share, as plain values.
 ghost use Rattle.std.specs.Prelude.{◌≡◌, IfOk, vec_len};
 
-use a2_device::{Device, ImageDevice};
+use a2_device::Device;
 use dos_format::Dos33;
 use event_replay::{Answer, Event, replay};
+use image_device::ImageDevice;
 use reserved_places::Reserved;
 use std::alloc::{AllocError, Allocator, Global};
 use test_volumes::dos_device;

@@ -4,9 +4,10 @@ ghost use Rattle.a2_device.specs.Device.{DeviceState};
 
 use crate::dos_listings::dos_33;
 use crate::pieces::{hello_with, sub_with};
-use a2_device::{Device, ImageDevice};
+use a2_device::Device;
 use file_cmds::{CmdError, catalog, read};
 use file_edits::{EditError, lock};
+use image_device::ImageDevice;
 use pro_format::Prodos;
 use reserved_places::Reserved;
 use std::alloc::{AllocError, Global};

@@ -3,7 +3,8 @@ ghost use Rattle.std.specs.Prelude.{◌≡◌};
 ghost use Rattle.a2_device.specs.Device.{DeviceState};
 
 use crate::volumes::{ALL, KEEP, dos33};
-use a2_device::{Device, ImageDevice};
+use a2_device::Device;
+use image_device::ImageDevice;
 use pro_format::Prodos;
 use reserved_places::Reserved;
 use std::alloc::{AllocError, Global};

@@ -5,7 +5,8 @@ ghost use Rattle.vol_mover.specs.Present.{IsSession};
 ghost use Rattle.vol_mover.specs.Shown.{present};
 
 use crate::volumes::{KEEP, dos33, stands};
-use a2_device::{Device, FaultDevice, ImageDevice};
+use a2_device::{Device, FaultDevice};
+use image_device::ImageDevice;
 use std::alloc::{Allocator, Global};
 use std::test::Fail;
 use test_volumes::{dos_device, hello};

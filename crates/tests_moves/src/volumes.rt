@@ -1,8 +1,9 @@
 //! The format that the tests share, and the volume with `HELLO` after each of the writes that bring its parts home.
 ghost use Rattle.std.specs.Prelude.{◌≡◌, ◌<◌, IfOk, length, vec_len};
 
-use a2_device::{Device, FaultDevice, ImageDevice};
+use a2_device::{Device, FaultDevice};
 use dos_format::Dos33;
+use image_device::ImageDevice;
 use reserved_places::Reserved;
 use std::alloc::{AllocError, Allocator, Global};
 use test_volumes::{FIRST_CATALOG, VTOC, dos_device, hello, put};

@@ -1,5 +1,7 @@
-use a2_device::{Device, DeviceError, FaultDevice, ImageDevice, StopDevice};
-use a2_image::{BLOCK_BYTES, DISK_BLOCKS, IMAGE_BYTES, Image, NIBBLE_BYTES, Order, SECTOR_BYTES};
+use a2_device::{Device, DeviceError, FaultDevice, StopDevice};
+use a2_image::{Image, SECTOR_BYTES};
+use image_device::ImageDevice;
+use sector_order::{BLOCK_BYTES, DISK_BLOCKS, IMAGE_BYTES, NIBBLE_BYTES, Order};
 use std::test::Fail;
 
 const ORDERS: [Order; 3] = [Order::Dos, Order::Prodos, Order::Nibble];

@@ -1,7 +1,7 @@
 -- What was said of a volume, and of the words and the image that lead to it.
 use Rattle.std.proofs.Common.{◌≡◌, ℕ, List, refl, inl, inr}
 use Rattle.std.specs.Prelude.{Bool, Option, Some, None, length}
-use Rattle.a2_image.specs.declared.order.Order.{Order}
+use Rattle.sector_order.specs.declared.order.Order.{Order}
 use Rattle.a2_image.specs.declared.error.ImageError.{ImageError}
 use Rattle.a2_image.specs.declared.error.ImageError.TheVariants as images
 use Rattle.a2_device.specs.Device.{DeviceState}

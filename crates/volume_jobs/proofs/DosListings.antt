@@ -2,11 +2,11 @@
 use Rattle.std.proofs.Common.{◌≡◌, ◌∙◌, ℕ, Bool, List, length, subst, sym, inl, inr}
 use Rattle.std.proofs.lemmas.List.FromFn.{length-map-range_with_len}
 use Rattle.std.specs.Prelude.{None}
-use Rattle.a2_image.specs.declared.order.Order.{Order}
+use Rattle.sector_order.specs.declared.order.Order.{Order}
 use Rattle.a2_image.specs.Image.{DiskImage}
 use Rattle.a2_device.specs.Device.{DeviceState}
-use Rattle.a2_device.specs.DosPlaces.{sector_at, sectors_by_place}
-use Rattle.a2_device.specs.ImageDevice.{length-stored_units}
+use Rattle.image_device.specs.DosPlaces.{sector_at, sectors_by_place}
+use Rattle.image_device.specs.ImageDevice.{length-stored_units}
 use Rattle.reserved_places.specs.declared.form.PlaceForm.TheVariants.{Sector}
 use Rattle.dos_format.specs.Dos.{dos_meaning}
 use Rattle.file_cmds.specs.DosFiles.{dos_files}

@@ -1,9 +1,9 @@
 -- What was read of an image, of a certificate and of a file, up to one byte past the most that they have, answers for all of it.
 use Rattle.std.proofs.Common.{◌≡◌, ℕ, ◌+◌, ◌≤◌, Bool, List, length, take, take_all, length-take, arith, sym, ap, subst, ◌∙◌, inl, inr}
 use Rattle.std.specs.Prelude.{Option}
-use Rattle.a2_image.specs.declared.order.Order.{Order}
-use Rattle.a2_image.specs.declared.order.Order.TheVariants.{Dos, Prodos, Nibble}
-use Rattle.a2_image.specs.Image.{IsImageLength}
+use Rattle.sector_order.specs.declared.order.Order.{Order}
+use Rattle.sector_order.specs.declared.order.Order.TheVariants.{Dos, Prodos, Nibble}
+use Rattle.sector_order.specs.Order.{IsImageLength}
 use Rattle.a2_device.specs.Device.{DeviceState}
 use Rattle.vol_format.specs.Meaning.{Meaning}
 use Rattle.shop_jobs.specs.declared.job.FileSystem.{FileSystem}

@@ -1,6 +1,6 @@
 -- The reply to `catalog` on a DOS 3.3 disk, in the words of its format: the VTOC and the catalog's sectors.
 use Rattle.std.specs.Prelude.{◌≡◌, ◌⊎◌, ℕ, List, length}
-use Rattle.a2_image.specs.declared.order.Order.{Order}
+use Rattle.sector_order.specs.declared.order.Order.{Order}
 use Rattle.a2_device.specs.Device.{DeviceState}
 use Rattle.file_cmds.specs.Catalog.{HasNoCatalog}
 use Rattle.file_cmds.specs.DosText.{IsListingText}

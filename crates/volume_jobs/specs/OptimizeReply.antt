@@ -5,8 +5,8 @@ use Rattle.a2_image.specs.Blocks.{blocks}
 use Rattle.a2_image.specs.Image.{DiskImage, HoldsSectors}
 use Rattle.a2_image.specs.KeptBytes.{HoldsKept}
 use Rattle.a2_device.specs.Device.{DeviceState, ImageForm}
-use Rattle.a2_device.specs.DosPlaces.{sectors_by_place}
-use Rattle.a2_device.specs.ImageDevice.{AreUnitsOf}
+use Rattle.image_device.specs.DosPlaces.{sectors_by_place}
+use Rattle.image_device.specs.ImageDevice.{AreUnitsOf}
 use Rattle.vol_format.specs.Meaning.{Meaning}
 use Rattle.file_cmds.specs.DosText.{Text, line}
 use Rattle.vol_mover.specs.Report.{IsReported, IsStopped}

@@ -1,6 +1,6 @@
 -- The reply to a job on the volume of an image.
 use Rattle.std.specs.Prelude.{◌≡◌, ◌⊎◌, ℕ, Bool, List, [], Option, Some, None}
-use Rattle.a2_image.specs.declared.order.Order.{Order}
+use Rattle.sector_order.specs.declared.order.Order.{Order}
 use Rattle.a2_device.specs.Device.{DeviceState}
 use Rattle.reserved_places.specs.Reserved.{IsPlaceList, Reserves}
 use Rattle.reserved_places.specs.declared.form.PlaceForm.{PlaceForm}

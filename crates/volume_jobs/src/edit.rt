@@ -9,8 +9,9 @@ ghost use Rattle.volume_jobs.specs.EditRules.{edit_rules};
 ghost use Rattle.volume_jobs.specs.Refusals.{refusal_of_edit, reply_to_edit_refusal};
 
 use crate::optimize::image_bytes;
-use a2_device::{Device, ImageDevice};
+use a2_device::Device;
 use file_edits::{EditError, delete, lock, rename, unlock};
+use image_device::ImageDevice;
 use job_reply::{Failure, Refusal, Reply};
 use save_formats::SavableFormat;
 use shop_jobs::Edit;

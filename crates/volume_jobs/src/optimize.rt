@@ -3,7 +3,8 @@ ghost use Rattle.std.specs.Prelude.{◌≡◌, Some, IfOk};
 ghost use Rattle.volume_jobs.specs.OptimizeReply.{AreBytesOf, IsOptimized, TellsReport, TellsStop, report_line, report_text};
 
 use crate::plan::unopened_reply;
-use a2_device::{Device, ImageDevice};
+use a2_device::Device;
+use image_device::ImageDevice;
 use job_reply::{Failure, Reply};
 use std::alloc::{AllocError, Global};
 use std::fmt;

@@ -8,10 +8,11 @@ ghost use Rattle.volume_jobs.specs.SaveReply.{AreSaveWrites, HasGivenSaved, IsOl
 
 use crate::edit::edit_refusal_reply;
 use crate::optimize::image_bytes;
-use a2_device::{Device, ImageDevice};
+use a2_device::Device;
 use file_edits::EditError;
 use file_saving::save;
 use given_file::{FileUnits, GivenError, GivenFile, file_units};
+use image_device::ImageDevice;
 use job_reply::{Failure, Refusal, Reply};
 use save_formats::{Attributes, SavableFormat};
 use std::alloc::Global;

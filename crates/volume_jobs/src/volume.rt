@@ -17,14 +17,16 @@ use crate::listing::ShownFormat;
 use crate::optimize::optimize_reply;
 use crate::reading_work::reading_reply;
 use crate::save::save_reply;
-use a2_device::{Device, ImageDevice};
-use a2_image::{Image, Order};
+use a2_device::Device;
+use a2_image::Image;
 use dos_format::Dos33;
 use given_file::GivenFile;
+use image_device::ImageDevice;
 use image_volume::{form_of, open_volume};
 use job_reply::{Failure, Refusal, Reply};
 use pro_format::Prodos;
 use reserved_places::{PlaceForm, ReserveError, Reserved};
+use sector_order::Order;
 use shop_jobs::{Edit, FileSystem, VolumeOptions};
 use std::alloc::Global;
 

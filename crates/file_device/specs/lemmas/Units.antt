@@ -6,11 +6,11 @@ use Rattle.std.proofs.lemmas.List.FromFn.{get_or-map-range_with_len, length-map-
 use Rattle.a2_image.specs.Lending.{written}
 use Rattle.a2_image.proofs.LentSectors.{written_here, written_elsewhere}
 use Rattle.a2_image.proofs.Sectors.{map_set}
-use Rattle.a2_device.specs.declared.units.UnitKind.{UnitKind}
-use Rattle.a2_device.specs.declared.units.UnitKind.TheVariants.{Sector, Block}
+use Rattle.image_device.specs.declared.units.UnitKind.{UnitKind}
+use Rattle.image_device.specs.declared.units.UnitKind.TheVariants.{Sector, Block}
 use Rattle.a2_device.specs.Device.{DeviceState, FailsWrite, IsWhole, counted, unit_at}
 use Rattle.a2_device.specs.Device.{written as written_unit}
-use Rattle.a2_device.specs.ImageDevice.{unit_bytes}
+use Rattle.image_device.specs.ImageDevice.{unit_bytes}
 use Rattle.file_device.specs.File.{FileState, after_write}
 use Rattle.file_device.specs.FileDevice.{file_device_state, file_unit, file_units}
 

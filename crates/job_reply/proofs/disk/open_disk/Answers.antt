@@ -1,5 +1,5 @@
 use Rattle.std.proofs.Common.{◌∙◌, ap₂, sym, refl, length, arith, tests}
-use Rattle.a2_image.specs.Image.{blocks_of}
+use Rattle.sector_order.specs.Order.{blocks_of}
 use Rattle.job_reply.proofs.Disks.{blocks_of-disk, disk_length, refuses_disk}
 use Rattle.job_reply.proofs.disk.open_disk.Goals as goal
 

@@ -1,5 +1,5 @@
 use Rattle.std.proofs.Common.{◌∙◌, ap, sym, subst, ℕ, List, Some, None}
-use Rattle.a2_image.specs.declared.order.Order.{Order}
+use Rattle.sector_order.specs.declared.order.Order.{Order}
 use Rattle.shop_jobs.specs.Job.{job_view}
 use Rattle.shop_jobs.specs.declared.job.Job.{Job}
 use Rattle.shop_commands.specs.Answer.{IsReplyToBytes, image_order_of}

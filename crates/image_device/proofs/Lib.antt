@@ -1,0 +1,3 @@
+pub mod Stored
+pub mod Images
+pub mod Failed

@@ -1,0 +1,2 @@
+pub mod Skew
+pub mod Order
