@@ -7,7 +7,7 @@
 # make bench      measures the program beside plain programs of the same work; no part of the tests
 
 PREFIX ?= /usr/local
-SOURCES := $(wildcard $(shell git ls-files --cached --others --exclude-standard crates crates.txt HANDLES))
+SOURCES := $(shell bash tests/files | tr '\0' '\n' | grep -E '^(crates/|crates\.txt$$|HANDLES$$)')
 
 .PHONY: all demo test assure install bench clean
 
