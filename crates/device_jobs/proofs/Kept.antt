@@ -5,8 +5,8 @@ use Rattle.std.specs.declared.alloc.Global.{Global}
 use Rattle.a2_device.specs.Device.{DeviceState}
 use Rattle.vol_format.specs.Meaning.{Meaning}
 use Rattle.file_cmds.specs.Files.{FileMeaning}
-use Rattle.file_edits.specs.declared.error.EditError.{EditError}
-use Rattle.file_edits.specs.declared.error.EditError.TheVariants as edits
+use Rattle.edit_writes.specs.declared.error.EditError.{EditError}
+use Rattle.edit_writes.specs.declared.error.EditError.TheVariants as edits
 use Rattle.vol_mover.specs.Optimizing.{IsRefused}
 use Rattle.vol_mover.specs.declared.report.OptError.{OptError}
 use Rattle.vol_mover.specs.declared.report.OptError.TheVariants.{Open, Step, Memory}

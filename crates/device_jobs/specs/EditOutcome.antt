@@ -4,11 +4,11 @@ use Rattle.a2_device.specs.Device.{DeviceState}
 use Rattle.vol_format.specs.Meaning.{Meaning}
 use Rattle.file_cmds.specs.DosText.{Text}
 use Rattle.file_cmds.specs.Files.{FileMeaning}
-use Rattle.file_edits.specs.Edited.{HasChanged}
-use Rattle.file_edits.specs.Renamed.{IsRenameRefusal}
-use Rattle.file_edits.specs.Writes.{HasEdited}
-use Rattle.file_edits.specs.declared.error.EditError.{EditError}
-use Rattle.file_edits.specs.declared.error.EditError.TheVariants.{Device}
+use Rattle.edit_formats.specs.Edited.{HasChanged}
+use Rattle.edit_formats.specs.Renamed.{IsRenameRefusal}
+use Rattle.edit_writes.specs.Writes.{HasEdited}
+use Rattle.edit_writes.specs.declared.error.EditError.{EditError}
+use Rattle.edit_writes.specs.declared.error.EditError.TheVariants.{Device}
 use Rattle.shop_jobs.specs.Job.{EditView}
 use Rattle.volume_jobs.specs.EditReply.{AreWritesOf, IsCause, IsOldOrEdited, edited_files}
 use Rattle.volume_jobs.specs.EditRules.{EditRules}

@@ -2,9 +2,9 @@
 use Rattle.std.specs.Prelude.{◌≡◌, ◌⊎◌, ◌<◌, ◌≤◌, ℕ, List, length, IfErr, IfSome, IsTrue, OnOk, Result, Err}
 use Rattle.a2_device.specs.Device.{DeviceState}
 use Rattle.vol_format.specs.Meaning.{Meaning}
-use Rattle.file_edits.specs.Writes.{HasEdited}
-use Rattle.file_edits.specs.declared.error.EditError.{EditError}
-use Rattle.file_edits.specs.declared.error.EditError.TheVariants.{Device}
+use Rattle.edit_writes.specs.Writes.{HasEdited}
+use Rattle.edit_writes.specs.declared.error.EditError.{EditError}
+use Rattle.edit_writes.specs.declared.error.EditError.TheVariants.{Device}
 use Rattle.file_saving.specs.Saved.{IsSaveRefusal}
 use Rattle.given_file.specs.Content.{GivenView, IsTooLongForHead}
 use Rattle.save_formats.specs.Saves.{SaveMeaning}

@@ -2,7 +2,6 @@ pub mod Names
 pub mod Lines
 pub mod DosEntries
 pub mod ProEntries
-pub mod Moments
 pub mod Told
 pub mod Texts
 pub mod OwnParts

@@ -11,7 +11,6 @@ pub mod Catalog
 pub mod DosText
 pub mod ProFiles
 pub mod ProListing
-pub mod ProMoment
 pub mod ProText
 pub mod ProLines
 pub mod lemmas

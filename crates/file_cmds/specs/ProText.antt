@@ -7,7 +7,7 @@ use Rattle.file_cmds.specs.declared.listing.ListEntry.{ListEntry}
 use Rattle.file_cmds.specs.DosText.{Text, line, shown}
 use Rattle.file_cmds.specs.Listing.{free_count}
 use Rattle.file_cmds.specs.ProFiles.{pro_shown}
-use Rattle.file_cmds.specs.ProMoment.{date_text}
+use Rattle.pro_dates.specs.ShownDates.{date_text}
 
 -- a hexadecimal digit: 0 to 9, a to f
 abbrev pub hex_digit : ℕ → ℕ

@@ -1,4 +1,3 @@
 pub mod Exclusive
 pub mod FileAlone
 pub mod DosListing
-pub mod ProMomentLaw

@@ -18,7 +18,6 @@ mod listing;
 mod name;
 mod one_file;
 mod pro;
-mod pro_date;
 mod pro_lines;
 mod pro_text;
 mod reading;

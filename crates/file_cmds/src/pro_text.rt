@@ -5,7 +5,7 @@ ghost use Rattle.file_cmds.specs.ProText.{hex_digit, path_text, pro_file_line};
 
 use crate::ListEntry;
 use crate::dos_text::shown_byte;
-use crate::pro_date::ShownDate;
+use pro_dates::ShownDate;
 use std::alloc::Allocator;
 use std::fmt;
 

@@ -1,17 +1,4 @@
-pub mod Edits
-pub mod Changed
-pub mod FirstNamed
-pub mod RewrittenFile
-pub mod Locked
-pub mod EntryWrites
-pub mod Making
-pub mod MadeDeletion
-pub mod Nearest
-pub mod MarkedUnits
-pub mod MarkingWrites
-pub mod WholeDelete
-pub mod NameWrites
-pub mod NamedEntries
-pub mod Renamed
-pub mod ErasedEntries
-pub mod Deletions
+mod FirstNamed
+mod RewrittenFile
+mod Locked
+mod Renamed

@@ -8,11 +8,11 @@ use Rattle.vol_format.specs.Laws.{IsReadable, IsMovable, IsWritable}
 use Rattle.vol_format.specs.Meaning.{Meaning}
 use Rattle.vol_files.specs.Files.{File}
 use Rattle.file_cmds.specs.Files.{FileMeaning, IsFirstNamed}
-use Rattle.file_edits.specs.Edited.{HasChanged}
-use Rattle.file_edits.specs.Names.{NameMeaning, IsNamable, name_written}
-use Rattle.file_edits.specs.Renamed.{IsRenameEdit, with_new_name}
+use Rattle.edit_formats.specs.Edited.{HasChanged}
+use Rattle.edit_formats.specs.Names.{NameMeaning, IsNamable, name_written}
+use Rattle.edit_formats.specs.Renamed.{IsRenameEdit, with_new_name}
 use Rattle.delete_laws.specs.Writes.{Write}
-use Rattle.file_edits.proofs.Changed.{IsOneChange}
+use Rattle.edit_formats.proofs.Changed.{IsOneChange}
 use Rattle.file_edits.proofs.RewrittenFile.{first_is_file, first_inside, rewrite_changes}
 
 module _ (format : Meaning) (laws : IsReadable format) (movable : IsMovable format) (writable : IsWritable format)

@@ -20,8 +20,8 @@ use Rattle.entry_laws.proofs.WholeLists.{volume_rewritten}
 use Rattle.entry_laws.proofs.Zipped.{zipped_at}
 use Rattle.file_cmds.specs.Files.{FileMeaning, IsFirstNamed}
 use Rattle.delete_laws.specs.Deleted.{IsLostOn}
-use Rattle.file_edits.specs.Edited.{HasChanged}
-use Rattle.file_edits.specs.Lists.{with_first}
+use Rattle.edit_formats.specs.Edited.{HasChanged}
+use Rattle.edit_formats.specs.Lists.{with_first}
 use Rattle.file_edits.proofs.FirstNamed.{named_file, first_changed}
 
 module _ (format : Meaning) (laws : IsReadable format) (movable : IsMovable format) (writable : IsWritable format) (meaning : FileMeaning) (path : List ℕ)

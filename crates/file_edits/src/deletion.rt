@@ -5,16 +5,17 @@ ghost use Rattle.vol_format.specs.Directory.{Directory, entries};
 ghost use Rattle.dos_format.specs.Dos.{DescribesDos, dos_meaning};
 ghost use Rattle.dos_entries.specs.Rewriting.{sector_of_entry};
 ghost use Rattle.delete_laws.specs.Deleted.{HasFileDeleted};
-ghost use Rattle.file_edits.specs.DosErasing.{dos_erasing};
-ghost use Rattle.file_edits.specs.Erasing.{HasWholeUnits, IsErasing};
+ghost use Rattle.edit_formats.specs.DosErasing.{dos_erasing};
+ghost use Rattle.edit_formats.specs.Erasing.{HasWholeUnits, IsErasing};
 ghost use Rattle.delete_laws.specs.Deletion.{IsDeletion};
-ghost use Rattle.file_edits.specs.declared.writes.Prepared.{Prepared};
-ghost use Rattle.file_edits.specs.Prepared.{write_of};
-ghost use Rattle.file_edits.specs.Markings.{AreMarked};
-ghost use Rattle.file_edits.specs.Deleted.{HasPlacesOf, IsDeleteEdit, IsOldOrErased};
-ghost use Rattle.file_edits.specs.Writes.{HasEdited};
+ghost use Rattle.edit_writes.specs.declared.writes.Prepared.{Prepared};
+ghost use Rattle.edit_writes.specs.Prepared.{write_of};
+ghost use Rattle.edit_writes.specs.Markings.{AreMarked};
+ghost use Rattle.edit_formats.specs.Deleted.{HasPlacesOf, IsDeleteEdit, IsOldOrErased};
+ghost use Rattle.edit_writes.specs.Writes.{HasEdited};
 
-use crate::{EditError, EditableFormat, Prepared};
+use edit_formats::EditableFormat;
+use edit_writes::{EditError, Prepared};
 use std::alloc::Allocator;
 
 /// A law: an edit that makes the writes of a deletion leaves the files without the first that the path names, and the same places are lost; where it was

@@ -3,15 +3,15 @@ ghost use Rattle.std.specs.Prelude.{◌≡◌, ◌<◌, List, [], ◌∷◌, len
 ghost use Rattle.vol_format.specs.Accepted.{IsVolume};
 ghost use Rattle.vol_format.specs.Directory.{entries, entry_of};
 ghost use Rattle.a2_device.specs.Device.{OnlyReads, unit_at};
-ghost use Rattle.file_edits.specs.Edited.{HasNoSuchFile, HasChanged, IsOldOrChanged};
-ghost use Rattle.file_edits.specs.Refusal.{told_device};
-ghost use Rattle.file_edits.specs.Renamed.{IsRenameEdit, IsRenamable, HasFirst, HasFirstBeside, HasFirstLocked, IsWeighed, IsRenameTold, IsRenameRefusal, IsEntryRefusal, with_new_name};
+ghost use Rattle.edit_formats.specs.Edited.{HasNoSuchFile, HasChanged, IsOldOrChanged};
+ghost use Rattle.edit_writes.specs.Refusal.{told_device};
+ghost use Rattle.edit_formats.specs.Renamed.{IsRenameEdit, IsRenamable, HasFirst, HasFirstBeside, HasFirstLocked, IsWeighed, IsRenameTold, IsRenameRefusal, IsEntryRefusal, with_new_name};
 ghost use Rattle.delete_laws.specs.Writes.{Write};
-ghost use Rattle.file_edits.specs.Writes.{HasEdited};
+ghost use Rattle.edit_writes.specs.Writes.{HasEdited};
 
-use crate::units::{read_unit, write_unit};
-use crate::{EditError, EditableFormat};
 use a2_device::Device;
+use edit_formats::EditableFormat;
+use edit_writes::{EditError, read_unit, write_unit};
 use file_cmds::find;
 use std::alloc::Allocator;
 use vol_check::check;

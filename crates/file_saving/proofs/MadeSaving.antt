@@ -14,12 +14,12 @@ use Rattle.save_laws.specs.Saved.{HasNothingSaved}
 use Rattle.save_laws.proofs.WholeSaving as whole
 use Rattle.file_plans.specs.Placed.{stored_units}
 use Rattle.file_plans.proofs.Bodies.{body_placed}
-use Rattle.file_edits.specs.declared.error.EditError.{EditError}
-use Rattle.file_edits.specs.declared.error.EditError.TheVariants.{Device}
-use Rattle.file_edits.specs.Erasing.{HasWholeUnits}
-use Rattle.file_edits.specs.Writes.{HasEdited, StopsIn, device_after, no_write}
-use Rattle.file_edits.proofs.Changed.{read_keeps, write_leaves}
-use Rattle.file_edits.proofs.MadeDeletion.{store_of}
+use Rattle.edit_writes.specs.declared.error.EditError.{EditError}
+use Rattle.edit_writes.specs.declared.error.EditError.TheVariants.{Device}
+use Rattle.edit_formats.specs.Erasing.{HasWholeUnits}
+use Rattle.edit_writes.specs.Writes.{HasEdited, StopsIn, device_after, no_write}
+use Rattle.edit_formats.proofs.Changed.{read_keeps, write_leaves}
+use Rattle.edit_formats.proofs.MadeDeletion.{store_of}
 use Rattle.save_formats.specs.declared.target.Attributes.{Attributes}
 use Rattle.save_formats.specs.Saves.{SaveMeaning, IsSavable}
 use Rattle.file_saving.specs.Saved.{IsSaveEdit, HasSaved, HasNotSaved, IsOldOrSaved, kept_units, new_places, saved_file}

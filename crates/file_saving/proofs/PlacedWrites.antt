@@ -8,10 +8,10 @@ use Rattle.vol_format.specs.Directory.{Directory}
 use Rattle.vol_format.specs.Meaning.{Meaning}
 use Rattle.delete_laws.specs.Writes.{Write}
 use Rattle.new_files.specs.declared.part.NewPart.{NewPart}
-use Rattle.file_edits.specs.declared.writes.Prepared.{Prepared}
-use Rattle.file_edits.specs.Markings.{AreMarked}
-use Rattle.file_edits.specs.Prepared.{write_of}
-use Rattle.file_edits.specs.Writes.{no_write}
+use Rattle.edit_writes.specs.declared.writes.Prepared.{Prepared}
+use Rattle.edit_writes.specs.Markings.{AreMarked}
+use Rattle.edit_writes.specs.Prepared.{write_of}
+use Rattle.edit_writes.specs.Writes.{no_write}
 use Rattle.save_formats.specs.Saves.{SaveMeaning}
 use Rattle.file_saving.specs.Parts.{HasPartWrites}
 

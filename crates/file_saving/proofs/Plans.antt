@@ -14,7 +14,7 @@ use Rattle.new_files.proofs.Membership.{inside_file}
 use Rattle.file_plans.specs.Placed.{HasPlaced, HasBodyUnits, plan_with}
 use Rattle.file_plans.proofs.Bodies.{plan_placed, plan_unit}
 use Rattle.file_plans.proofs.Parts.{part_is, plan_place}
-use Rattle.file_edits.specs.Writes.{no_write}
+use Rattle.edit_writes.specs.Writes.{no_write}
 use Rattle.save_formats.specs.Saves.{SaveMeaning, HasTables}
 use Rattle.file_saving.specs.Given.{given_unit, given_units}
 use Rattle.file_saving.specs.Parts.{HasPartWrites}

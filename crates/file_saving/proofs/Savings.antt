@@ -22,12 +22,12 @@ use Rattle.save_laws.proofs.Unsaved.{all_stands}
 use Rattle.new_files.specs.declared.part.NewPart.{NewPart}
 use Rattle.file_plans.specs.Placed.{HavePlaces, HasPlaced}
 use Rattle.file_plans.proofs.Parts.{plan_place}
-use Rattle.file_edits.specs.declared.writes.Prepared.{Prepared}
-use Rattle.file_edits.specs.Erasing.{HasWholeUnits}
-use Rattle.file_edits.specs.Markings.{marked_in, AreMarked}
-use Rattle.file_edits.specs.Prepared.{write_of}
-use Rattle.file_edits.specs.Writes.{no_write}
-use Rattle.file_edits.proofs.MarkingWrites.{markings, markings_are, markings_rising, of_markings, marked_here, marking_each, marking_some}
+use Rattle.edit_writes.specs.declared.writes.Prepared.{Prepared}
+use Rattle.edit_formats.specs.Erasing.{HasWholeUnits}
+use Rattle.edit_writes.specs.Markings.{marked_in, AreMarked}
+use Rattle.edit_writes.specs.Prepared.{write_of}
+use Rattle.edit_writes.specs.Writes.{no_write}
+use Rattle.edit_writes.proofs.MarkingWrites.{markings, markings_are, markings_rising, of_markings, marked_here, marking_each, marking_some}
 use Rattle.save_formats.specs.declared.target.Attributes.{Attributes}
 use Rattle.save_formats.specs.declared.target.Extent.{Extent}
 use Rattle.save_formats.specs.declared.target.Slot.{Slot}

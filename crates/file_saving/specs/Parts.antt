@@ -4,7 +4,7 @@ use Rattle.vol_parts.specs.declared.part.PartKind.TheVariants.{Body}
 use Rattle.new_files.specs.declared.part.NewPart.{NewPart}
 use Rattle.new_files.specs.Order.{part_at}
 use Rattle.delete_laws.specs.Writes.{Write}
-use Rattle.file_edits.specs.Writes.{no_write}
+use Rattle.edit_writes.specs.Writes.{no_write}
 use Rattle.save_formats.specs.Saves.{SaveMeaning}
 use Rattle.file_saving.specs.Given.{given_unit}
 

@@ -9,8 +9,8 @@ use Rattle.delete_laws.specs.Writes.{Write}
 use Rattle.save_laws.specs.Saved.{HasFileSaved, HasNothingSaved}
 use Rattle.save_laws.specs.Saving.{IsSaving}
 use Rattle.file_plans.specs.Placed.{HasPlaced, HasBodyUnits, stored_units}
-use Rattle.file_edits.specs.declared.error.EditError.{EditError}
-use Rattle.file_edits.specs.declared.error.EditError.TheVariants.{Check, NotFound, Name, Exists, TooLong, DirFull, VolumeFull, Device, Memory}
+use Rattle.edit_writes.specs.declared.error.EditError.{EditError}
+use Rattle.edit_writes.specs.declared.error.EditError.TheVariants.{Check, NotFound, Name, Exists, TooLong, DirFull, VolumeFull, Device, Memory}
 use Rattle.save_formats.specs.declared.target.Attributes.{Attributes}
 use Rattle.save_formats.specs.declared.target.Extent.{Extent}
 use Rattle.save_formats.specs.declared.target.Slot.{Slot}

@@ -1,7 +1,7 @@
 -- The free slot of a new file, or why it gets none.
 use Rattle.std.specs.Prelude.{◌≡◌, ℕ, Bool, true, false, List, length, if◌then◌else◌, Result, Ok, Err}
-use Rattle.file_edits.specs.declared.error.EditError.{EditError}
-use Rattle.file_edits.specs.declared.error.EditError.TheVariants.{Check, NotFound, Name, Exists, TooLong, DirFull, Device, Memory}
+use Rattle.edit_writes.specs.declared.error.EditError.{EditError}
+use Rattle.edit_writes.specs.declared.error.EditError.TheVariants.{Check, NotFound, Name, Exists, TooLong, DirFull, Device, Memory}
 use Rattle.save_formats.specs.declared.target.Attributes.{Attributes}
 use Rattle.save_formats.specs.declared.target.Slot.{Slot}
 use Rattle.save_formats.specs.declared.target.Target.{Target}

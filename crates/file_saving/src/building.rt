@@ -2,12 +2,12 @@
 ghost use Rattle.std.specs.Prelude.{◌≡◌, ◌≢◌, ◌<◌, ◌≤◌, ◌*◌, ℕ, Bool, List, false, length, map, replicate, slice_index, All, IfOk, IsTrue};
 ghost use Rattle.vol_parts.specs.declared.part.PartKind.TheVariants.{Body};
 ghost use Rattle.new_files.specs.Order.{part_at};
-ghost use Rattle.file_edits.specs.declared.writes.Prepared.{Prepared};
-ghost use Rattle.file_edits.specs.Prepared.{write_of};
+ghost use Rattle.edit_writes.specs.declared.writes.Prepared.{Prepared};
+ghost use Rattle.edit_writes.specs.Prepared.{write_of};
 ghost use Rattle.file_saving.specs.Given.{given_unit};
 ghost use Rattle.file_saving.specs.Parts.{HasPartWrites, IsPartWrite};
 
-use file_edits::{Prepared, behind};
+use edit_writes::{Prepared, behind};
 use new_files::NewPart;
 use save_formats::SavableFormat;
 use std::alloc::{AllocError, Allocator};

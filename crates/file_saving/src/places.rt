@@ -2,7 +2,7 @@
 ghost use Rattle.std.specs.Prelude.{◌≡◌, ◌⊎◌, ◌<◌, ◌++◌, [], ◌∷◌, Err, OnOk, IfErr, IfOk, length};
 ghost use Rattle.file_saving.specs.Places.{first_places, free_places};
 
-use file_edits::EditError;
+use edit_writes::EditError;
 use std::alloc::{AllocError, Allocator};
 use vol_format::Format;
 

@@ -1,12 +1,12 @@
 // The command that saves a new file.
 ghost use Rattle.std.specs.Prelude.{◌≡◌, ◌*◌, length, Err, IfErr, IsTrue, OnOk};
 ghost use Rattle.vol_format.specs.Accepted.{IsVolume};
-ghost use Rattle.file_edits.specs.Writes.{HasEdited};
+ghost use Rattle.edit_writes.specs.Writes.{HasEdited};
 ghost use Rattle.file_saving.specs.Saved.{IsSaveEdit, IsSaveRefusal, IsSaveTold, HasSaved, IsOldOrSaved, HasNoDirectory, HasNoName, HasNameInUse, IsTooLong, HasFullDirectory, HasFewPlaces};
 
 use crate::preparing::prepare;
 use a2_device::Device;
-use file_edits::{EditError, write_all};
+use edit_writes::{EditError, write_all};
 use save_formats::{Attributes, SavableFormat};
 use std::alloc::Allocator;
 use vol_check::check;

@@ -2,12 +2,12 @@
 ghost use Rattle.std.specs.Prelude.{◌≡◌, ◌≢◌, true, false, length, Err, IfErr, IfOk, IsTrue};
 ghost use Rattle.a2_device.specs.Device.{OnlyReads};
 ghost use Rattle.vol_format.specs.Directory.{Directory};
-ghost use Rattle.file_edits.specs.Refusal.{told_device};
+ghost use Rattle.edit_writes.specs.Refusal.{told_device};
 ghost use Rattle.save_formats.specs.Saves.{IsSlotWithin};
 ghost use Rattle.file_saving.specs.Slots.{slot_or_refusal, IsSlotRefusal, IsSlotTold};
 
 use a2_device::Device;
-use file_edits::EditError;
+use edit_writes::EditError;
 use save_formats::{Attributes, SavableFormat, Slot, Target};
 use std::alloc::Allocator;
 

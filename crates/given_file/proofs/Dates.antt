@@ -7,7 +7,7 @@ use Rattle.jiff.specs.Words.{IsBetween, date_parts, datetime_view, parse_datetim
 use Rattle.jiff_core.specs.declared.civil.datetime.DateTime.{DateTime}
 use Rattle.jiff_core.specs.declared.error.Error.{Error}
 use Rattle.pro_dir.specs.declared.date.ProDate.{ProDate}
-use Rattle.pro_dir.specs.Dates.{IsMoment, IsMinuteOf}
+use Rattle.pro_dates.specs.Moments.{IsMoment, IsMinuteOf}
 use Rattle.given_file.specs.Words.{IsDateOf, NamesDate}
 
 read_ok : (r : Result DateTime Error) (moment : DateTime) → result_ok r ≡ Some moment → r ≡ Ok moment

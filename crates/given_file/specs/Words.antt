@@ -5,7 +5,7 @@ use Rattle.std.specs.Str.{bytes_eq}
 use Rattle.jiff.specs.Words.{IsBetween, datetime_view, parse_datetime}
 use Rattle.jiff_core.specs.declared.civil.datetime.DateTime.{DateTime}
 use Rattle.pro_dir.specs.declared.date.ProDate.{ProDate}
-use Rattle.pro_dir.specs.Dates.{IsMoment, IsMinuteOf}
+use Rattle.pro_dates.specs.Moments.{IsMoment, IsMinuteOf}
 use Rattle.given_file.specs.declared.content.Head.{Head}
 use Rattle.given_file.specs.declared.content.Head.TheVariants as heads
 

@@ -4,6 +4,7 @@ ghost use Rattle.given_file.specs.Words.{dos_head, dos_kind, hex_byte, hex_value
 
 use crate::Head;
 use jiff::civil::DateTime;
+use pro_dates::from_civil;
 use pro_dir::ProDate;
 
 /// The bytes of no date.
@@ -84,7 +85,7 @@ pub fn date(word: Option<&str>) -> Option<ProDate>
     ensures none { (result ≡ None) ↔ (¬ NamesDate (option_map (λ s. s.now) word.entry)) }
 {
     match word {
-        Some(text) => ProDate::from_civil(text.parse::<DateTime>().ok()?),
+        Some(text) => from_civil(text.parse::<DateTime>().ok()?),
         None => Some(NO_DATE),
     }
 }

@@ -7,5 +7,4 @@ mod Within
 mod Paths
 mod Folding
 mod Noted
-mod Small
 mod Written

@@ -1,5 +1,4 @@
 pub mod Entry
-pub mod Dates
 pub mod Writes
 pub mod Tree
 pub mod Volume

@@ -9,7 +9,7 @@ use Rattle.pro_dir.specs.Volume.{Directory as Tree, Describes}
 use Rattle.pro_dir.specs.Walk.{IsKeyOf}
 use Rattle.pro_entries.proofs.OneKey.{key_run}
 use Rattle.pro_entries.proofs.SlotLaws.{key_of_path}
-use Rattle.file_edits.specs.ProNames.{is_name_in, is_pro_name}
+use Rattle.edit_formats.specs.ProNames.{is_name_in, is_pro_name}
 use Rattle.save_formats.specs.declared.target.Target.TheVariants.{NoName, InUse, Full, At}
 use Rattle.save_formats.specs.ProSaves.{above_name, last_name, HasFirstFree, IsDirectoryAbove, IsNameIn, IsProTarget}
 use Rattle.save_formats.specs.lemmas.ProSavable.{path_above}

@@ -10,8 +10,8 @@ use Rattle.dos_catalog.specs.declared.catalog.Catalog.{Catalog}
 use Rattle.dos_catalog.specs.declared.entry.Entry.{Entry}
 use Rattle.dos_catalog.specs.Listed.{entries_of_catalog, sectors_of_catalog}
 use Rattle.dos_catalog.specs.Catalog.{CatalogFaultAt, IsCatalog}
-use Rattle.file_edits.specs.declared.error.EditError.TheVariants.{Check}
-use Rattle.file_edits.specs.Renamed.{refusal_of_walk}
+use Rattle.edit_writes.specs.declared.error.EditError.TheVariants.{Check}
+use Rattle.edit_formats.specs.Renamed.{refusal_of_walk}
 use Rattle.file_cmds.specs.DosFiles.{dos_name}
 use Rattle.save_formats.specs.DosSaves.{HasWalked, is_name_used}
 

@@ -20,9 +20,9 @@ use Rattle.new_files.specs.declared.part.NewPart.{NewPart}
 use Rattle.new_files.specs.Order.{part_at}
 use Rattle.new_files.specs.Parts.{kept, pro_parts_of, storage_type}
 use Rattle.file_plans.specs.TableUnit.{IsTableUnit}
-use Rattle.file_edits.specs.declared.counting.FileCount.TheVariants.{More}
-use Rattle.file_edits.specs.Counting.{counted_writes}
-use Rattle.file_edits.specs.ProNames.{is_name_in, is_pro_name, pro_name}
+use Rattle.edit_formats.specs.declared.counting.FileCount.TheVariants.{More}
+use Rattle.edit_formats.specs.Counting.{counted_writes}
+use Rattle.edit_formats.specs.ProNames.{is_name_in, is_pro_name, pro_name}
 use Rattle.save_formats.specs.declared.target.Attributes.{Attributes}
 use Rattle.save_formats.specs.declared.target.Extent.{Extent}
 use Rattle.save_formats.specs.declared.target.Slot.{Slot}

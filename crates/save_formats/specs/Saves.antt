@@ -13,7 +13,7 @@ use Rattle.delete_laws.specs.Writes.{Write, store_after}
 use Rattle.new_files.specs.declared.part.NewPart.{NewPart}
 use Rattle.new_files.specs.Order.{HasStored, part_at}
 use Rattle.file_plans.specs.Placed.{HavePlaces, HasPlaced}
-use Rattle.file_edits.specs.Erasing.{HasWholeUnits}
+use Rattle.edit_formats.specs.Erasing.{HasWholeUnits}
 use Rattle.save_formats.specs.declared.target.Attributes.{Attributes}
 use Rattle.save_formats.specs.declared.target.Extent.{Extent}
 use Rattle.save_formats.specs.declared.target.Slot.{Slot}

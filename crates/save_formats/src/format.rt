@@ -1,7 +1,8 @@
 // The trait of formats to which files are saved.
 use crate::{Attributes, Extent, Slot, Target};
 use a2_device::Device;
-use file_edits::{EditError, EditableFormat, Prepared};
+use edit_formats::EditableFormat;
+use edit_writes::{EditError, Prepared};
 use new_files::{NewFileError, NewPart};
 use std::alloc::Allocator;
 
@@ -12,10 +13,10 @@ pub trait SavableFormat: EditableFormat {
     ghost use Rattle.vol_parts.specs.declared.part.PartKind.TheVariants.{Body};
     ghost use Rattle.vol_format.specs.Directory.{Directory};
     ghost use Rattle.new_files.specs.Order.{part_at};
-    ghost use Rattle.file_edits.specs.declared.writes.Prepared.{Prepared};
-    ghost use Rattle.file_edits.specs.Prepared.{write_of};
-    ghost use Rattle.file_edits.specs.Refusal.{told_device};
-    ghost use Rattle.file_edits.specs.Renamed.{IsReadRefusal};
+    ghost use Rattle.edit_writes.specs.declared.writes.Prepared.{Prepared};
+    ghost use Rattle.edit_writes.specs.Prepared.{write_of};
+    ghost use Rattle.edit_writes.specs.Refusal.{told_device};
+    ghost use Rattle.edit_formats.specs.Renamed.{IsReadRefusal};
     ghost use Rattle.save_formats.specs.Saves.{SaveMeaning, IsSavable, IsSlotWithin, IsTargetOf, IsTargetWithin};
 
     ghost saves: { Self → SaveMeaning };

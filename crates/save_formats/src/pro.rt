@@ -8,17 +8,16 @@ ghost use Rattle.pro_dir.specs.Volume.{Directory as Tree, Describes};
 ghost use Rattle.pro_dir.specs.Walk.{IsKeyOf};
 ghost use Rattle.pro_dir.specs.Within.{IsFreeWithin};
 ghost use Rattle.pro_dir.specs.Writes.{entry_bytes, slot_offset, with_bytes};
-ghost use Rattle.file_edits.specs.ProNames.{is_pro_name};
-ghost use Rattle.file_edits.specs.Refusal.{told_device};
-ghost use Rattle.file_edits.specs.Renamed.{IsReadRefusal};
+ghost use Rattle.edit_formats.specs.ProNames.{is_pro_name};
+ghost use Rattle.edit_writes.specs.Refusal.{told_device};
+ghost use Rattle.edit_formats.specs.Renamed.{IsReadRefusal};
 ghost use Rattle.save_formats.specs.ProSaves.{last_name, new_file};
 
 use crate::paths::{directory_above, is_in_use, last_name};
 use crate::{Attributes, Extent, SavableFormat, Slot, Target};
 use a2_device::Device;
-use file_edits::{
-    EditError, FileCount, Prepared, copy_unit, counted_writes, is_pro_name, pro_name, refusal,
-};
+use edit_formats::{FileCount, counted_writes, is_pro_name, pro_name, refusal};
+use edit_writes::{EditError, Prepared, copy_unit};
 use file_plans::{build_index, build_master};
 use new_files::{NewFileError, NewPart, pro_parts, pro_storage};
 use pro_dir::{NewFile, VolumeDir, encode};

@@ -7,7 +7,7 @@ use crate::late_failures::{Failure, late};
 use crate::pieces::{Piece, hello_with, put_writes, sub_with, tree_with};
 use crate::savings::{fill_block, save_hi, save_hole, save_note};
 use a2_device::Device;
-use file_edits::EditError;
+use edit_writes::EditError;
 use refusing::Refusing;
 use std::alloc::{AllocError, Allocator, Global};
 use std::test::Fail;

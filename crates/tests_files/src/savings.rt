@@ -5,7 +5,7 @@ ghost use Rattle.a2_device.specs.Device.{DeviceState};
 use crate::dos_listings::dos_33;
 use crate::pieces::{Piece, hello_with, put_pieces};
 use a2_device::Device;
-use file_edits::EditError;
+use edit_writes::EditError;
 use file_saving::save;
 use pro_dir::ProDate;
 use pro_format::Prodos;

@@ -1,12 +1,13 @@
 //! Dates and access bits of entries.
 use bitflags::Flags;
 use jiff::civil::DateTime;
+use pro_dates::{from_civil, to_civil};
 use pro_dir::{Access, ProDate};
 use std::test::Fail;
 
 // The year, the month, the day, the hour and the minute that the bytes of a date name.
 fn named(bytes: [u8; 4]) -> Option<(i16, i8, i8, i8, i8)> {
-    let moment = ProDate(bytes).to_civil()?;
+    let moment = to_civil(ProDate(bytes))?;
     Some((
         moment.year(),
         moment.month(),
@@ -26,7 +27,7 @@ fn reads_dates(rt: HostRuntime) {
 // The bytes of the date of a moment, if a date names it.
 fn made(moment: &str) -> Result<Option<ProDate>, Fail> {
     let moment: DateTime = moment.parse()?;
-    Ok(ProDate::from_civil(moment))
+    Ok(from_civil(moment))
 }
 
 /// Moments, and the bytes of their dates.

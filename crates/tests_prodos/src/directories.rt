@@ -3,6 +3,7 @@ ghost use Rattle.std.specs.Prelude.{◌≡◌, ◌<◌, length};
 
 use a2_device::FaultDevice;
 use bitflags::Flags;
+use pro_dates::to_civil;
 use pro_dir::{Entry, ProDate, VolumeDir};
 use std::alloc::{AllocError, Allocator, Global};
 use std::test::Fail;
@@ -53,7 +54,7 @@ fn walks_over_one_file(rt: HostRuntime) -> Result<(), Fail> {
 
 // Whether an entry is that of the seedling `A`, which has no date.
 fn is_a(entry: &Entry) -> bool {
-    entry.name() == b"A".as_slice() && entry.modified().to_civil().is_none()
+    entry.name() == b"A".as_slice() && to_civil(entry.modified()).is_none()
 }
 
 #[test]

@@ -4,12 +4,12 @@ use Rattle.std.specs.Prelude.{◌⊎◌, ◌<◌, true, IfSome, IsTrue, Err, Ok,
 use Rattle.a2_device.specs.Device.{DeviceState, FailsWrite, OnlyReads, UsesWrite, last_count, one_fewer, written}
 use Rattle.vol_format.specs.Meaning.{Meaning}
 use Rattle.file_cmds.specs.Files.{FileMeaning}
-use Rattle.file_edits.specs.Edited.{HasChanged}
-use Rattle.file_edits.specs.Renamed.{IsRenameRefusal}
+use Rattle.edit_formats.specs.Edited.{HasChanged}
+use Rattle.edit_formats.specs.Renamed.{IsRenameRefusal}
 use Rattle.delete_laws.specs.Writes.{Write}
-use Rattle.file_edits.specs.Writes.{HasEdited, RefusesWrite, StopsIn, device_after, no_write}
-use Rattle.file_edits.specs.declared.error.EditError.{EditError}
-use Rattle.file_edits.specs.declared.error.EditError.TheVariants as refused
+use Rattle.edit_writes.specs.Writes.{HasEdited, RefusesWrite, StopsIn, device_after, no_write}
+use Rattle.edit_writes.specs.declared.error.EditError.{EditError}
+use Rattle.edit_writes.specs.declared.error.EditError.TheVariants as refused
 use Rattle.shop_jobs.specs.Job.{EditView, Lock, Unlock, Delete, Rename}
 use Rattle.job_reply.specs.declared.refusal.Refusal.{Refusal}
 use Rattle.job_reply.specs.declared.refusal.Refusal.TheVariants as refusals

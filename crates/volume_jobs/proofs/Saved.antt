@@ -4,9 +4,9 @@ use Rattle.std.specs.Prelude.{◌⊎◌, ℕ, true, IfSome, IsTrue, Err, Ok}
 use Rattle.a2_device.specs.Device.{DeviceState, OnlyReads}
 use Rattle.vol_format.specs.Meaning.{Meaning}
 use Rattle.delete_laws.specs.Writes.{Write}
-use Rattle.file_edits.specs.Writes.{HasEdited, StopsIn}
-use Rattle.file_edits.specs.declared.error.EditError.{EditError}
-use Rattle.file_edits.specs.declared.error.EditError.TheVariants as refused
+use Rattle.edit_writes.specs.Writes.{HasEdited, StopsIn}
+use Rattle.edit_writes.specs.declared.error.EditError.{EditError}
+use Rattle.edit_writes.specs.declared.error.EditError.TheVariants as refused
 use Rattle.file_saving.specs.Saved.{IsSaveRefusal}
 use Rattle.save_formats.specs.Saves.{SaveMeaning}
 use Rattle.given_file.specs.Content.{GivenView}

@@ -6,12 +6,12 @@ use Rattle.vol_format.specs.Meaning.{Meaning}
 use Rattle.vol_files.specs.Files.{File}
 use Rattle.file_cmds.specs.DosText.{Text}
 use Rattle.file_cmds.specs.Files.{FileMeaning}
-use Rattle.file_edits.specs.Deleted.{HasFirstProtected, IsDeleteEdit, IsOldOrErased}
-use Rattle.file_edits.specs.Edited.{HasChanged, HasNoSuchFile, IsLockEdit, IsOldOrChanged}
-use Rattle.file_edits.specs.Lists.{with_lock_on, without_named}
-use Rattle.file_edits.specs.Renamed.{HasFirstBeside, HasFirstLocked, IsRenameEdit, with_new_name}
+use Rattle.edit_formats.specs.Deleted.{HasFirstProtected, IsDeleteEdit, IsOldOrErased}
+use Rattle.edit_formats.specs.Edited.{HasChanged, HasNoSuchFile, IsLockEdit, IsOldOrChanged}
+use Rattle.edit_formats.specs.Lists.{with_lock_on, without_named}
+use Rattle.edit_formats.specs.Renamed.{HasFirstBeside, HasFirstLocked, IsRenameEdit, with_new_name}
 use Rattle.delete_laws.specs.Writes.{Write}
-use Rattle.file_edits.specs.Writes.{device_after}
+use Rattle.edit_writes.specs.Writes.{device_after}
 use Rattle.shop_jobs.specs.Job.{EditView, Lock, Unlock, Delete, Rename}
 use Rattle.job_reply.specs.declared.refusal.Refusal.{Refusal}
 use Rattle.job_reply.specs.declared.refusal.Refusal.TheVariants as refusals

@@ -1,7 +1,7 @@
 -- What a format of volumes is to the commands that change a file.
-use Rattle.file_edits.specs.Edits.{EditMeaning}
-use Rattle.file_edits.specs.Erasing.{EraseMeaning}
-use Rattle.file_edits.specs.Names.{NameMeaning}
+use Rattle.edit_formats.specs.Edits.{EditMeaning}
+use Rattle.edit_formats.specs.Erasing.{EraseMeaning}
+use Rattle.edit_formats.specs.Names.{NameMeaning}
 use Rattle.save_formats.specs.Saves.{SaveMeaning}
 
 -- how an entry of it is locked, named and erased, and how one is entered

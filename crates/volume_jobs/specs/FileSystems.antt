@@ -2,12 +2,12 @@
 use Rattle.file_cmds.specs.DosFiles.{dos_files}
 use Rattle.file_cmds.specs.Files.{FileMeaning}
 use Rattle.file_cmds.specs.ProFiles.{pro_files}
-use Rattle.file_edits.specs.DosEdits.{dos_edits}
-use Rattle.file_edits.specs.DosErasing.{dos_erasures}
-use Rattle.file_edits.specs.DosNames.{dos_names}
-use Rattle.file_edits.specs.ProEdits.{pro_edits}
-use Rattle.file_edits.specs.ProErasing.{pro_erasures}
-use Rattle.file_edits.specs.ProNames.{pro_names}
+use Rattle.edit_formats.specs.DosEdits.{dos_edits}
+use Rattle.edit_formats.specs.DosErasing.{dos_erasures}
+use Rattle.edit_formats.specs.DosNames.{dos_names}
+use Rattle.edit_formats.specs.ProEdits.{pro_edits}
+use Rattle.edit_formats.specs.ProErasing.{pro_erasures}
+use Rattle.edit_formats.specs.ProNames.{pro_names}
 use Rattle.save_formats.specs.DosSaves.{dos_saves}
 use Rattle.save_formats.specs.ProSaves.{pro_saves}
 use Rattle.volume_jobs.specs.EditRules.{EditRules, edit_rules}

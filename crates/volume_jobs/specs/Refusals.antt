@@ -2,8 +2,8 @@
 use Rattle.std.specs.Prelude.{Option, Some, None}
 use Rattle.file_cmds.specs.declared.error.CmdError.{CmdError}
 use Rattle.file_cmds.specs.declared.error.CmdError.TheVariants as commands
-use Rattle.file_edits.specs.declared.error.EditError.{EditError}
-use Rattle.file_edits.specs.declared.error.EditError.TheVariants as edits
+use Rattle.edit_writes.specs.declared.error.EditError.{EditError}
+use Rattle.edit_writes.specs.declared.error.EditError.TheVariants as edits
 use Rattle.reserved_places.specs.declared.error.ReserveError.{ReserveError}
 use Rattle.reserved_places.specs.declared.error.ReserveError.TheVariants as reserves
 use Rattle.job_reply.specs.declared.refusal.Refusal.{Refusal}

@@ -1,8 +1,8 @@
 // The job that changes a file of a volume.
 ghost use Rattle.std.specs.Prelude.{◌≡◌, [], Err, IfErr, IfSome, IsTrue, OnOk, None, Some};
-ghost use Rattle.file_edits.specs.Edited.{HasChanged};
-ghost use Rattle.file_edits.specs.Renamed.{IsRenameRefusal};
-ghost use Rattle.file_edits.specs.Writes.{HasEdited};
+ghost use Rattle.edit_formats.specs.Edited.{HasChanged};
+ghost use Rattle.edit_formats.specs.Renamed.{IsRenameRefusal};
+ghost use Rattle.edit_writes.specs.Writes.{HasEdited};
 ghost use Rattle.shop_jobs.specs.Job.{edit_view};
 ghost use Rattle.volume_jobs.specs.EditReply.{AreWritesOf, IsCause, IsEdited, IsOldOrEdited, edited_files};
 ghost use Rattle.volume_jobs.specs.EditRules.{edit_rules};
@@ -10,7 +10,8 @@ ghost use Rattle.volume_jobs.specs.Refusals.{refusal_of_edit, reply_to_edit_refu
 
 use crate::optimize::image_bytes;
 use a2_device::Device;
-use file_edits::{EditError, delete, lock, rename, unlock};
+use edit_writes::EditError;
+use file_edits::{delete, lock, rename, unlock};
 use image_device::ImageDevice;
 use job_reply::{Failure, Refusal, Reply};
 use save_formats::SavableFormat;

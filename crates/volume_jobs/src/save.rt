@@ -1,6 +1,6 @@
 // The job that saves a new file to a volume.
 ghost use Rattle.std.specs.Prelude.{◌≡◌, ◌<◌, ◌≤◌, ◌*◌, [], Some, None, Err, IfErr, IfSome, IsTrue, OnOk, length};
-ghost use Rattle.file_edits.specs.Writes.{HasEdited};
+ghost use Rattle.edit_writes.specs.Writes.{HasEdited};
 ghost use Rattle.file_saving.specs.Saved.{IsSaveRefusal};
 ghost use Rattle.given_file.specs.Content.{content, given_view, stored_units, unit_bytes};
 ghost use Rattle.volume_jobs.specs.Refusals.{refusal_of_edit};
@@ -9,7 +9,7 @@ ghost use Rattle.volume_jobs.specs.SaveReply.{AreSaveWrites, HasGivenSaved, IsOl
 use crate::edit::edit_refusal_reply;
 use crate::optimize::image_bytes;
 use a2_device::Device;
-use file_edits::EditError;
+use edit_writes::EditError;
 use file_saving::save;
 use given_file::{FileUnits, GivenError, GivenFile, file_units};
 use image_device::ImageDevice;

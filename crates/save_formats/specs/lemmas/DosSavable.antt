@@ -34,9 +34,9 @@ use Rattle.new_files.proofs.DosOrder.{dos_parts_are, has_stored}
 use Rattle.file_plans.specs.ListUnit.{HasListUnits}
 use Rattle.file_plans.proofs.DosBuilt.{dos_file_built, entry_first}
 use Rattle.file_plans.proofs.Parts.{plan_rising}
-use Rattle.file_edits.specs.Erasing.{HasWholeUnits}
-use Rattle.file_edits.specs.lemmas.DosNaming.{length-dos_name}
-use Rattle.file_edits.specs.lemmas.Fronts.{one_front}
+use Rattle.edit_formats.specs.Erasing.{HasWholeUnits}
+use Rattle.edit_formats.specs.lemmas.DosNaming.{length-dos_name}
+use Rattle.edit_formats.specs.lemmas.Fronts.{one_front}
 use Rattle.save_formats.specs.declared.target.Attributes.{Attributes}
 use Rattle.save_formats.specs.declared.target.Extent.{Extent}
 use Rattle.save_formats.specs.declared.target.Slot.{Slot}

@@ -50,13 +50,13 @@ use Rattle.file_plans.specs.Placed.{HavePlaces}
 use Rattle.file_plans.specs.TableUnit.{HasTableUnits}
 use Rattle.file_plans.proofs.Parts.{master_first, plan_rising}
 use Rattle.file_plans.proofs.ProPlanned.{pro_file_planned, pro_root_first}
-use Rattle.file_edits.specs.declared.counting.FileCount.TheVariants.{More}
-use Rattle.file_edits.specs.Counting.{counting, recounted}
-use Rattle.file_edits.specs.Erasing.{HasWholeUnits}
-use Rattle.file_edits.specs.ProNames.{is_pro_name}
-use Rattle.file_edits.proofs.MarkingWrites.{other_number}
-use Rattle.file_edits.specs.lemmas.ProNaming.{front_of_name, length-pro_name, short_name}
-use Rattle.file_edits.specs.lemmas.Fronts.{one_front, two_fronts}
+use Rattle.edit_formats.specs.declared.counting.FileCount.TheVariants.{More}
+use Rattle.edit_formats.specs.Counting.{counting, recounted}
+use Rattle.edit_formats.specs.Erasing.{HasWholeUnits}
+use Rattle.edit_formats.specs.ProNames.{is_pro_name}
+use Rattle.edit_writes.proofs.MarkingWrites.{other_number}
+use Rattle.edit_formats.specs.lemmas.ProNaming.{front_of_name, length-pro_name, short_name}
+use Rattle.edit_formats.specs.lemmas.Fronts.{one_front, two_fronts}
 use Rattle.save_formats.specs.declared.target.Attributes.{Attributes}
 use Rattle.save_formats.specs.declared.target.Extent.{Extent}
 use Rattle.save_formats.specs.declared.target.Slot.{Slot}

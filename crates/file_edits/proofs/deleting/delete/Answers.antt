@@ -1,5 +1,5 @@
-use Rattle.file_edits.proofs.Deletions.{whole_units}
-use Rattle.file_edits.proofs.MadeDeletion.{deletion_changed, deletion_stopped}
+use Rattle.edit_formats.proofs.Deletions.{whole_units}
+use Rattle.edit_formats.proofs.MadeDeletion.{deletion_changed, deletion_stopped}
 use Rattle.file_edits.proofs.deleting.delete.Goals as goal
 
 pub returns-clause-files : goal.returns-clause-files

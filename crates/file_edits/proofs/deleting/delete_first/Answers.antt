@@ -10,11 +10,11 @@ use Rattle.vol_format.specs.Reach.{IsPartsOf}
 use Rattle.delete_laws.specs.Deletion.{IsDeletion}
 use Rattle.delete_laws.specs.Writes.{Write}
 use Rattle.file_cmds.specs.Files.{IsFirstNamed}
-use Rattle.file_edits.specs.declared.writes.Prepared.{Prepared}
-use Rattle.file_edits.specs.Deleted.{IsDeleteEdit}
-use Rattle.file_edits.specs.Prepared.{write_of}
-use Rattle.file_edits.proofs.Deletions.{device_refusal, device_told, told_below}
-use Rattle.file_edits.proofs.Edits.{edited_after, edited_as}
+use Rattle.edit_writes.specs.declared.writes.Prepared.{Prepared}
+use Rattle.edit_formats.specs.Deleted.{IsDeleteEdit}
+use Rattle.edit_writes.specs.Prepared.{write_of}
+use Rattle.edit_formats.proofs.Deletions.{device_refusal, device_told, told_below}
+use Rattle.edit_writes.proofs.Edits.{edited_after, edited_as}
 use Rattle.file_edits.proofs.deleting.delete_first.Goals as goal
 
 pub deletion-requires-clause-parts : goal.deletion-requires-clause-parts

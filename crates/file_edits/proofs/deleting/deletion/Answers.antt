@@ -2,10 +2,10 @@ use Rattle.std.proofs.Common.{◌≡◌, ◌<◌, ◌∙◌, sym, subst, refl, m
 use Rattle.std.specs.Prelude.{All}
 use Rattle.a2_device.specs.Device.{DeviceState}
 use Rattle.delete_laws.specs.Deletion.{IsDeletion}
-use Rattle.file_edits.specs.declared.writes.Prepared.{Prepared}
-use Rattle.file_edits.specs.Prepared.{write_of}
-use Rattle.file_edits.specs.Markings.{AreMarked}
-use Rattle.file_edits.proofs.Deletions.{if_ok, own_below, all_inside, all_sizes, made_deletion}
+use Rattle.edit_writes.specs.declared.writes.Prepared.{Prepared}
+use Rattle.edit_writes.specs.Prepared.{write_of}
+use Rattle.edit_writes.specs.Markings.{AreMarked}
+use Rattle.edit_formats.proofs.Deletions.{if_ok, own_below, all_inside, all_sizes, made_deletion}
 use Rattle.file_edits.proofs.deleting.deletion.Goals as goal
 
 pub mark_all-requires-clause-places : goal.mark_all-requires-clause-places

@@ -1,5 +1,5 @@
 use Rattle.std.proofs.Common.{◌≡◌, take}
-use Rattle.file_edits.specs.Deleted.{places_of_file}
+use Rattle.edit_formats.specs.Deleted.{places_of_file}
 use Rattle.file_edits.proofs.deleting.places_of_file.Given as goal
 
 abbrev pub invariant-loop-part : goal.invariant-loop-part

@@ -1,4 +1,4 @@
-use Rattle.file_edits.proofs.MadeDeletion.{deletion_done, deletion_stopped}
+use Rattle.edit_formats.proofs.MadeDeletion.{deletion_done, deletion_stopped}
 use Rattle.file_edits.proofs.deletion.a_deletion_made_takes_out_one_file.Goals as goal
 
 pub returns-clause-done : goal.returns-clause-done

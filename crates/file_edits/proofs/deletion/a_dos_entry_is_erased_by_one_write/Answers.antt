@@ -1,4 +1,4 @@
-use Rattle.file_edits.specs.lemmas.DosErasable.{entry_erased}
+use Rattle.edit_formats.specs.lemmas.DosErasable.{entry_erased}
 use Rattle.file_edits.proofs.deletion.a_dos_entry_is_erased_by_one_write.Goals as goal
 
 pub returns : goal.returns

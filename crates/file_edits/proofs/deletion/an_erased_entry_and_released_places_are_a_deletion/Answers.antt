@@ -1,4 +1,4 @@
-use Rattle.file_edits.proofs.WholeDelete.{whole_delete}
+use Rattle.edit_formats.proofs.WholeDelete.{whole_delete}
 use Rattle.file_edits.proofs.deletion.an_erased_entry_and_released_places_are_a_deletion.Goals as goal
 
 pub returns : goal.returns

@@ -1,7 +1,7 @@
 use Rattle.std.specs.Prelude.{true}
-use Rattle.file_edits.specs.Edited.{IsLockEdit}
-use Rattle.file_edits.specs.Lists.{with_lock_on}
-use Rattle.file_edits.proofs.Changed.{done_changed, stopped_changed}
+use Rattle.edit_formats.specs.Edited.{IsLockEdit}
+use Rattle.edit_formats.specs.Lists.{with_lock_on}
+use Rattle.edit_formats.proofs.Changed.{done_changed, stopped_changed}
 use Rattle.file_edits.proofs.Locked.{lock_is_one_change}
 use Rattle.file_edits.proofs.locking.lock.Goals as goal
 

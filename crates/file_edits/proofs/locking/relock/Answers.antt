@@ -3,10 +3,10 @@ use Rattle.a2_device.specs.Device.{DeviceState, unit_at}
 use Rattle.vol_check.specs.Told.{volume_of}
 use Rattle.vol_format.specs.Directory.{Listed, entry_of}
 use Rattle.file_cmds.specs.Files.{IsFirstNamed}
-use Rattle.file_edits.specs.Edited.{IsLockEdit}
+use Rattle.edit_formats.specs.Edited.{IsLockEdit}
 use Rattle.delete_laws.specs.Writes.{Write}
-use Rattle.file_edits.specs.Writes.{HasEdited}
-use Rattle.file_edits.proofs.Edits.{edited_after, edited_as}
+use Rattle.edit_writes.specs.Writes.{HasEdited}
+use Rattle.edit_writes.proofs.Edits.{edited_after, edited_as}
 use Rattle.file_edits.proofs.locking.relock.Goals as goal
 
 pub returns-clause-edited : goal.returns-clause-edited

@@ -1,5 +1,5 @@
-use Rattle.file_edits.specs.Renamed.{IsRenameEdit, with_new_name}
-use Rattle.file_edits.proofs.Changed.{done_changed, stopped_changed}
+use Rattle.edit_formats.specs.Renamed.{IsRenameEdit, with_new_name}
+use Rattle.edit_formats.proofs.Changed.{done_changed, stopped_changed}
 use Rattle.file_edits.proofs.Renamed.{rename_is_one_change}
 use Rattle.file_edits.proofs.naming.rename.Goals as goal
 

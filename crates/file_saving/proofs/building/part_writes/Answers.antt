@@ -1,6 +1,6 @@
 use Rattle.std.proofs.Common.{◌∙◌, ◌+◌, ◌∷◌, [], sym, ap, subst, map}
 use Rattle.std.proofs.lemmas.List.{map-append}
-use Rattle.file_edits.specs.Prepared.{write_of}
+use Rattle.edit_writes.specs.Prepared.{write_of}
 use Rattle.file_saving.specs.Parts.{HasPartWrites}
 use Rattle.file_saving.proofs.PartWrites.{one_written}
 use Rattle.file_saving.proofs.building.part_writes.Goals as goal

@@ -1,5 +1,5 @@
 use Rattle.std.proofs.Common.{map}
-use Rattle.file_edits.specs.Prepared.{write_of}
+use Rattle.edit_writes.specs.Prepared.{write_of}
 use Rattle.file_saving.specs.Parts.{HasPartWrites}
 use Rattle.file_saving.proofs.building.part_writes.Given as goal
 

@@ -1,8 +1,8 @@
 use Rattle.std.proofs.Common.{◌<◌, ◌≡◌, false, sym, subst, refl, length}
 use Rattle.std.specs.Prelude.{All}
-use Rattle.file_edits.specs.declared.writes.Prepared.{Prepared}
-use Rattle.file_edits.specs.Markings.{AreMarked}
-use Rattle.file_edits.proofs.Deletions.{if_ok}
+use Rattle.edit_writes.specs.declared.writes.Prepared.{Prepared}
+use Rattle.edit_writes.specs.Markings.{AreMarked}
+use Rattle.edit_formats.proofs.Deletions.{if_ok}
 use Rattle.file_saving.proofs.NewPlaces.{are_named, are_inside}
 use Rattle.file_saving.proofs.PlacedWrites.{all_inside, all_sizes}
 use Rattle.file_saving.proofs.preparing.placed_writes.Goals as goal

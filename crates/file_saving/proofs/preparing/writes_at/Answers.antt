@@ -3,9 +3,9 @@ use Rattle.std.specs.Prelude.{All, slice_index}
 use Rattle.std.proofs.lemmas.List.{map-append}
 use Rattle.std.proofs.lemmas.List.Elements.{All-append}
 use Rattle.a2_device.specs.Device.{DeviceState}
-use Rattle.file_edits.specs.declared.writes.Prepared.{Prepared}
-use Rattle.file_edits.specs.Prepared.{write_of}
-use Rattle.file_edits.proofs.Deletions.{whole_units}
+use Rattle.edit_writes.specs.declared.writes.Prepared.{Prepared}
+use Rattle.edit_writes.specs.Prepared.{write_of}
+use Rattle.edit_formats.proofs.Deletions.{whole_units}
 use Rattle.file_saving.proofs.NewPlaces.{are_named}
 use Rattle.file_saving.proofs.Savings.{made_edit}
 use Rattle.file_saving.proofs.preparing.writes_at.Goals as goal

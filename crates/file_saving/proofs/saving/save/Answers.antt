@@ -1,4 +1,4 @@
-use Rattle.file_edits.proofs.Deletions.{whole_units}
+use Rattle.edit_formats.proofs.Deletions.{whole_units}
 use Rattle.file_saving.proofs.MadeSaving.{saving_done, saving_stopped}
 use Rattle.file_saving.proofs.saving.save.Goals as goal
 

@@ -4,8 +4,8 @@ use Rattle.a2_device.specs.Reading.{then_reads}
 use Rattle.vol_check.specs.Told.{volume_of}
 use Rattle.vol_format.specs.Accepted.{IsAccepted}
 use Rattle.delete_laws.specs.Writes.{Write}
-use Rattle.file_edits.specs.Prepared.{write_of}
-use Rattle.file_edits.proofs.Edits.{edited_after, edited_as}
+use Rattle.edit_writes.specs.Prepared.{write_of}
+use Rattle.edit_writes.proofs.Edits.{edited_after, edited_as}
 use Rattle.file_saving.specs.Saved.{IsSaveEdit}
 use Rattle.file_saving.proofs.saving.save_new.Goals as goal
 

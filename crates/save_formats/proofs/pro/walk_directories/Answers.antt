@@ -1,6 +1,6 @@
 use Rattle.std.proofs.Common.{◌≡◌}
-use Rattle.file_edits.specs.declared.error.EditError.TheVariants.{Check}
-use Rattle.file_edits.proofs.ErasedEntries.{no_fault}
+use Rattle.edit_writes.specs.declared.error.EditError.TheVariants.{Check}
+use Rattle.edit_formats.proofs.ErasedEntries.{no_fault}
 use Rattle.save_formats.proofs.pro.walk_directories.Goals as goal
 
 pub returns-in-Err-clause-described : goal.returns-in-Err-clause-described

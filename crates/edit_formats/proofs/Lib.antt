@@ -1,0 +1,8 @@
+pub mod Changed
+pub mod EntryWrites
+pub mod MadeDeletion
+pub mod WholeDelete
+pub mod NameWrites
+pub mod NamedEntries
+pub mod ErasedEntries
+pub mod Deletions

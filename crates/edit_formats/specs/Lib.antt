@@ -1,0 +1,15 @@
+pub mod Edits
+pub mod Lists
+pub mod Edited
+pub mod Erasing
+pub mod DosEdits
+pub mod DosErasing
+pub mod ProEdits
+pub mod Counting
+pub mod ProErasing
+pub mod Names
+pub mod DosNames
+pub mod ProNames
+pub mod Renamed
+pub mod Deleted
+pub mod lemmas

@@ -1,0 +1,5 @@
+pub mod Edits
+mod Making
+mod Nearest
+mod MarkedUnits
+pub mod MarkingWrites

@@ -1,0 +1,4 @@
+pub mod Refusal
+pub mod Writes
+pub mod Prepared
+pub mod Markings

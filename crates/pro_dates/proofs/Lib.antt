@@ -1,0 +1,3 @@
+mod Small
+mod DatesDecided
+mod NoMinutes
