@@ -1,11 +1,10 @@
 // `auto` as a file system or an order.
-use crate::job_paths::{image_order, volume_of};
 use crate::stop::Stop;
-use crate::units::order_of;
 use front_words::{AutoOption, asks_auto, in_place};
 use image_readings::{Choice, best_reading, file_system_word, order_word};
+use image_volume::order_of;
 use sector_order::Order;
-use shop_jobs::{FileSystem, Job};
+use shop_jobs::{FileSystem, Job, image_order, volume_of};
 use shop_words::parse_words;
 use std::alloc::{AllocError, Global};
 
@@ -49,7 +48,7 @@ pub fn settled_job(
     let order = if asks_auto(words, AutoOption::Order) {
         None
     } else {
-        image_order(standing).map(order_of)
+        image_order(standing).map(|order| order_of(order))
     };
     match best_reading(alloc, image, file_system, order)? {
         Choice::Way { file_system, order } => {

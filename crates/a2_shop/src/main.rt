@@ -6,7 +6,6 @@
 #![tactic(auto)]
 
 mod auto;
-mod job_paths;
 mod placing;
 mod running;
 mod start;

@@ -4,7 +4,6 @@ ghost use Rattle.shop_jobs.specs.Job.{job_view};
 ghost use Rattle.device_jobs.specs.Units.{HasUnitsOf};
 ghost use Rattle.shop_commands.specs.Answer.{is_in_place as in_place};
 
-use crate::job_paths::{certificate_path, image_path, reserve_of};
 use crate::running::{
     WORDS_REFUSED, certificate_output, certificate_target, extra_bytes, is_same_file,
 };
@@ -15,7 +14,7 @@ use file_device::{FileDevice, FileError, SystemFile};
 use job_endings::{Beside, settle_beside};
 use job_reply::{Failure, Refusal, Reply, written};
 use shop_commands::volume_work;
-use shop_jobs::{Job, VolumeOptions};
+use shop_jobs::{Job, VolumeOptions, certificate_path, image_path, reserve_of};
 use std::io::Write;
 use whole_file::target_of;
 

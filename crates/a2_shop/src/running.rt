@@ -1,14 +1,13 @@
 // Doing a job, on the files that it names.
-use crate::job_paths::{
-    certificate_path, from_path, image_path, is_on_standard_input, out_path, volume_of,
-};
 use crate::placing::run_placed;
 use crate::straight::run_straight;
 use job_endings::{Output, settle};
 use job_reply::{Failure, Reply, most_bytes, written};
 use sector_order::Order;
 use shop_commands::{is_in_place, run_job};
-use shop_jobs::Job;
+use shop_jobs::{
+    Job, certificate_path, from_path, image_path, is_on_standard_input, out_path, volume_of,
+};
 use std::alloc::Global;
 use std::fs::File;
 use std::io::{self, ErrorKind, Read, Write};

@@ -1,14 +1,13 @@
 // Jobs that only read the volume of an image, on the image's file: of it they read the units that they need.
 ghost use Rattle.std.specs.Prelude.{IfSome};
-ghost use Rattle.volume_jobs.specs.Reading.{IsReading};
+ghost use Rattle.volume_jobs.specs.Work.{IsReading};
 ghost use Rattle.volume_jobs.specs.Work.{work_view};
 
-use crate::job_paths::{reserve_of, volume_of};
 use crate::running::extra_bytes;
 use crate::units::open_to_read;
 use device_jobs::read_on_device;
 use job_reply::Reply;
-use shop_jobs::Job;
+use shop_jobs::{Job, reserve_of, volume_of};
 use std::io::Write;
 use volume_jobs::Work;
 

@@ -3,28 +3,15 @@ ghost use Rattle.std.specs.Prelude.{◌≡◌, IfOk};
 ghost use Rattle.image_device.specs.declared.units.UnitKind.TheVariants.{Sector as OfSectors, Block as OfBlocks};
 ghost use Rattle.shop_jobs.specs.declared.job.FileSystem.TheVariants.{Dos as OfDos, Prodos as OfProdos};
 ghost use Rattle.device_jobs.specs.Units.{HasUnitsOf};
-ghost use Rattle.shop_commands.specs.Answer.{order_of as named};
 
-use crate::job_paths::{image_path, is_on_standard_input};
 use a2_device::Device;
 use file_device::{FileDevice, FileError, SystemFile};
 use image_device::UnitKind;
-use sector_order::Order;
-use shop_jobs::{FileSystem, ImageOrder, Job, VolumeOptions};
+use image_volume::order_of;
+use shop_jobs::{FileSystem, Job, VolumeOptions, image_path, is_on_standard_input};
 
 /// The units of an image's file, where they stand in it.
 pub type ImageFile = FileDevice<SystemFile>;
-
-/// The order that the words name.
-pub fn order_of(order: ImageOrder) -> Order
-    ensures { result ≡ named order }
-{
-    match order {
-        ImageOrder::Dos => Order::Dos,
-        ImageOrder::Prodos => Order::Prodos,
-        ImageOrder::Nibble => Order::Nibble,
-    }
-}
 
 // The units of a file system.
 fn unit_kind(file_system: FileSystem) -> UnitKind

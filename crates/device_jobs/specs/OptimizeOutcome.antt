@@ -11,7 +11,7 @@ use Rattle.vol_mover.specs.declared.report.OptError.TheVariants.{Open, Step, Mem
 use Rattle.job_reply.specs.declared.refusal.Failure.TheVariants as failures
 use Rattle.job_reply.specs.declared.reply.Reply.{Reply}
 use Rattle.job_reply.specs.Reply.{failed}
-use Rattle.volume_jobs.specs.PlanReply.{TellsOpening}
+use Rattle.reading_jobs.specs.PlanReply.{TellsOpening}
 use Rattle.device_jobs.specs.declared.outcome.Outcome.{Outcome}
 use Rattle.device_jobs.specs.declared.outcome.Outcome.TheVariants.{Optimized, Changed, Unfinished}
 

@@ -5,10 +5,10 @@ ghost use Rattle.device_jobs.specs.OptimizeOutcome.{IsOptimizeOutcome, TellsErro
 use crate::outcome::Outcome;
 use a2_device::Device;
 use job_reply::{Failure, Reply};
+use reading_jobs::unopened_reply;
 use std::alloc::Global;
 use vol_format::WritableFormat;
 use vol_mover::{OptError, Options, optimize};
-use volume_jobs::unopened_reply;
 
 // The reply to a volume that was not optimized, or not to the end.
 fn error_reply(alloc: Global, error: &OptError) -> Reply

@@ -8,4 +8,4 @@
 
 mod opening;
 
-pub use opening::{form_of, open_volume};
+pub use opening::{form_of, open_volume, order_of};

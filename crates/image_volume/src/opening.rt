@@ -2,13 +2,24 @@
 ghost use Rattle.std.specs.Prelude.{◌≡◌, IfErr, IfOk, length};
 ghost use Rattle.a2_image.specs.Image.{IsOfDisk};
 ghost use Rattle.shop_jobs.specs.declared.job.FileSystem.TheVariants.{Dos as OfDos};
-ghost use Rattle.image_volume.specs.Volume.{IsImageOf, RefusesBytes, TakesBytes, form_of as form_by};
+ghost use Rattle.image_volume.specs.Volume.{IsImageOf, RefusesBytes, TakesBytes, form_of as form_by, order_of as named};
 
 use a2_image::{Image, ImageError};
 use job_reply::open_disk;
 use reserved_places::PlaceForm;
 use sector_order::Order;
-use shop_jobs::FileSystem;
+use shop_jobs::{FileSystem, ImageOrder};
+
+/// The order that the words name.
+pub fn order_of(order: ImageOrder) -> Order
+    ensures { result ≡ named order }
+{
+    match order {
+        ImageOrder::Dos => Order::Dos,
+        ImageOrder::Prodos => Order::Prodos,
+        ImageOrder::Nibble => Order::Nibble,
+    }
+}
 
 /// How the places of a file system are named.
 pub fn form_of(file_system: FileSystem) -> PlaceForm

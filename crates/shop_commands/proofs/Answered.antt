@@ -21,14 +21,14 @@ use Rattle.job_reply.specs.Reply.{HandsOut, Held, IsDelivered, IsMade, IsMadeRep
 use Rattle.job_reply.proofs.Fronts.{convert-whole}
 use Rattle.job_reply.proofs.NotMade.{converted_image, refused_not_made}
 use Rattle.job_reply.specs.declared.refusal.Refusal.TheVariants as refusals
-use Rattle.volume_jobs.specs.VerifyReply.{most_certificate}
-use Rattle.image_volume.specs.Volume.{device_of, form_of, meaning_of}
+use Rattle.reading_jobs.specs.VerifyReply.{most_certificate}
+use Rattle.image_volume.specs.Volume.{device_of, form_of, meaning_of, order_of}
 use Rattle.volume_jobs.specs.FileSystems.{edits_of, files_of}
 use Rattle.volume_jobs.specs.Work.{IsWorkReply, WorkView, Catalog, Read, Check, Plan, Optimize, Change, Save, Verify}
 use Rattle.volume_jobs.specs.SaveReply.{most_input}
 use Rattle.volume_jobs.proofs.NotMade.{edited_image, saved_image, volume_made}
 use Rattle.volume_jobs.proofs.Fronts.{saved-take, verified-take, volume-whole, with_given_bytes}
-use Rattle.shop_commands.specs.Answer.{AreToldNoJob, TellsNoJob, HandsOutFor, IsGiven, IsInPlaceAnswer, IsReadFailure, IsSaveReply, limit_of, IsToldOf, IsReplyToBytes, IsAnswer, IsCommandAnswer, IsWordsAnswer, MakesImage, ReadsExtra, attributes_of, image_order_of, is_in_place, order_of}
+use Rattle.shop_commands.specs.Answer.{AreToldNoJob, TellsNoJob, HandsOutFor, IsGiven, IsInPlaceAnswer, IsReadFailure, IsSaveReply, limit_of, IsToldOf, IsReplyToBytes, IsAnswer, IsCommandAnswer, IsWordsAnswer, MakesImage, ReadsExtra, attributes_of, image_order_of, is_in_place}
 use Rattle.image_readings.proofs.Fronts.{identify-whole}
 use Rattle.image_readings.proofs.NotMade.{identify_not_made}
 use Rattle.shop_commands.proofs.NotMade.{told_not_made}

@@ -6,11 +6,11 @@ use Rattle.shop_jobs.specs.declared.job.VolumeOptions.{VolumeOptions}
 use Rattle.job_reply.specs.declared.refusal.Refusal.{Refusal}
 use Rattle.job_reply.specs.declared.reply.Reply.{Reply}
 use Rattle.job_reply.specs.Reply.{refused}
-use Rattle.image_volume.specs.Volume.{form_of}
+use Rattle.image_volume.specs.Volume.{form_of, order_of}
 use Rattle.volume_jobs.specs.FileSystems.{edits_of, files_of}
 use Rattle.volume_jobs.specs.VolumeReply.{IsVolumeReply}
 use Rattle.volume_jobs.specs.Work.{IsWorkReply, WorkView, Optimize, Change}
-use Rattle.shop_commands.specs.Answer.{AsksFor, IsOnVolume, IsReplyToBytes, IsToldOf, RefusesWords, image_order_of, limit_of, order_of}
+use Rattle.shop_commands.specs.Answer.{AsksFor, IsOnVolume, IsReplyToBytes, IsToldOf, RefusesWords, image_order_of, limit_of}
 
 -- words that are refused
 pub refused_words : (job : JobView) (image bytes : List ℕ) (refusal : Refusal) → RefusesWords job refusal → IsReplyToBytes job image (Some bytes) (refused refusal)

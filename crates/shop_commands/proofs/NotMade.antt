@@ -4,11 +4,11 @@ use Rattle.std.specs.Prelude.{Option}
 use Rattle.shop_jobs.specs.declared.job.VolumeOptions.{VolumeOptions}
 use Rattle.job_reply.specs.declared.reply.Reply.{Reply}
 use Rattle.job_reply.specs.Reply.{IsMade}
-use Rattle.image_volume.specs.Volume.{form_of}
+use Rattle.image_volume.specs.Volume.{form_of, order_of}
 use Rattle.volume_jobs.specs.FileSystems.{edits_of, files_of}
 use Rattle.volume_jobs.specs.Work.{IsWorkReply, WorkView}
 use Rattle.volume_jobs.proofs.NotMade.{MakesNone, volume_not_made, work_not_made}
-use Rattle.shop_commands.specs.Answer.{IsToldOf, order_of}
+use Rattle.shop_commands.specs.Answer.{IsToldOf}
 
 pub told_not_made : (volume : VolumeOptions) (reserve : Option (List ℕ)) (image : List ℕ) (work : WorkView) → MakesNone work → (reply : Reply)
     → IsToldOf volume reserve image work reply → ¬ IsMade reply

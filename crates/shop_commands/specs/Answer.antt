@@ -12,8 +12,6 @@ use Rattle.shop_jobs.specs.Job.{JobView, SaveView, TargetView, ToFile, InPlace, 
 use Rattle.shop_words.specs.Job.{asked_job, IsTaken}
 use Rattle.shop_jobs.specs.declared.job.FileSystem.{FileSystem}
 use Rattle.shop_jobs.specs.declared.job.FileSystem.TheVariants as systems
-use Rattle.shop_jobs.specs.declared.job.ImageOrder.{ImageOrder}
-use Rattle.shop_jobs.specs.declared.job.ImageOrder.TheVariants as wanted
 use Rattle.shop_jobs.specs.declared.job.SaveAttributes.{SaveAttributes}
 use Rattle.shop_jobs.specs.declared.job.VolumeOptions.{VolumeOptions}
 use Rattle.shop_words.specs.Fault.{IsFaultOf}
@@ -26,59 +24,12 @@ use Rattle.job_reply.specs.declared.refusal.Refusal.{Refusal}
 use Rattle.job_reply.specs.declared.refusal.Refusal.TheVariants as refusals
 use Rattle.job_reply.specs.Reply.{HandsImage, Held, IsDelivered, IsWritten, failed, failure_line, refused}
 use Rattle.volume_jobs.specs.DosCatalogReply.{IsDosCatalogReply}
-use Rattle.image_volume.specs.Volume.{form_of}
+use Rattle.image_volume.specs.Volume.{form_of, order_of}
 use Rattle.volume_jobs.specs.FileSystems.{edits_of, files_of}
 use Rattle.volume_jobs.specs.VolumeReply.{IsVolumeReply}
 use Rattle.volume_jobs.specs.Work.{IsWorkReply, WorkView, Catalog, Read, Check, Plan, Optimize, Change, Save, Verify}
 use Rattle.job_reply.specs.ConvertReply.{IsConvertReply}
 use Rattle.image_readings.specs.IdentifyReply.{IsIdentifyReply}
-
--- the path and the order of the image that a job names
-abbrev pub image_of : JobView → Text
-image_of (catalog path volume) = path
-image_of (check path volume reserve) = path
-image_of (read path name volume whole) = path
-image_of (plan path volume reserve reclaim in_words) = path
-image_of (optimize words reserve reclaim cert) = words.image
-image_of (edit path name volume change target reserve) = path
-image_of (save words reserve) = words.image
-image_of (verify path volume from reserve reclaim) = path
-image_of (convert words) = words.image
-image_of (identify path) = path
-
--- the path of the file that a job reads beside the image
-abbrev pub from_of : JobView → Option Text
-from_of (save words reserve) = Some words.from
-from_of (verify path volume from reserve reclaim) = Some from
-from_of job = None
-
-abbrev pub file_of : TargetView → Option Text
-file_of (ToFile path) = Some path
-file_of InPlace = None
-
--- the path of the file that a job writes
-abbrev pub out_of : JobView → Option Text
-out_of (catalog path volume) = None
-out_of (check path volume reserve) = None
-out_of (read path name volume whole) = None
-out_of (plan path volume reserve reclaim in_words) = None
-out_of (optimize words reserve reclaim cert) = file_of words.target
-out_of (edit path name volume change target reserve) = file_of target
-out_of (save words reserve) = file_of words.target
-out_of (verify path volume from reserve reclaim) = None
-out_of (convert words) = Some words.out
-out_of (identify path) = None
-
--- the path of the file that a job writes its certificate to
-abbrev pub certificate_of : JobView → Option Text
-certificate_of (optimize words reserve reclaim cert) = cert
-certificate_of job = None
-
--- the order that the words name
-abbrev pub order_of : ImageOrder → Order
-order_of wanted.Dos = orders.Dos
-order_of wanted.Prodos = orders.Prodos
-order_of wanted.Nibble = orders.Nibble
 
 -- the order by which it is known how many bytes to read at most: no order allows more than ProDOS order
 abbrev pub image_order_of : JobView → Order

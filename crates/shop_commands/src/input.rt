@@ -2,13 +2,13 @@
 ghost use Rattle.std.specs.Prelude.{◌≡◌, ◌<◌, ◌+◌, IfOk, IfErr, IfSome, take};
 ghost use Rattle.job_reply.specs.Disk.{most_bytes as most};
 ghost use Rattle.shop_commands.specs.Answer.{IsReadFailure};
-ghost use Rattle.volume_jobs.specs.VerifyReply.{most_certificate};
+ghost use Rattle.reading_jobs.specs.VerifyReply.{most_certificate};
 
 use job_reply::{Failure, most_bytes};
+use reading_jobs::MOST_CERTIFICATE;
 use sector_order::Order;
 use std::alloc::Global;
 use std::io::{ErrorKind, Read};
-use volume_jobs::MOST_CERTIFICATE;
 
 /// Reads the file beside the image, up to one byte past the most that is read of one.
 ///

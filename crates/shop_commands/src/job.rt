@@ -3,30 +3,20 @@ ghost use Rattle.std.specs.Prelude.{◌≡◌, ◌⊎◌, ◌+◌, Some, false, 
 ghost use Rattle.shop_jobs.specs.Job.{job_view};
 ghost use Rattle.job_reply.specs.Reply.{held};
 ghost use Rattle.given_file.specs.Content.{given_view};
-ghost use Rattle.volume_jobs.specs.VerifyReply.{most_certificate};
+ghost use Rattle.reading_jobs.specs.VerifyReply.{most_certificate};
 ghost use Rattle.volume_jobs.specs.Work.{work_view};
-ghost use Rattle.shop_commands.specs.Answer.{AsksFor, AsksForPlan, ChangesVolume, HandsOutFor, IsAnswer, IsDosCatalogAnswer, IsGiven, IsInPlaceAnswer, IsOnVolume, IsReadFailure, IsReplyToBytes, IsStatus, MakesImage, ReadsExtra, ReadsImage, RefusesAttributes, RefusesWords, attributes_view, head_of as first_of, image_order_of, is_in_place as in_place, kind_of as type_of, limit_of as of_limit, order_of as named};
+ghost use Rattle.shop_commands.specs.Answer.{AsksFor, AsksForPlan, ChangesVolume, HandsOutFor, IsAnswer, IsDosCatalogAnswer, IsGiven, IsInPlaceAnswer, IsOnVolume, IsReadFailure, IsReplyToBytes, IsStatus, MakesImage, ReadsExtra, ReadsImage, RefusesAttributes, RefusesWords, attributes_view, head_of as first_of, image_order_of, is_in_place as in_place, kind_of as type_of, limit_of as of_limit};
 
 use crate::input::{read_extra, read_image};
 use given_file::{GivenFile, Head, date, dos_head, dos_kind, pro_kind};
 use image_readings::identify_reply;
+use image_volume::order_of;
 use job_reply::{Failure, Refusal, Reply, convert_reply};
 use sector_order::Order;
-use shop_jobs::{FileSystem, ImageOrder, Job, SaveAttributes, Target, VolumeOptions};
+use shop_jobs::{FileSystem, Job, SaveAttributes, Target, VolumeOptions};
 use std::alloc::Global;
 use std::io::{Read, Write};
 use volume_jobs::{Work, volume_reply};
-
-// The order that the words name.
-fn order_of(order: ImageOrder) -> Order
-    ensures { result ≡ named order }
-{
-    match order {
-        ImageOrder::Dos => Order::Dos,
-        ImageOrder::Prodos => Order::Prodos,
-        ImageOrder::Nibble => Order::Nibble,
-    }
-}
 
 // The order of the image that a job names.
 fn image_order(job: &Job) -> Order

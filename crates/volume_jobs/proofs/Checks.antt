@@ -1,4 +1,4 @@
--- What was said of a volume, and of the words and the image that lead to it.
+-- What was said of the words and the image that lead to a volume.
 use Rattle.std.proofs.Common.{◌≡◌, ℕ, List, refl, inl, inr}
 use Rattle.std.specs.Prelude.{Bool, Option, Some, None, length}
 use Rattle.sector_order.specs.declared.order.Order.{Order}
@@ -9,28 +9,13 @@ use Rattle.reserved_places.specs.declared.form.PlaceForm.{PlaceForm}
 use Rattle.reserved_places.specs.declared.error.ReserveError.{ReserveError}
 use Rattle.reserved_places.specs.declared.error.ReserveError.TheVariants as reserves
 use Rattle.vol_format.specs.Meaning.{Meaning}
-use Rattle.vol_check.specs.Answer.{IsRefusal}
-use Rattle.vol_check.specs.declared.error.CheckError.{CheckError}
-use Rattle.vol_check.specs.declared.error.CheckError.TheVariants as checks
 use Rattle.file_cmds.specs.DosText.{Text}
 use Rattle.shop_jobs.specs.declared.job.FileSystem.{FileSystem}
 use Rattle.job_reply.specs.declared.reply.Reply.{Reply}
-use Rattle.volume_jobs.specs.CheckReply.{IsChecked, TellsRefusal}
 use Rattle.job_reply.specs.Reply.{reply_to_image}
-use Rattle.volume_jobs.specs.Reading.{FailsForLack}
 use Rattle.volume_jobs.specs.Refusals.{reply_to_reserve}
 use Rattle.image_volume.specs.Volume.{RefusesBytes, form_of}
 use Rattle.volume_jobs.specs.VolumeReply.{IsVolumeReply, NamesPlaces, ReservesNamed}
-
--- a volume that is not accepted, or could not be checked
-pub check_refused : {A : Type 0} (form : PlaceForm) (format : Meaning) (device : DeviceState) (error : CheckError A) (reply : Reply)
-    → FailsForLack device reply → IsRefusal format device.store error → TellsRefusal form error reply → IsChecked form format device reply
-check_refused form format device (checks.Faults faults) reply lack refusal tells = elim tells [
-  | inl told ↦ inr (inl (told.0, record { faults = faults; are = refusal; is = told.1 }))
-  | inr failed ↦ inr (inr (inr failed))
-]
-check_refused form format device checks.Device reply lack refusal tells = inr (inr (inl (tells, lack tells)))
-check_refused form format device checks.Memory reply lack refusal tells = inr (inr (inr tells))
 
 -- what is reserved by the words is named by them
 names_reserved : (form : PlaceForm) (reserve : Option Text) (reserved : List Bool) → ReservesNamed form reserve reserved → NamesPlaces form reserve

@@ -15,7 +15,7 @@ use Rattle.file_cmds.specs.lemmas.DosListing.{dos_listing_text, no_dos_listing}
 use Rattle.shop_jobs.specs.declared.job.FileSystem.{FileSystem}
 use Rattle.shop_jobs.specs.declared.job.FileSystem.TheVariants.{Dos}
 use Rattle.job_reply.specs.declared.reply.Reply.{Reply}
-use Rattle.volume_jobs.specs.CatalogReply.{IsListed}
+use Rattle.reading_jobs.specs.CatalogReply.{IsListed}
 use Rattle.volume_jobs.specs.DosCatalogReply.{IsDosCatalogReply, IsDosListed}
 use Rattle.image_volume.specs.Volume.{device_of, form_of}
 use Rattle.volume_jobs.specs.FileSystems.{edits_of, files_of}

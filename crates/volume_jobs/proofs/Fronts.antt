@@ -14,7 +14,7 @@ use Rattle.job_reply.proofs.Fronts.{disk_bytes-lt}
 use Rattle.given_file.specs.Content.{GivenView}
 use Rattle.save_formats.specs.Saves.{SaveMeaning}
 use Rattle.volume_jobs.specs.SaveReply.{IsSaved, most_input}
-use Rattle.volume_jobs.specs.VerifyReply.{IsVerified, most_certificate}
+use Rattle.reading_jobs.specs.VerifyReply.{IsVerified, most_certificate}
 use Rattle.image_volume.specs.Volume.{OfVolume, TakesBytes, meaning_of}
 use Rattle.volume_jobs.specs.VolumeReply.{IsVolumeReply}
 

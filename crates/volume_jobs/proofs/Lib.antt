@@ -1,10 +1,6 @@
 pub mod Fronts
 pub mod Replies
-pub mod StepLemmas
 pub mod Checks
-pub mod Readings
-pub mod Unopened
-pub mod Quiet
 pub mod Optimized
 pub mod Edited
 pub mod Saved

@@ -12,8 +12,8 @@ use Rattle.job_reply.specs.declared.refusal.Refusal.TheVariants as refusals
 use Rattle.job_reply.specs.declared.refusal.Failure.TheVariants as failures
 use Rattle.job_reply.specs.declared.reply.Reply.{Reply}
 use Rattle.file_cmds.specs.Files.{FileMeaning}
-use Rattle.volume_jobs.specs.CatalogReply.{IsListed}
-use Rattle.volume_jobs.specs.ReadReply.{IsRead}
+use Rattle.reading_jobs.specs.CatalogReply.{IsListed}
+use Rattle.reading_jobs.specs.ReadReply.{IsRead}
 use Rattle.volume_jobs.specs.EditReply.{IsEdited}
 use Rattle.volume_jobs.specs.EditRules.{EditRules}
 use Rattle.volume_jobs.specs.SaveReply.{IsSaved}
@@ -21,10 +21,10 @@ use Rattle.save_formats.specs.Saves.{SaveMeaning}
 use Rattle.given_file.specs.Content.{GivenView}
 use Rattle.shop_jobs.specs.Job.{EditView}
 use Rattle.volume_jobs.specs.Work.{IsWorkReply, WorkView, Catalog, Read, Check, Plan, Optimize, Change, Save, Verify}
-use Rattle.volume_jobs.specs.CheckReply.{IsChecked}
-use Rattle.volume_jobs.specs.PlanReply.{IsPlanned, TellsOpening}
-use Rattle.volume_jobs.specs.PlanWords.{IsPlannedInWords}
-use Rattle.volume_jobs.specs.VerifyReply.{IsVerdict, IsVerified}
+use Rattle.reading_jobs.specs.CheckReply.{IsChecked}
+use Rattle.reading_jobs.specs.PlanReply.{IsPlanned, TellsOpening}
+use Rattle.reading_jobs.specs.PlanWords.{IsPlannedInWords}
+use Rattle.reading_jobs.specs.VerifyReply.{IsVerdict, IsVerified}
 use Rattle.vol_layout.specs.Layouts.{Placement}
 use Rattle.job_reply.specs.Reply.{IsMade, IsMadeReply}
 use Rattle.job_reply.specs.declared.reply.Status.TheVariants.{Done, Refused, Wrong}

@@ -6,7 +6,7 @@ use Rattle.job_reply.specs.declared.reply.Reply.{Reply}
 use Rattle.job_reply.specs.Reply.{IsMadeReply, made_of}
 use Rattle.image_volume.proofs.Lacking.{unit_lacks}
 use Rattle.volume_jobs.specs.OptimizeReply.{AreBytesOf}
-use Rattle.volume_jobs.specs.Reading.{FailsForLack, tells_device}
+use Rattle.reading_jobs.specs.TellingFailures.{FailsForLack, tells_device}
 
 -- on a device that is honest and has no failure to come, it is for a unit that can't be read
 pub fails_for_lack : (old new : DeviceState) (reply : Reply) → IsTrue old.honest → old.read_failures ≡ Some 0 → OnlyReads (tells_device reply) old new → FailsForLack old reply

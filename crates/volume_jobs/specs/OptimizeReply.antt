@@ -16,7 +16,7 @@ use Rattle.vol_mover.specs.declared.report.OptError.{OptError}
 use Rattle.vol_mover.specs.declared.report.OptError.TheVariants as optimizes
 use Rattle.job_reply.specs.declared.refusal.Failure.TheVariants as failures
 use Rattle.job_reply.specs.declared.reply.Reply.{Reply}
-use Rattle.volume_jobs.specs.PlanReply.{IsUnopenedReply, TellsOpening}
+use Rattle.reading_jobs.specs.PlanReply.{IsUnopenedReply, TellsOpening}
 use Rattle.job_reply.specs.Reply.{IsHanded, IsInterrupted, failed, made_of, text_of}
 use Rattle.job_reply.specs.declared.reply.Status.TheVariants.{Done}
 

@@ -1,7 +1,5 @@
 -- The replies to what the layers below refuse.
 use Rattle.std.specs.Prelude.{Option, Some, None}
-use Rattle.file_cmds.specs.declared.error.CmdError.{CmdError}
-use Rattle.file_cmds.specs.declared.error.CmdError.TheVariants as commands
 use Rattle.edit_writes.specs.declared.error.EditError.{EditError}
 use Rattle.edit_writes.specs.declared.error.EditError.TheVariants as edits
 use Rattle.reserved_places.specs.declared.error.ReserveError.{ReserveError}
@@ -11,13 +9,6 @@ use Rattle.job_reply.specs.declared.refusal.Refusal.TheVariants as refusals
 use Rattle.job_reply.specs.declared.refusal.Failure.TheVariants as failures
 use Rattle.job_reply.specs.declared.reply.Reply.{Reply}
 use Rattle.job_reply.specs.Reply.{failed, refused}
-
--- the reply to a command's refusal
-abbrev pub reply_to_refusal : CmdError → Reply
-reply_to_refusal commands.Check = refused refusals.Check
-reply_to_refusal commands.NotFound = refused refusals.NotFound
-reply_to_refusal commands.Device = failed failures.Device
-reply_to_refusal commands.Memory = failed failures.Memory
 
 -- the reply to a text of places to reserve that is not taken
 abbrev pub reply_to_reserve : ReserveError → Reply

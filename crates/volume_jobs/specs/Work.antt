@@ -9,16 +9,16 @@ use Rattle.volume_jobs.specs.declared.volume.Work.TheVariants as works
 use Rattle.file_cmds.specs.Files.{FileMeaning}
 use Rattle.shop_jobs.specs.Job.{EditView, edit_view}
 use Rattle.given_file.specs.Content.{GivenView, given_view}
-use Rattle.volume_jobs.specs.CatalogReply.{IsListed}
-use Rattle.volume_jobs.specs.ReadReply.{IsRead}
+use Rattle.reading_jobs.specs.CatalogReply.{IsListed}
+use Rattle.reading_jobs.specs.ReadReply.{IsRead}
 use Rattle.volume_jobs.specs.EditReply.{IsEdited}
 use Rattle.volume_jobs.specs.EditRules.{EditRules}
 use Rattle.volume_jobs.specs.SaveReply.{IsSaved}
-use Rattle.volume_jobs.specs.CheckReply.{IsChecked}
+use Rattle.reading_jobs.specs.CheckReply.{IsChecked}
 use Rattle.volume_jobs.specs.OptimizeReply.{IsOptimized}
-use Rattle.volume_jobs.specs.PlanReply.{IsPlanned}
-use Rattle.volume_jobs.specs.PlanWords.{IsPlannedInWords}
-use Rattle.volume_jobs.specs.VerifyReply.{IsVerified}
+use Rattle.reading_jobs.specs.PlanReply.{IsPlanned}
+use Rattle.reading_jobs.specs.PlanWords.{IsPlannedInWords}
+use Rattle.reading_jobs.specs.VerifyReply.{IsVerified}
 
 -- some work as contracts see it
 pub data WorkView : Type 0 where
@@ -40,6 +40,13 @@ work_view (works.Optimize reclaim limit) = Optimize reclaim limit
 work_view (works.Edit edit name) = Change (edit_view edit.now) name.now
 work_view (works.Save path given) = Save path.now (given_view given)
 work_view (works.Verify reclaim certificate) = Verify reclaim certificate.now
+
+-- the work reads a volume alone
+abbrev pub IsReading : WorkView → Type 0
+IsReading (Optimize reclaim limit) = ⊥
+IsReading (Change edit name) = ⊥
+IsReading (Save path given) = ⊥
+IsReading work = Unit {0}
 
 abbrev pub IsWorkReply : WorkView → PlaceForm → FileMeaning → EditRules → Meaning → DeviceState → Reply → Type 0
 IsWorkReply Catalog form files edits format device reply = IsListed form format device reply

@@ -3,30 +3,19 @@
 //!
 //! The model. `image_volume` says which bytes are taken as an image and which device has its units;
 //! `specs/VolumeReply.antt` what is refused before the volume is looked at; `specs/Work.antt` which reply then comes, by the
-//! work and the device: `CatalogReply`, `ReadReply`, `CheckReply`, `PlanReply`, `PlanWords`, `OptimizeReply`, `EditReply`,
-//! `SaveReply` and `VerifyReply`, and for the listing of a DOS 3.3 disk in its format's own words `DosCatalogReply`. What always holds: each reply
+//! work and the device: of work that only reads, those of `reading_jobs`, else `OptimizeReply`, `EditReply` and
+//! `SaveReply`; and for the listing of a DOS 3.3 disk in its format's own words `DosCatalogReply`. What always holds: each reply
 //! says what the units of the image are, each refusal has its cause in them or in the words, and only an optimization, an edit
 //! and a saving hand out an image.
 #![tactic(auto)]
 
-mod check;
-mod check_text;
 mod edit;
-mod listing;
 mod optimize;
-mod plan;
-mod plan_words;
-mod reading;
 mod reading_work;
 mod save;
-mod steps;
-mod verify;
 mod volume;
 
 pub use edit::{edit_file, edit_refusal_reply};
-pub use listing::ShownFormat;
-pub use plan::unopened_reply;
 pub use reading_work::reading_reply;
 pub use save::{MOST_INPUT, save_file};
-pub use verify::MOST_CERTIFICATE;
 pub use volume::{Work, reserve_reply, reserved_by, volume_reply};

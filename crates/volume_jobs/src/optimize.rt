@@ -2,10 +2,10 @@
 ghost use Rattle.std.specs.Prelude.{◌≡◌, Some, IfOk};
 ghost use Rattle.volume_jobs.specs.OptimizeReply.{AreBytesOf, IsOptimized, TellsReport, TellsStop, report_line, report_text};
 
-use crate::plan::unopened_reply;
 use a2_device::Device;
 use image_device::ImageDevice;
 use job_reply::{Failure, Reply};
+use reading_jobs::unopened_reply;
 use std::alloc::{AllocError, Global};
 use std::fmt;
 use vol_format::WritableFormat;

@@ -2,22 +2,21 @@
 ghost use Rattle.std.specs.Prelude.{◌≡◌, IsTrue};
 ghost use Rattle.a2_device.specs.Device.{OnlyReads};
 ghost use Rattle.volume_jobs.specs.EditRules.{edit_rules};
-ghost use Rattle.volume_jobs.specs.Reading.{FailsForLack, IsReading, tells_device};
+ghost use Rattle.reading_jobs.specs.TellingFailures.{FailsForLack, tells_device};
+ghost use Rattle.volume_jobs.specs.Work.{IsReading};
 ghost use Rattle.volume_jobs.specs.Work.{IsWorkReply, work_view};
 
-use crate::check::check_reply;
-use crate::listing::{ShownFormat, catalog_reply};
-use crate::plan::plan_reply;
-use crate::plan_words::plan_words_reply;
-use crate::reading::read_reply;
-use crate::verify::verify_reply;
 use crate::volume::Work;
 use a2_device::Device;
 use job_reply::Reply;
+use reading_jobs::{
+    ShownFormat, catalog_reply, check_reply, plan_reply, plan_words_reply, read_reply, verify_reply,
+};
+use save_formats::SavableFormat;
 use std::alloc::Global;
 
 /// The reply to work that only reads the volume of a device. Each failure of the device is told, and nothing else is told as one.
-pub fn reading_reply<D: Device, F: ShownFormat>(
+pub fn reading_reply<D: Device, F: ShownFormat + SavableFormat>(
     alloc: Global,
     work: Work<'_>,
     device: &mut D,

@@ -13,7 +13,6 @@ ghost use Rattle.job_reply.specs.Reply.{failed};
 ghost use Rattle.job_reply.specs.declared.refusal.Failure.TheVariants.{Memory as OfMemory};
 
 use crate::edit::edit_reply;
-use crate::listing::ShownFormat;
 use crate::optimize::optimize_reply;
 use crate::reading_work::reading_reply;
 use crate::save::save_reply;
@@ -25,7 +24,9 @@ use image_device::ImageDevice;
 use image_volume::{form_of, open_volume};
 use job_reply::{Failure, Refusal, Reply};
 use pro_format::Prodos;
+use reading_jobs::ShownFormat;
 use reserved_places::{PlaceForm, ReserveError, Reserved};
+use save_formats::SavableFormat;
 use sector_order::Order;
 use shop_jobs::{Edit, FileSystem, VolumeOptions};
 use std::alloc::Global;
@@ -98,7 +99,7 @@ pub fn reserved_by(
 }
 
 // The reply to work on the volume of a device.
-fn work_reply<F: ShownFormat>(
+fn work_reply<F: ShownFormat + SavableFormat>(
     alloc: Global,
     work: Work<'_>,
     device: ImageDevice,

@@ -1,0 +1,5 @@
+mod StepLemmas
+mod Checks
+mod Readings
+pub mod Unopened
+mod Quiet
