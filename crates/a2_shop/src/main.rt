@@ -1,8 +1,8 @@
 //! `a2shop`, the Apple II disk workshop: opens the files that its words name and hands them to the commands of `shop_commands`.
 //!
 //! `start.rt` takes the words, `auto.rt` settles `--fs auto` and `--order auto` by the image, `running.rt` does a job, `placing.rt` one
-//! that changes the image's own file, and `straight.rt` one that reads of it what it needs. `job_endings` ends a job with output files, and
-//! tells people what was meant.
+//! that changes the image's own file, and `straight.rt` one that reads of it what it needs. `job_files` opens the files that a job names,
+//! and `job_endings` ends a job with output files, and tells people what was meant.
 #![tactic(auto)]
 
 mod auto;
@@ -11,7 +11,6 @@ mod running;
 mod start;
 mod stop;
 mod straight;
-mod units;
 
 use std::process::ExitCode;
 

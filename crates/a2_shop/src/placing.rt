@@ -1,17 +1,17 @@
 // Jobs that change the file of their image where it stands.
 ghost use Rattle.std.specs.Prelude.{◌≡◌, true};
 ghost use Rattle.shop_jobs.specs.Job.{job_view};
-ghost use Rattle.device_jobs.specs.Units.{HasUnitsOf};
+ghost use Rattle.image_volume.specs.Volume.{HasUnitsOf};
 ghost use Rattle.shop_commands.specs.Answer.{is_in_place as in_place};
 
-use crate::running::{
-    WORDS_REFUSED, certificate_output, certificate_target, extra_bytes, is_same_file,
-};
-use crate::units::{ImageFile, open_to_change};
+use crate::running::WORDS_REFUSED;
 use a2_device::Device;
 use device_jobs::run_in_place;
 use file_device::{FileDevice, FileError, SystemFile};
 use job_endings::{Beside, settle_beside};
+use job_files::{
+    ImageFile, certificate_output, certificate_target, extra_bytes, is_same_file, open_to_change,
+};
 use job_reply::{Failure, Refusal, Reply, written};
 use shop_commands::volume_work;
 use shop_jobs::{Job, VolumeOptions, certificate_path, image_path, reserve_of};

@@ -1,10 +1,11 @@
 // What the program's words ask for.
 use crate::auto::{is_asked, settled_job, standing_job};
-use crate::running::{image_bytes, run_in_its_place, run_opened, run_with};
+use crate::running::{run_in_its_place, run_opened, run_with};
 use crate::stop::Stop;
 use explanations::Overheard;
 use front_words::{asks_explain, asks_version, without_explain};
 use job_endings::{Found, explain};
+use job_files::image_bytes;
 use job_reply::{Failure, Reply, written};
 use shop_commands::job_of_words;
 use shop_jobs::{Job, image_order, image_path, is_on_standard_input};

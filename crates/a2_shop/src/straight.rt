@@ -3,9 +3,8 @@ ghost use Rattle.std.specs.Prelude.{IfSome};
 ghost use Rattle.volume_jobs.specs.Work.{IsReading};
 ghost use Rattle.volume_jobs.specs.Work.{work_view};
 
-use crate::running::extra_bytes;
-use crate::units::open_to_read;
 use device_jobs::read_on_device;
+use job_files::{extra_bytes, open_to_read};
 use job_reply::Reply;
 use shop_jobs::{Job, reserve_of, volume_of};
 use std::io::Write;

@@ -1,7 +1,7 @@
 -- The line of a report, put together word by word.
 use Rattle.std.proofs.Common.{◌≡◌, ◌∙◌, ℕ, Bool, true, false, List, [], ◌∷◌, ◌++◌, decimal, refl, sym, ap, append_assoc}
 use Rattle.std.specs.Prelude.{codes, if◌then◌else◌}
-use Rattle.file_cmds.specs.DosText.{line}
+use Rattle.file_listings.specs.DosText.{line}
 use Rattle.volume_jobs.specs.OptimizeReply.{report_line}
 use Rattle.device_jobs.specs.Outcome.{end_word}
 

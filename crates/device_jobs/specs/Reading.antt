@@ -2,7 +2,7 @@
 use Rattle.std.specs.Prelude.{◌≡◌, ◌⊎◌, Bool, Option}
 use Rattle.a2_device.specs.Device.{DeviceState}
 use Rattle.vol_format.specs.Meaning.{Meaning}
-use Rattle.file_cmds.specs.DosText.{Text}
+use Rattle.file_listings.specs.DosText.{Text}
 use Rattle.shop_jobs.specs.declared.job.FileSystem.{FileSystem}
 use Rattle.job_reply.specs.declared.refusal.Refusal.TheVariants as refusals
 use Rattle.job_reply.specs.declared.refusal.Failure.TheVariants as failures

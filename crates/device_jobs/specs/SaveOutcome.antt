@@ -6,13 +6,13 @@ use Rattle.edit_writes.specs.Writes.{HasEdited}
 use Rattle.edit_writes.specs.declared.error.EditError.{EditError}
 use Rattle.edit_writes.specs.declared.error.EditError.TheVariants.{Device}
 use Rattle.file_saving.specs.Saved.{IsSaveRefusal}
-use Rattle.given_file.specs.Content.{GivenView, IsTooLongForHead}
+use Rattle.given_file.specs.Content.{GivenView, IsTooLongForHead, most_input}
 use Rattle.save_formats.specs.Saves.{SaveMeaning}
 use Rattle.job_reply.specs.declared.refusal.Refusal.TheVariants as refusals
 use Rattle.job_reply.specs.declared.refusal.Failure.TheVariants as failures
 use Rattle.job_reply.specs.Reply.{failed, refused}
 use Rattle.volume_jobs.specs.Refusals.{refusal_of_edit}
-use Rattle.volume_jobs.specs.SaveReply.{AreSaveWrites, HasGivenSaved, IsOldOrGivenSaved, IsSaveCause, most_input}
+use Rattle.volume_jobs.specs.SaveReply.{AreSaveWrites, HasGivenSaved, IsOldOrGivenSaved, IsSaveCause}
 use Rattle.device_jobs.specs.EditOutcome.{TellsEdit}
 use Rattle.device_jobs.specs.declared.outcome.Outcome.{Outcome}
 use Rattle.device_jobs.specs.declared.outcome.Outcome.TheVariants.{Unfinished}

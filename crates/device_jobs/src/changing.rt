@@ -4,14 +4,13 @@ ghost use Rattle.shop_jobs.specs.declared.job.FileSystem.TheVariants.{Dos as OfD
 ghost use Rattle.job_reply.specs.declared.refusal.Failure.TheVariants.{Memory as OfMemory};
 ghost use Rattle.job_reply.specs.Reply.{IsWritten, failed};
 ghost use Rattle.volume_jobs.specs.EditRules.{edit_rules};
-ghost use Rattle.image_volume.specs.Volume.{meaning_of};
+ghost use Rattle.image_volume.specs.Volume.{HasUnitsOf, meaning_of};
 ghost use Rattle.volume_jobs.specs.FileSystems.{edits_of, files_of};
 ghost use Rattle.volume_jobs.specs.Work.{work_view};
 ghost use Rattle.device_jobs.specs.declared.outcome.Outcome.TheVariants.{Unfinished as AnUnfinished};
 ghost use Rattle.device_jobs.specs.declared.outcome.Outcome.{Outcome as AnOutcome};
 ghost use Rattle.device_jobs.specs.Changing.{IsChange, IsChangeOutcome, IsWorkOutcome};
 ghost use Rattle.device_jobs.specs.Outcome.{outcome_status, outcome_text};
-ghost use Rattle.device_jobs.specs.Units.{HasUnitsOf};
 
 use crate::editing::edit_in_place;
 use crate::optimizing::optimize_in_place;

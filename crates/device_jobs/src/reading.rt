@@ -6,11 +6,10 @@ ghost use Rattle.job_reply.specs.declared.refusal.Failure.TheVariants.{Device as
 ghost use Rattle.job_reply.specs.Reply.{failed};
 ghost use Rattle.reading_jobs.specs.TellingFailures.{tells_device};
 ghost use Rattle.volume_jobs.specs.Work.{IsReading};
-ghost use Rattle.image_volume.specs.Volume.{form_of as form_by, meaning_of};
+ghost use Rattle.image_volume.specs.Volume.{HasUnitsOf, form_of as form_by, meaning_of};
 ghost use Rattle.volume_jobs.specs.FileSystems.{edits_of, files_of};
 ghost use Rattle.volume_jobs.specs.Work.{IsWorkReply, work_view};
 ghost use Rattle.device_jobs.specs.Reading.{IsDeviceReply};
-ghost use Rattle.device_jobs.specs.Units.{HasUnitsOf};
 
 use a2_device::Device;
 use dos_format::Dos33;

@@ -1,7 +1,7 @@
 // The line of a report, which takes no memory.
 ghost use Rattle.std.specs.Prelude.{◌≡◌, ◌≤◌, ◌+◌, ◌++◌, decimal, length};
 ghost use Rattle.arrayvec.specs.ArrayString.{array_string_len};
-ghost use Rattle.file_cmds.specs.DosText.{line};
+ghost use Rattle.file_listings.specs.DosText.{line};
 ghost use Rattle.volume_jobs.specs.OptimizeReply.{report_line};
 ghost use Rattle.device_jobs.specs.Outcome.{end_word};
 

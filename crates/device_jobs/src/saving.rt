@@ -1,16 +1,15 @@
 // The work that saves a new file to a volume where it stands.
 ghost use Rattle.std.specs.Prelude.{◌≡◌, ◌<◌, ◌≤◌, ◌*◌, length};
-ghost use Rattle.given_file.specs.Content.{content, given_view, stored_units, unit_bytes};
-ghost use Rattle.volume_jobs.specs.SaveReply.{most_input};
+ghost use Rattle.given_file.specs.Content.{content, given_view, most_input, stored_units, unit_bytes};
 ghost use Rattle.device_jobs.specs.SaveOutcome.{IsSaveOutcome, IsSaveTriedOutcome};
 
 use crate::outcome::Outcome;
 use a2_device::Device;
-use given_file::{FileUnits, GivenError, GivenFile, file_units};
+use given_file::{FileUnits, GivenError, GivenFile, MOST_INPUT, file_units};
 use job_reply::{Failure, Refusal, Reply};
 use save_formats::SavableFormat;
 use std::alloc::Global;
-use volume_jobs::{MOST_INPUT, edit_refusal_reply, save_file};
+use volume_jobs::{edit_refusal_reply, save_file};
 
 // Saves a file with its units, and tells what became of it.
 fn save_units<D: Device, F: SavableFormat>(

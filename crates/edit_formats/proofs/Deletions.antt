@@ -16,7 +16,7 @@ use Rattle.entry_laws.proofs.EntryNumbers.{parts_of_number}
 use Rattle.delete_laws.specs.Deletion.{IsDeletion}
 use Rattle.edit_writes.specs.declared.writes.Prepared.{Prepared}
 use Rattle.edit_writes.specs.Prepared.{write_of}
-use Rattle.file_cmds.specs.Files.{FileMeaning}
+use Rattle.file_formats.specs.Files.{FileMeaning}
 use Rattle.edit_writes.specs.declared.error.EditError.{EditError}
 use Rattle.edit_writes.specs.declared.error.EditError.TheVariants.{Device}
 use Rattle.edit_formats.specs.Deleted.{HasFirstUnprotected, HasPlacesOf, IsDeleteRefusal, IsDeleteTold, places_of_file}

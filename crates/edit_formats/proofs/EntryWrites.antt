@@ -10,9 +10,9 @@ use Rattle.pro_dir.specs.Writes.{slot_offset}
 use Rattle.vol_format.specs.Directory.{Listed, entries, entry_of}
 use Rattle.dos_format.specs.Dos.{dos_directory}
 use Rattle.pro_format.specs.Pro.{no_slot, directory_with}
-use Rattle.file_cmds.specs.ProListing.{behind_key}
-use Rattle.file_cmds.proofs.DosEntries.{entry_read}
-use Rattle.file_cmds.proofs.ProEntries.{in_shown, listed}
+use Rattle.file_formats.specs.lemmas.ProShown.{behind_key}
+use Rattle.file_formats.proofs.DosEntries.{entry_read}
+use Rattle.file_formats.proofs.ProEntries.{in_shown, listed}
 use Rattle.edit_formats.specs.DosEdits.{dos_edits, dos_locked}
 use Rattle.edit_formats.specs.ProEdits.{pro_edits, pro_locked}
 

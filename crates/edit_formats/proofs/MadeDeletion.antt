@@ -11,7 +11,7 @@ use Rattle.delete_laws.specs.Lists.{IsFirst}
 use Rattle.delete_laws.specs.Writes.{Write, store_after}
 use Rattle.delete_laws.proofs.Fronts.{after_both}
 use Rattle.delete_laws.proofs.WholeDeletion as whole
-use Rattle.file_cmds.specs.Files.{FileMeaning}
+use Rattle.file_formats.specs.Files.{FileMeaning}
 use Rattle.edit_writes.specs.declared.error.EditError.{EditError}
 use Rattle.edit_writes.specs.declared.error.EditError.TheVariants.{Device}
 use Rattle.edit_formats.specs.Deleted.{IsDeleteEdit, IsOldOrErased}

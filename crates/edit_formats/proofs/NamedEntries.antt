@@ -20,10 +20,10 @@ use Rattle.vol_format.specs.Directory.{Listed, entries, entry_of}
 use Rattle.dos_format.specs.Dos.{dos_directory, numbered}
 use Rattle.pro_format.specs.Pro.{no_slot, directory_with}
 use Rattle.pro_entries.specs.Rewritten.{access_at, with_name}
-use Rattle.file_cmds.specs.DosFiles.{dos_name}
-use Rattle.file_cmds.specs.ProListing.{behind_key}
-use Rattle.file_cmds.proofs.DosEntries.{entry_read}
-use Rattle.file_cmds.proofs.ProEntries.{in_shown, listed}
+use Rattle.file_formats.specs.DosFiles.{dos_name}
+use Rattle.file_formats.specs.lemmas.ProShown.{behind_key}
+use Rattle.file_formats.proofs.DosEntries.{entry_read}
+use Rattle.file_formats.proofs.ProEntries.{in_shown, listed}
 use Rattle.edit_formats.specs.DosNames.{dos_names, is_path_of_one}
 use Rattle.edit_formats.specs.ProNames.{pro_names, pro_name, is_name_in, HasNameBeside}
 use Rattle.edit_formats.specs.Renamed.{IsAnswer, refusal_of_walk}

@@ -8,7 +8,7 @@ use Rattle.entry_laws.specs.Entered.{IsTaken}
 use Rattle.delete_laws.specs.Deleted.{HasEntryErased}
 use Rattle.delete_laws.specs.Deletion.{IsDeletion}
 use Rattle.delete_laws.specs.Writes.{Write}
-use Rattle.file_cmds.specs.Files.{FileMeaning, IsFirstNamed}
+use Rattle.file_formats.specs.Files.{FileMeaning, IsFirstNamed}
 use Rattle.edit_writes.specs.declared.error.EditError.{EditError}
 use Rattle.edit_writes.specs.declared.error.EditError.TheVariants.{Check, NotFound, Locked, Device, Memory}
 use Rattle.edit_formats.specs.Erasing.{EraseMeaning}

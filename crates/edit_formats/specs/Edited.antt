@@ -5,7 +5,7 @@ use Rattle.vol_files.specs.Files.{File, HasFiles}
 use Rattle.vol_format.specs.Accepted.{IsAccepted}
 use Rattle.vol_format.specs.Directory.{Directory, entry_of}
 use Rattle.vol_format.specs.Meaning.{Meaning}
-use Rattle.file_cmds.specs.Files.{FileMeaning, IsFirstNamed, NamesNone}
+use Rattle.file_formats.specs.Files.{FileMeaning, IsFirstNamed, NamesNone}
 use Rattle.edit_formats.specs.Edits.{EditMeaning}
 use Rattle.delete_laws.specs.Deleted.{IsLostOn}
 use Rattle.delete_laws.specs.Writes.{Write}

@@ -2,7 +2,7 @@
 use Rattle.std.specs.Prelude.{ℕ, Bool, if◌then◌else◌, List, [], ◌∷◌}
 use Rattle.vol_files.specs.Files.{File}
 use Rattle.delete_laws.specs.Lists.{without_first}
-use Rattle.file_cmds.specs.Files.{FileMeaning}
+use Rattle.file_formats.specs.Files.{FileMeaning}
 use Rattle.edit_formats.specs.Edits.{EditMeaning}
 
 -- a list of files of which the first that a path names is changed

@@ -7,7 +7,7 @@ use Rattle.vol_files.specs.Files.{File}
 use Rattle.vol_format.specs.Accepted.{IsAccepted}
 use Rattle.vol_format.specs.Directory.{Directory, entry_of}
 use Rattle.vol_format.specs.Meaning.{Meaning}
-use Rattle.file_cmds.specs.Files.{FileMeaning, IsFirstNamed}
+use Rattle.file_formats.specs.Files.{FileMeaning, IsFirstNamed}
 use Rattle.edit_writes.specs.declared.error.EditError.{EditError}
 use Rattle.edit_writes.specs.declared.error.EditError.TheVariants.{Check, NotFound, Name, Exists, Locked, Device, Memory}
 use Rattle.edit_formats.specs.Lists.{with_first}

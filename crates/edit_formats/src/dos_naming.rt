@@ -3,7 +3,7 @@ ghost use Rattle.std.specs.Prelude.{◌≡◌, ◌≤◌, nat_le, length, slice_
 ghost use Rattle.std.specs.List.{list_all, list_any};
 ghost use Rattle.std.specs.Str.{bytes_eq};
 ghost use Rattle.dos_catalog.specs.declared.entry.Entry.{Entry as CatalogEntry};
-ghost use Rattle.file_cmds.specs.DosFiles.{dos_name};
+ghost use Rattle.file_formats.specs.DosFiles.{dos_name};
 ghost use Rattle.edit_formats.specs.DosNames.{is_name_byte, is_first_byte, is_dos_name};
 
 use dos_catalog::Entry;

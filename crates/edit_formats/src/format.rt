@@ -1,7 +1,7 @@
 // The trait of formats whose files can be changed.
 use a2_device::Device;
 use edit_writes::{EditError, Prepared};
-use file_cmds::FileFormat;
+use file_formats::FileFormat;
 use std::alloc::Allocator;
 use vol_format::WritableFormat;
 

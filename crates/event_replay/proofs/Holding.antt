@@ -7,7 +7,7 @@ use Rattle.vol_mover.specs.Present.{Present}
 use Rattle.vol_mover.specs.Resuming.{CanResume}
 use Rattle.vol_mover.proofs.Sessions.{resumed_session}
 use Rattle.vol_mover.proofs.Stepping.{reads_keep}
-use Rattle.file_cmds.specs.Files.{FileMeaning}
+use Rattle.file_formats.specs.Files.{FileMeaning}
 use Rattle.file_cmds.specs.Read.{IsTextAt, IsUnreadable, HasNoFile}
 use Rattle.file_cmds.specs.Refusal.{told_device}
 use Rattle.file_cmds.specs.declared.error.CmdError.{CmdError}

@@ -16,7 +16,7 @@ use Rattle.vol_files.proofs.OneList.{one_layout}
 use Rattle.vol_mover.specs.Steps.{MovesOne}
 use Rattle.vol_mover.specs.Volume.{SameVolume}
 use Rattle.vol_mover.proofs.Volumes.{same_volume-refl, same_volume-trans}
-use Rattle.file_cmds.specs.Files.{FileMeaning}
+use Rattle.file_formats.specs.Files.{FileMeaning}
 use Rattle.file_cmds.specs.FileList.{IsTextOfFirst}
 use Rattle.file_cmds.proofs.ByList.{text_by_list}
 use Rattle.event_replay.specs.Moments.{HasSession, Moment}

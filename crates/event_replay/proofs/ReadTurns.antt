@@ -9,7 +9,7 @@ use Rattle.vol_format.specs.Meaning.{Meaning}
 use Rattle.vol_mover.specs.Present.{Present, IsSession}
 use Rattle.vol_mover.specs.Resuming.{CanResume}
 use Rattle.vol_mover.proofs.Sessions.{resumed_session}
-use Rattle.file_cmds.specs.Files.{FileMeaning}
+use Rattle.file_formats.specs.Files.{FileMeaning}
 use Rattle.file_cmds.specs.Read.{IsTextAt, IsUnreadable, HasNoFile}
 use Rattle.file_cmds.specs.Text.{OwnFault, other_type, wild_root, wild_pointer, shared}
 use Rattle.file_cmds.specs.Refusal.{told_device}

@@ -3,7 +3,7 @@ use Rattle.std.specs.Prelude.{◌≡◌, ℕ, ◌+◌, true, List, [], ◌∷◌
 use Rattle.std.proofs.Common.{refl, sym, subst}
 use Rattle.vol_format.specs.Laws.{IsMovable, IsReadable}
 use Rattle.vol_format.specs.Meaning.{Meaning}
-use Rattle.file_cmds.specs.Files.{FileMeaning}
+use Rattle.file_formats.specs.Files.{FileMeaning}
 use Rattle.event_replay.specs.Holds.{Holds, ASession, ADevice, TurnsHolds, device_of}
 use Rattle.event_replay.specs.Moments.{IsNotOpen, Moment}
 use Rattle.event_replay.specs.Runs.{IsRun, IsTurn, last_of, Reads, Steps, no_session, not_open}

@@ -7,7 +7,7 @@ use Rattle.event_replay.specs.Volumes.{HasRoom}
 use Rattle.vol_format.specs.Laws.{IsMovable, IsReadable}
 use Rattle.vol_format.specs.Meaning.{Meaning}
 use Rattle.vol_files.specs.Files.{File, HasFiles}
-use Rattle.file_cmds.specs.Files.{FileMeaning}
+use Rattle.file_formats.specs.Files.{FileMeaning}
 use Rattle.event_replay.specs.Held.{HasRun, IsAt, IsDeviceAt, RanFrom, RanTo}
 use Rattle.event_replay.specs.Holds.{Holds, TurnsHolds, device_of}
 use Rattle.event_replay.specs.Moments.{Absent, FailsNothing, HasSession, Moment, first_moment}

@@ -10,7 +10,7 @@ use Rattle.event_replay.specs.Moments.{Moment, Opened, SessionState, Open, Close
 use Rattle.event_replay.specs.Runs.{Begins, IsRun, last_of}
 use Rattle.event_replay.specs.declared.event.Answer.{Answer}
 use Rattle.event_replay.specs.declared.event.Event.{Event}
-use Rattle.file_cmds.specs.Files.{FileMeaning}
+use Rattle.file_formats.specs.Files.{FileMeaning}
 
 -- how many reads are to fail, and which writes
 abbrev pub count_of : Bool → ℕ

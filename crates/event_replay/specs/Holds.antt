@@ -13,7 +13,7 @@ use Rattle.vol_mover.specs.Shown.{present}
 use Rattle.vol_mover.specs.Steps.{IsStep}
 use Rattle.vol_mover.specs.declared.progress.Progress.{Progress}
 use Rattle.vol_mover.specs.declared.progress.StepError.{StepError}
-use Rattle.file_cmds.specs.Files.{FileMeaning}
+use Rattle.file_formats.specs.Files.{FileMeaning}
 use Rattle.file_cmds.specs.Read.{IsTextAt, IsUnreadable, HasNoFile}
 use Rattle.file_cmds.specs.Refusal.{told_device}
 use Rattle.file_cmds.specs.declared.error.CmdError.{CmdError}

@@ -7,7 +7,7 @@ use Rattle.vol_files.specs.Files.{File, HasFiles}
 use Rattle.vol_opening.specs.declared.error.OpenError.{OpenError}
 use Rattle.vol_mover.specs.Volume.{SameVolume}
 use Rattle.file_cmds.specs.FileList.{IsTextOfFirst}
-use Rattle.file_cmds.specs.Files.{FileMeaning}
+use Rattle.file_formats.specs.Files.{FileMeaning}
 use Rattle.file_cmds.specs.Read.{IsTextAt, HasNoFile}
 use Rattle.event_replay.specs.Moments.{HasSession, IsNotOpen, Moment, Open, Closed, Absent, first_moment}
 use Rattle.event_replay.specs.Volumes.{CantOpen, HasDeficit, HasFewLost, HasRoom, IsInOrder, Opens, Writes}

@@ -9,7 +9,7 @@ use crate::turning::Replay;
 use crate::unfailing::{FailsToOrder, Unfailing};
 use crate::{Answer, Event};
 use a2_device::{Device, FaultDevice};
-use file_cmds::FileFormat;
+use file_formats::FileFormat;
 use std::alloc::Allocator;
 use vol_format::WritableFormat;
 

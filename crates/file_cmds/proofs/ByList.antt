@@ -8,7 +8,7 @@ use Rattle.vol_format.specs.Laws.{IsReadable}
 use Rattle.vol_format.specs.Meaning.{Meaning}
 use Rattle.vol_files.specs.Files.{Stored, File, IsFile, file_numbers, HasFiles}
 use Rattle.vol_files.proofs.Lists.{same_elements}
-use Rattle.file_cmds.specs.Files.{FileMeaning, is_named, IsFirstNamed, NamesNone}
+use Rattle.file_formats.specs.Files.{FileMeaning, is_named, IsFirstNamed, NamesNone}
 use Rattle.file_cmds.specs.Text.{OwnFault, other_type, wild_root, wild_pointer, shared, AreUnitsOf, text_of}
 use Rattle.file_cmds.specs.Read.{IsTextAt, IsBroken, IsUnreadable, HasNoFile}
 use Rattle.file_cmds.specs.FileList.{named_files, IsTextOfFirst}

@@ -1,7 +1,3 @@
-pub mod Names
-pub mod Lines
-pub mod DosEntries
-pub mod ProEntries
 pub mod Told
 pub mod Texts
 pub mod OwnParts

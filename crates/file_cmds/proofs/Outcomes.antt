@@ -3,7 +3,7 @@ use Rattle.std.specs.Prelude.{◌≡◌, ℕ, Bool, true, false, List}
 use Rattle.std.proofs.Common.{sym, ◌∙◌, ap}
 use Rattle.vol_format.specs.Directory.{Directory, entry_of}
 use Rattle.vol_format.specs.Meaning.{Meaning}
-use Rattle.file_cmds.specs.Files.{FileMeaning, IsFirstNamed}
+use Rattle.file_formats.specs.Files.{FileMeaning, IsFirstNamed}
 use Rattle.file_cmds.specs.Text.{IsWholeTextOf, text_of}
 use Rattle.file_cmds.specs.Read.{IsTextAt}
 

@@ -6,7 +6,7 @@ use Rattle.vol_parts.specs.declared.fault.WalkError.TheVariants as walk
 use Rattle.vol_format.specs.Meaning.{Meaning}
 use Rattle.file_cmds.specs.declared.error.CmdError.TheVariants.{Check}
 use Rattle.file_cmds.specs.Refusal.{refusal_of}
-use Rattle.file_cmds.specs.Listing.{HasHeaderFault}
+use Rattle.file_formats.specs.Listing.{HasHeaderFault}
 
 -- a volume that was not read for a fault of its header
 pub header_fault : (format : Meaning) (store : List (List ℕ)) (error : WalkError) → refusal_of error ≡ Check

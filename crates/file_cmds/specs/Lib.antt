@@ -1,16 +1,7 @@
 pub mod Refusal
-pub mod Files
-pub mod Listing
 pub mod Text
 pub mod Read
 pub mod FileList
 pub mod Walked
 pub mod OneFile
-pub mod DosFiles
-pub mod Catalog
-pub mod DosText
-pub mod ProFiles
-pub mod ProListing
-pub mod ProText
-pub mod ProLines
 pub mod lemmas

@@ -2,8 +2,8 @@
 use Rattle.std.specs.Prelude.{◌≡◌, ◌⊎◌, ℕ, Bool, List}
 use Rattle.vol_format.specs.Directory.{Directory, entry_of}
 use Rattle.vol_format.specs.Meaning.{Meaning}
-use Rattle.file_cmds.specs.Files.{FileMeaning, IsFirstNamed, NamesNone}
-use Rattle.file_cmds.specs.Listing.{HasHeaderFault}
+use Rattle.file_formats.specs.Files.{FileMeaning, IsFirstNamed, NamesNone}
+use Rattle.file_formats.specs.Listing.{HasHeaderFault}
 use Rattle.vol_files.specs.Files.{Stored}
 use Rattle.file_cmds.specs.Text.{OwnFault, AreUnitsOf, text_of}
 

@@ -6,7 +6,7 @@ use Rattle.vol_format.specs.Directory.{Directory, root_of}
 use Rattle.vol_format.specs.Meaning.{Meaning, link_from}
 use Rattle.vol_format.specs.Reach.{Reach}
 use Rattle.vol_files.specs.Files.{Stored, IsStored}
-use Rattle.file_cmds.specs.Files.{FileMeaning}
+use Rattle.file_formats.specs.Files.{FileMeaning}
 
 -- What is wrong with a file by itself: it is of a kind that is not read, one of its pointers is wild, or two of its parts stand at one place.
 pub data OwnFault (format : Meaning) (directory : Directory) (store : List (List ℕ)) (file : ℕ) : Type 0 where

@@ -1,3 +1,2 @@
 pub mod Exclusive
 pub mod FileAlone
-pub mod DosListing

@@ -2,10 +2,11 @@
 ghost use Rattle.std.specs.Prelude.{◌≡◌, ◌≢◌, IfOk, IsTrue, map};
 ghost use Rattle.a2_device.specs.Device.{OnlyReads};
 ghost use Rattle.file_cmds.specs.Refusal.{told_device};
-ghost use Rattle.file_cmds.specs.Listing.{ShowsDirectory, IsListingOf, HasHeaderFault};
+ghost use Rattle.file_formats.specs.Listing.{ShowsDirectory, IsListingOf, HasHeaderFault};
 
-use crate::{CmdError, FileFormat, ListEntry, Listing};
+use crate::CmdError;
 use a2_device::Device;
+use file_formats::{FileFormat, ListEntry, Listing};
 use std::alloc::{AllocError, Allocator};
 
 // The entries of a directory, in its order.

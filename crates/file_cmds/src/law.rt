@@ -4,7 +4,7 @@ ghost use Rattle.vol_files.specs.Files.{File, HasFiles};
 ghost use Rattle.file_cmds.specs.FileList.{IsTextOfFirst, named_files};
 ghost use Rattle.file_cmds.specs.Read.{IsTextAt, IsUnreadable, HasNoFile};
 
-use crate::FileFormat;
+use file_formats::FileFormat;
 
 /// The answers of a read exclude one another: a store on which a path has a text has no fault that makes the file
 /// unreadable, nor is the file missing there; and a missing file is no unreadable one.

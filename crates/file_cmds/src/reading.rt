@@ -6,11 +6,11 @@ ghost use Rattle.file_cmds.specs.Refusal.{told_device};
 ghost use Rattle.file_cmds.specs.Text.{OwnFault, IsWholeTextOf};
 ghost use Rattle.file_cmds.specs.Read.{IsTextAt, IsUnreadable, HasNoFile};
 
-use crate::finding::find;
+use crate::CmdError;
 use crate::one_file::OneFile;
 use crate::text::text_of;
-use crate::{CmdError, FileFormat};
 use a2_device::Device;
+use file_formats::{FileFormat, find};
 use std::alloc::Allocator;
 use vol_check::check;
 use vol_format::Format;

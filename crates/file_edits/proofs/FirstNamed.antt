@@ -5,7 +5,7 @@ use Rattle.std.proofs.Common.{refl, sym, ◌∙◌, ap, subst, arith, get_or}
 use Rattle.vol_format.specs.Directory.{Listed, no_entry, is_directory}
 use Rattle.vol_files.specs.Files.{File}
 use Rattle.entry_laws.specs.FilesOf.{no_file}
-use Rattle.file_cmds.specs.Files.{FileMeaning, is_named}
+use Rattle.file_formats.specs.Files.{FileMeaning, is_named}
 use Rattle.edit_formats.specs.Lists.{with_first}
 
 -- an entry that a path names is a file's, and the path is its path

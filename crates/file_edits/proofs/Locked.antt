@@ -7,7 +7,7 @@ use Rattle.vol_format.specs.Directory.{Directory, Listed, entry_of}
 use Rattle.vol_format.specs.Laws.{IsReadable, IsMovable, IsWritable}
 use Rattle.vol_format.specs.Meaning.{Meaning}
 use Rattle.vol_files.specs.Files.{File}
-use Rattle.file_cmds.specs.Files.{FileMeaning, IsFirstNamed}
+use Rattle.file_formats.specs.Files.{FileMeaning, IsFirstNamed}
 use Rattle.edit_formats.specs.Edits.{EditMeaning, IsLockable, lock_written}
 use Rattle.edit_formats.specs.Edited.{IsLockEdit, HasChanged}
 use Rattle.edit_formats.specs.Lists.{with_lock_on}

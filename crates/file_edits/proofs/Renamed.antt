@@ -7,7 +7,7 @@ use Rattle.vol_format.specs.Directory.{Directory, Listed, entry_of}
 use Rattle.vol_format.specs.Laws.{IsReadable, IsMovable, IsWritable}
 use Rattle.vol_format.specs.Meaning.{Meaning}
 use Rattle.vol_files.specs.Files.{File}
-use Rattle.file_cmds.specs.Files.{FileMeaning, IsFirstNamed}
+use Rattle.file_formats.specs.Files.{FileMeaning, IsFirstNamed}
 use Rattle.edit_formats.specs.Edited.{HasChanged}
 use Rattle.edit_formats.specs.Names.{NameMeaning, IsNamable, name_written}
 use Rattle.edit_formats.specs.Renamed.{IsRenameEdit, with_new_name}

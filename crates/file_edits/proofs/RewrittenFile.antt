@@ -18,7 +18,7 @@ use Rattle.entry_laws.proofs.Rewriting.{entry_rewritten}
 use Rattle.entry_laws.proofs.SystemWrites.{one_unit_rest}
 use Rattle.entry_laws.proofs.WholeLists.{volume_rewritten}
 use Rattle.entry_laws.proofs.Zipped.{zipped_at}
-use Rattle.file_cmds.specs.Files.{FileMeaning, IsFirstNamed}
+use Rattle.file_formats.specs.Files.{FileMeaning, IsFirstNamed}
 use Rattle.delete_laws.specs.Deleted.{IsLostOn}
 use Rattle.edit_formats.specs.Edited.{HasChanged}
 use Rattle.edit_formats.specs.Lists.{with_first}

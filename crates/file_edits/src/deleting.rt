@@ -18,7 +18,7 @@ ghost use Rattle.edit_writes.specs.Writes.{HasEdited};
 use a2_device::Device;
 use edit_formats::EditableFormat;
 use edit_writes::{EditError, Prepared, mark_all, write_all};
-use file_cmds::find;
+use file_formats::find;
 use std::alloc::{AllocError, Allocator};
 use vol_check::check;
 use vol_parts::Part;

@@ -12,7 +12,7 @@ ghost use Rattle.edit_writes.specs.Writes.{HasEdited};
 use a2_device::Device;
 use edit_formats::EditableFormat;
 use edit_writes::{EditError, read_unit, write_unit};
-use file_cmds::find;
+use file_formats::find;
 use std::alloc::Allocator;
 use vol_check::check;
 

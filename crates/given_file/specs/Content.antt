@@ -16,6 +16,10 @@ pub record GivenView : Type 0 where
 abbrev pub given_view : GivenFile → GivenView
 given_view given = record { kind = given.kind; aux = given.aux; date = given.date; head = given.head; bytes = given.bytes.now }
 
+-- the most bytes of a file that is given
+abbrev pub most_input : ℕ
+most_input = 16777216
+
 -- a number of two bytes, the low one first
 abbrev pub two_bytes : ℕ → List ℕ
 two_bytes n = n % 256 ∷ n / 256 % 256 ∷ []

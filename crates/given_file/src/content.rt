@@ -7,6 +7,9 @@ use crate::GivenError;
 use pro_dir::ProDate;
 use std::alloc::{AllocError, Global};
 
+/// The most bytes of a file that is given.
+pub const MOST_INPUT: usize = 16_777_216;
+
 /// What DOS 3.3 puts before the bytes of a file.
 #[derive(Clone, Copy, Debug, PartialEq, Eq)]
 pub enum Head {

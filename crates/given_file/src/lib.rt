@@ -11,6 +11,6 @@ mod content;
 mod error;
 mod words;
 
-pub use content::{FileUnits, GivenFile, Head, file_units};
+pub use content::{FileUnits, GivenFile, Head, MOST_INPUT, file_units};
 pub use error::GivenError;
 pub use words::{date, dos_head, dos_kind, pro_kind};

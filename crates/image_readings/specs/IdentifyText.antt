@@ -4,7 +4,7 @@ use Rattle.sector_order.specs.declared.order.Order.{Order}
 use Rattle.sector_order.specs.declared.order.Order.TheVariants as orders
 use Rattle.shop_jobs.specs.declared.job.FileSystem.{FileSystem}
 use Rattle.shop_jobs.specs.declared.job.FileSystem.TheVariants as systems
-use Rattle.file_cmds.specs.DosText.{Text, line}
+use Rattle.file_listings.specs.DosText.{Text, line}
 use Rattle.image_readings.specs.declared.reading.Standing.{Standing}
 use Rattle.image_readings.specs.declared.reading.Standing.TheVariants.{Accepted, Refused}
 use Rattle.image_readings.specs.declared.reading.Finding.{Finding}

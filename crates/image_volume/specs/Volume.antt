@@ -1,5 +1,5 @@
 -- The volume that an image has.
-use Rattle.std.specs.Prelude.{◌≡◌, ℕ, Bool, List, length, Contains}
+use Rattle.std.specs.Prelude.{◌≡◌, ◌<◌, ◌≤◌, ℕ, Bool, List, length, Contains}
 use Rattle.sector_order.specs.declared.order.Order.{Order}
 use Rattle.sector_order.specs.declared.order.Order.TheVariants.{Nibble}
 use Rattle.sector_order.specs.declared.order.Order.TheVariants as orders
@@ -58,6 +58,11 @@ pub record IsImageOf (order : Order) (bytes : List ℕ) (image : DiskImage) : Ty
 -- the units that an image has for a file system, as a device
 abbrev pub device_of : FileSystem → DiskImage → DeviceState
 device_of file_system image = image_state (kind_of file_system) image 0 0 0
+
+-- the device has the sectors of a disk, or 16 to 65,535 blocks
+abbrev pub HasUnitsOf : FileSystem → DeviceState → Type 0
+HasUnitsOf Dos device = (device.unit_size ≡ 256) × (device.places ≡ 560)
+HasUnitsOf Prodos device = (device.unit_size ≡ 512) × (16 ≤ device.places) × (device.places < 65536)
 
 -- a unit can't be read
 abbrev pub LacksUnit : DeviceState → Type 0

@@ -3,7 +3,7 @@ use explanations::{Explanation, FINDINGS, REFUSALS, explained};
 use job_reply::most_bytes;
 use sector_order::Order;
 use shop_jobs::ImageOrder;
-use shop_words::escaped;
+use shown_words::escaped;
 use std::{fmt, io};
 
 /// What became known of the image of a job.

@@ -3,8 +3,8 @@ use Rattle.std.specs.Prelude.{◌≡◌, ◌⊎◌, ℕ, List, [], Option, None,
 use Rattle.std.specs.Io.KnownBytes.{Appends, Keeps}
 use Rattle.a2_image.specs.declared.error.ImageError.{ImageError}
 use Rattle.a2_image.specs.declared.error.ImageError.TheVariants as images
-use Rattle.file_cmds.specs.ProLines.{directory_in}
-use Rattle.file_cmds.specs.ProText.{directory_text}
+use Rattle.file_listings.specs.ProLines.{directory_in}
+use Rattle.file_listings.specs.ProText.{directory_text}
 use Rattle.plan_steps.specs.ProSteps.{plan_in, plan_text}
 use Rattle.job_reply.specs.declared.refusal.Refusal.{Refusal}
 use Rattle.job_reply.specs.declared.refusal.Refusal.TheVariants as refusals

@@ -6,7 +6,7 @@ ghost use Rattle.job_reply.specs.Reply.{AppendsFront, HandsOut, IsDelivered, IsM
 use crate::plan_writing::write_plan;
 use crate::refusal::{Failure, Refusal};
 use crate::writing::{write_lines, write_whole, written};
-use file_cmds::ProLines;
+use file_listings::ProLines;
 use plan_steps::ProSteps;
 use std::io::Write;
 

@@ -2,12 +2,12 @@
 ghost use Rattle.std.specs.Prelude.{◌<◌, ◌≡◌, IsTrue, flat_map};
 ghost use Rattle.std.specs.Io.KnownBytes.{Appends};
 ghost use Rattle.vol_format.specs.Directory.{entries, entry_of};
-ghost use Rattle.file_cmds.specs.ProLines.{directory_in};
-ghost use Rattle.file_cmds.specs.ProText.{directory_text, entry_line, first_line, last_line};
+ghost use Rattle.file_listings.specs.ProLines.{directory_in};
+ghost use Rattle.file_listings.specs.ProText.{directory_text, entry_line, first_line, last_line};
 ghost use Rattle.job_reply.specs.Reply.{AppendsFront, IsWritten};
 
 use crate::reply::FAILED;
-use file_cmds::ProLines;
+use file_listings::ProLines;
 use std::io::{ErrorKind, Write};
 
 /// Writes bytes and answers the status, or 4 where the writer fails.

@@ -4,8 +4,8 @@ use Rattle.reserved_places.specs.declared.form.PlaceForm.TheVariants.{Block}
 use Rattle.pro_format.specs.Pro.{directory_with}
 use Rattle.pro_format.specs.ProVolume.{map_in, system_of, tree_of}
 use Rattle.vol_format.specs.Directory.{Directory}
-use Rattle.file_cmds.specs.DosText.{Text, line}
-use Rattle.file_cmds.specs.ProFiles.{pro_files}
+use Rattle.file_listings.specs.DosText.{Text, line}
+use Rattle.file_formats.specs.ProFiles.{pro_files}
 use Rattle.plan_steps.specs.Steps.{count_text, no_step, plan_words_text, step_line}
 use Rattle.plan_steps.specs.declared.pro_steps.ProSteps.{ProSteps}
 use Rattle.plan_steps.specs.declared.step.Step.{Step}

@@ -8,9 +8,9 @@ use Rattle.reserved_places.specs.declared.form.PlaceForm.{PlaceForm}
 use Rattle.reserved_places.specs.declared.form.PlaceForm.TheVariants.{Sector, Block}
 use Rattle.vol_format.specs.Directory.{Directory, entry_of}
 use Rattle.vol_format.specs.Standing.{no_part}
-use Rattle.file_cmds.specs.DosText.{Text, line, name_text}
-use Rattle.file_cmds.specs.Files.{FileMeaning}
-use Rattle.file_cmds.specs.ProText.{path_text}
+use Rattle.file_listings.specs.DosText.{Text, line, name_text}
+use Rattle.file_formats.specs.Files.{FileMeaning}
+use Rattle.file_listings.specs.ProText.{path_text}
 use Rattle.plan_steps.specs.declared.step.Step.{Step}
 
 -- what a part is: a track/sector list, a master index, an index or a unit of the file's body

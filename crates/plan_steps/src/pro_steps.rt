@@ -2,13 +2,14 @@
 ghost use Rattle.std.specs.Prelude.{◌≡◌, ◌<◌, length, IfOk, OnOk};
 ghost use Rattle.pro_format.specs.Pro.{directory_with};
 ghost use Rattle.pro_format.specs.ProVolume.{map_in, system_of, tree_of};
-ghost use Rattle.file_cmds.specs.ProFiles.{pro_files};
+ghost use Rattle.file_formats.specs.ProFiles.{pro_files};
 ghost use Rattle.plan_steps.specs.ProSteps.{count_line, line_in, plan_in, plan_line, step_at};
 ghost use Rattle.plan_steps.specs.Steps.{path_of};
 
 use crate::count::CountText;
 use crate::step::{Step, StepText};
-use file_cmds::{listed_entry, most_path_bytes};
+use file_formats::listed_entry;
+use file_listings::most_path_bytes;
 use pro_format::ProVolume;
 use reserved_places::PlaceForm;
 use std::alloc::{AllocError, Allocator, Global};

@@ -1,9 +1,9 @@
 // The paths of files, as a listing shows them.
 ghost use Rattle.std.specs.Prelude.{◌≡◌, Some, map};
-ghost use Rattle.file_cmds.specs.DosText.{shown};
+ghost use Rattle.file_listings.specs.DosText.{shown};
 ghost use Rattle.plan_steps.specs.Steps.{shown_path};
 
-use file_cmds::{shown_byte, shown_part};
+use file_listings::{shown_byte, shown_part};
 use reserved_places::PlaceForm;
 use std::fmt;
 

@@ -4,8 +4,8 @@ use Rattle.std.specs.Prelude.{Bool}
 use Rattle.a2_device.specs.Device.{DeviceState}
 use Rattle.reserved_places.specs.declared.form.PlaceForm.{PlaceForm}
 use Rattle.vol_format.specs.Meaning.{Meaning}
-use Rattle.file_cmds.specs.Files.{FileMeaning}
-use Rattle.file_cmds.specs.Listing.{HasHeaderFault}
+use Rattle.file_formats.specs.Files.{FileMeaning}
+use Rattle.file_formats.specs.Listing.{HasHeaderFault}
 use Rattle.file_cmds.specs.Read.{HasNoFile, IsUnreadable}
 use Rattle.file_cmds.specs.declared.error.CmdError.{CmdError}
 use Rattle.file_cmds.specs.declared.error.CmdError.TheVariants as commands

@@ -5,9 +5,9 @@ use Rattle.reserved_places.specs.declared.form.PlaceForm.{PlaceForm}
 use Rattle.reserved_places.specs.declared.form.PlaceForm.TheVariants.{Sector, Block}
 use Rattle.vol_format.specs.Directory.{Directory}
 use Rattle.vol_format.specs.Meaning.{Meaning}
-use Rattle.file_cmds.specs.DosText.{Text, directory_text as dos_text}
-use Rattle.file_cmds.specs.Listing.{HasHeaderFault}
-use Rattle.file_cmds.specs.ProText.{directory_text as pro_text}
+use Rattle.file_listings.specs.DosText.{Text, directory_text as dos_text}
+use Rattle.file_formats.specs.Listing.{HasHeaderFault}
+use Rattle.file_listings.specs.ProText.{directory_text as pro_text}
 use Rattle.job_reply.specs.declared.refusal.Refusal.TheVariants as refusals
 use Rattle.job_reply.specs.declared.refusal.Failure.TheVariants as failures
 use Rattle.job_reply.specs.declared.reply.Reply.{Reply}

@@ -12,7 +12,7 @@ use Rattle.vol_check.specs.Answer.{AreFaults}
 use Rattle.vol_check.specs.Told.{Told, IsToldOf}
 use Rattle.vol_check.specs.declared.error.CheckError.{CheckError}
 use Rattle.vol_check.specs.declared.error.CheckError.TheVariants as checks
-use Rattle.file_cmds.specs.DosText.{Text}
+use Rattle.file_listings.specs.DosText.{Text}
 use Rattle.reading_jobs.specs.CheckText.{fault_line, told_line}
 use Rattle.job_reply.specs.declared.refusal.Failure.TheVariants as failures
 use Rattle.job_reply.specs.declared.reply.Reply.{Reply}

@@ -5,7 +5,7 @@ use Rattle.vol_parts.specs.declared.fault.Fault.TheVariants.{Geometry, CatalogLi
 use Rattle.reserved_places.specs.Reserved.{told_place}
 use Rattle.reserved_places.specs.declared.form.PlaceForm.{PlaceForm}
 use Rattle.vol_check.specs.Told.{Told}
-use Rattle.file_cmds.specs.DosText.{Text, line}
+use Rattle.file_listings.specs.DosText.{Text, line}
 
 abbrev pub fault_name : Fault → Text
 fault_name (Geometry place) = codes "Geometry"

@@ -9,8 +9,8 @@ use Rattle.vol_format.specs.Directory.{Directory}
 use Rattle.vol_format.specs.Meaning.{Meaning}
 use Rattle.vol_check.specs.Told.{Told}
 use Rattle.vol_opening.specs.Opening.{IsPlanOf}
-use Rattle.file_cmds.specs.DosText.{Text}
-use Rattle.file_cmds.specs.Files.{FileMeaning}
+use Rattle.file_listings.specs.DosText.{Text}
+use Rattle.file_formats.specs.Files.{FileMeaning}
 use Rattle.plan_steps.specs.Steps.{plan_words_text}
 use Rattle.plan_steps.specs.declared.step.Step.{Step}
 use Rattle.job_reply.specs.declared.refusal.Failure.TheVariants as failures

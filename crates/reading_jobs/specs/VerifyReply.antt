@@ -11,7 +11,7 @@ use Rattle.ring_cert.specs.declared.certificate.CertFault.{CertFault}
 use Rattle.ring_cert.specs.declared.certificate.CertFault.TheVariants as faults
 use Rattle.vol_format.specs.Meaning.{Meaning}
 use Rattle.vol_check.specs.Told.{Told}
-use Rattle.file_cmds.specs.DosText.{Text, line}
+use Rattle.file_listings.specs.DosText.{Text, line}
 use Rattle.job_reply.specs.declared.refusal.Refusal.TheVariants as refusals
 use Rattle.job_reply.specs.declared.refusal.Failure.TheVariants as failures
 use Rattle.job_reply.specs.declared.reply.Reply.{Reply}

@@ -1,6 +1,6 @@
 // The job that lists the files of a volume.
 ghost use Rattle.std.specs.Prelude.{◌≡◌, IfOk, IsTrue, string_bytes};
-ghost use Rattle.file_cmds.specs.DosText.{directory_text as dos_text};
+ghost use Rattle.file_listings.specs.DosText.{directory_text as dos_text};
 ghost use Rattle.a2_device.specs.Device.{OnlyReads};
 ghost use Rattle.reading_jobs.specs.CatalogReply.{IsListed};
 ghost use Rattle.reading_jobs.specs.TellingFailures.{FailsForLack, tells_device};
@@ -9,7 +9,9 @@ ghost use Rattle.reading_jobs.specs.Refusals.{reply_to_refusal};
 use crate::plan_words::steps_text;
 use a2_device::Device;
 use dos_format::{Dos33, DosVolume};
-use file_cmds::{CmdError, FileFormat, ProLines, dos_listing_text, listing_of, read_volume};
+use file_cmds::{CmdError, listing_of, read_volume};
+use file_formats::FileFormat;
+use file_listings::{ProLines, dos_listing_text};
 use job_reply::{Failure, Refusal, Reply};
 use plan_steps::{ProSteps, Step};
 use pro_format::{ProVolume, Prodos};

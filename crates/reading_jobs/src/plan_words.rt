@@ -11,7 +11,7 @@ use crate::listing::ShownFormat;
 use crate::plan::unopened_reply;
 use crate::steps::steps_of;
 use a2_device::Device;
-use file_cmds::FileFormat;
+use file_formats::FileFormat;
 use job_reply::{Failure, Reply};
 use plan_steps::{CountText, Step, StepText};
 use reserved_places::PlaceForm;

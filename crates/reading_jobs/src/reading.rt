@@ -6,7 +6,8 @@ ghost use Rattle.reading_jobs.specs.TellingFailures.{FailsForLack, tells_device}
 
 use crate::listing::refusal_reply;
 use a2_device::Device;
-use file_cmds::{FileFormat, read};
+use file_cmds::read;
+use file_formats::FileFormat;
 use job_reply::Reply;
 use std::alloc::Global;
 

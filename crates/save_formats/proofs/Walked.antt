@@ -12,7 +12,7 @@ use Rattle.dos_catalog.specs.Listed.{entries_of_catalog, sectors_of_catalog}
 use Rattle.dos_catalog.specs.Catalog.{CatalogFaultAt, IsCatalog}
 use Rattle.edit_writes.specs.declared.error.EditError.TheVariants.{Check}
 use Rattle.edit_formats.specs.Renamed.{refusal_of_walk}
-use Rattle.file_cmds.specs.DosFiles.{dos_name}
+use Rattle.file_formats.specs.DosFiles.{dos_name}
 use Rattle.save_formats.specs.DosSaves.{HasWalked, is_name_used}
 
 -- a catalog that is there has no fault

@@ -5,7 +5,7 @@ use Rattle.std.proofs.lemmas.Option.{same_Some}
 use Rattle.std.specs.Io.KnownBytes.{Appends, Keeps}
 use Rattle.std.specs.Prelude.{◌⊎◌, Option, Some, None, IfSome, codes}
 use Rattle.sector_order.specs.declared.order.Order.{Order}
-use Rattle.given_file.specs.Content.{GivenView}
+use Rattle.given_file.specs.Content.{GivenView, most_input}
 use Rattle.shop_jobs.specs.Job.{EditView, JobView, SaveView, catalog, check, read, convert, plan, optimize, edit, save, verify, identify}
 use Rattle.shop_words.specs.Job.{asked_job, IsTaken}
 use Rattle.shop_words.specs.Fault.{IsFaultOf}
@@ -25,7 +25,6 @@ use Rattle.reading_jobs.specs.VerifyReply.{most_certificate}
 use Rattle.image_volume.specs.Volume.{device_of, form_of, meaning_of, order_of}
 use Rattle.volume_jobs.specs.FileSystems.{edits_of, files_of}
 use Rattle.volume_jobs.specs.Work.{IsWorkReply, WorkView, Catalog, Read, Check, Plan, Optimize, Change, Save, Verify}
-use Rattle.volume_jobs.specs.SaveReply.{most_input}
 use Rattle.volume_jobs.proofs.NotMade.{edited_image, saved_image, volume_made}
 use Rattle.volume_jobs.proofs.Fronts.{saved-take, verified-take, volume-whole, with_given_bytes}
 use Rattle.shop_commands.specs.Answer.{AreToldNoJob, TellsNoJob, HandsOutFor, IsGiven, IsInPlaceAnswer, IsReadFailure, IsSaveReply, limit_of, IsToldOf, IsReplyToBytes, IsAnswer, IsCommandAnswer, IsWordsAnswer, MakesImage, ReadsExtra, attributes_of, image_order_of, is_in_place}

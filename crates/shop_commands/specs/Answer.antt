@@ -3,7 +3,7 @@ use Rattle.std.specs.Prelude.{◌≡◌, ◌⊎◌, ℕ, Bool, true, false, List
 use Rattle.std.specs.Io.KnownBytes.{Appends, Keeps}
 use Rattle.sector_order.specs.declared.order.Order.{Order}
 use Rattle.sector_order.specs.declared.order.Order.TheVariants as orders
-use Rattle.file_cmds.specs.DosText.{Text}
+use Rattle.file_listings.specs.DosText.{Text}
 use Rattle.given_file.specs.Content.{GivenView}
 use Rattle.given_file.specs.Words.{IsDateOf, NamesDate, dos_head, dos_kind, pro_kind}
 use Rattle.given_file.specs.declared.content.Head.{Head}

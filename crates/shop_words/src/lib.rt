@@ -10,7 +10,7 @@
 //! `catalog --fs dos --order dos -`.
 //!
 //! The words are read as they are. Only where they are refused, the text is made from the escaped
-//! words (`specs/Escaping.antt`).
+//! words (`shown_words`).
 //!
 //! What always holds: a job that is answered is the function `asked_job` of the words, whatever
 //! they are; a plain list is never refused; help is answered only to words that may ask for it, and
@@ -18,7 +18,6 @@
 #![tactic(auto)]
 
 mod editing;
-mod escaping;
 mod fault;
 mod grammar;
 mod help;
@@ -31,6 +30,5 @@ mod table;
 mod target;
 mod words;
 
-pub use escaping::escaped;
 pub use fault::WordsFault;
 pub use words::parse_words;

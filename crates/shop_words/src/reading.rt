@@ -1,5 +1,5 @@
 //! The job that clap's matches say.
-ghost use Rattle.std.specs.Prelude.{◌≡◌, codes, if◌then◌else◌, IfOk, nat_le, None, option_map, Some, string_bytes};
+ghost use Rattle.std.specs.Prelude.{◌≡◌, ◌≤◌, codes, if◌then◌else◌, IfOk, IfSome, nat_le, None, option_map, Some, string_bytes};
 ghost use Rattle.std.specs.Char.{is_ascii_digit};
 ghost use Rattle.std.specs.List.{list_all};
 ghost use Rattle.clap.specs.Matches.{found_of};
@@ -46,7 +46,8 @@ fn order_named(word: &str) -> Option<ImageOrder>
 
 /// The number that a word of decimal digits writes, up to the greatest.
 pub fn number_named(word: &str, greatest: u64) -> Option<u64>
-    ensures { result ≡ number_named greatest word.now }
+    ensures value { result ≡ number_named greatest word.now }
+    ensures within { IfSome result (λ number. number ≤ greatest) }
 {
     if !is_digits(word.as_bytes()) {
         return None;
@@ -64,7 +65,8 @@ fn is_digits(word: &[u8]) -> bool
 }
 
 fn up_to(number: u64, greatest: u64) -> Option<u64>
-    ensures { result ≡ (if nat_le number greatest then Some number else None) }
+    ensures value { result ≡ (if nat_le number greatest then Some number else None) }
+    ensures within { IfSome result (λ n. n ≤ greatest) }
 {
     if number <= greatest {
         Some(number)

@@ -3,13 +3,13 @@ ghost use Rattle.std.specs.Prelude.{◌≡◌, ◌≢◌, IfOk};
 ghost use Rattle.clap.specs.Values.{kind_of};
 ghost use Rattle.shop_words.specs.Fault.{IsFaultBy};
 
-use crate::escaping::{all_escaped, escaped};
 use crate::fault::WordsFault;
 use crate::grammar::{full_command, program};
 use crate::reading::{has_flag, number_named, said};
 use crate::table::{Form, Kind, Parameter, Values, table};
 use clap::error::ErrorKind;
 use clap::{ArgMatches, Command, Error};
+use shown_words::{all_escaped, escaped};
 use std::alloc::{AllocError, Global};
 
 /// The form of the command with this name.

@@ -177,6 +177,18 @@ const WHOLE: Parameter = Parameter {
     help: Help::Whole,
 };
 
+/// The parameters of a command that changes a file.
+const EDIT: &[Parameter] = &[
+    IMAGE,
+    NAME,
+    FILE_SYSTEM,
+    ORDER,
+    OUT_FILE,
+    IN_PLACE,
+    DATA_DISK,
+    RESERVE,
+];
+
 const FORMS: &[Form] = &[
     Form {
         name: "catalog",
@@ -223,42 +235,15 @@ const FORMS: &[Form] = &[
     },
     Form {
         name: "lock",
-        parameters: &[
-            IMAGE,
-            NAME,
-            FILE_SYSTEM,
-            ORDER,
-            OUT_FILE,
-            IN_PLACE,
-            DATA_DISK,
-            RESERVE,
-        ],
+        parameters: EDIT,
     },
     Form {
         name: "unlock",
-        parameters: &[
-            IMAGE,
-            NAME,
-            FILE_SYSTEM,
-            ORDER,
-            OUT_FILE,
-            IN_PLACE,
-            DATA_DISK,
-            RESERVE,
-        ],
+        parameters: EDIT,
     },
     Form {
         name: "delete",
-        parameters: &[
-            IMAGE,
-            NAME,
-            FILE_SYSTEM,
-            ORDER,
-            OUT_FILE,
-            IN_PLACE,
-            DATA_DISK,
-            RESERVE,
-        ],
+        parameters: EDIT,
     },
     Form {
         name: "rename",

@@ -4,7 +4,8 @@ ghost use Rattle.a2_device.specs.Device.{DeviceState};
 
 use a2_device::{Device, FaultDevice};
 use dos_format::Dos33;
-use file_cmds::{CmdError, catalog, dos_listing_text};
+use file_cmds::{CmdError, catalog};
+use file_listings::dos_listing_text;
 use refusing::Refusing;
 use reserved_places::Reserved;
 use std::alloc::{AllocError, Allocator, Global};

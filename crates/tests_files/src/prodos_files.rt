@@ -4,7 +4,8 @@ ghost use Rattle.a2_device.specs.Device.{DeviceState};
 
 use crate::runs::are_runs;
 use a2_device::Device;
-use file_cmds::{CmdError, ProLines, read, read_volume};
+use file_cmds::{CmdError, read, read_volume};
+use file_listings::ProLines;
 use pro_format::Prodos;
 use refusing::Refusing;
 use reserved_places::Reserved;

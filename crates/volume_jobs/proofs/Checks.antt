@@ -9,7 +9,7 @@ use Rattle.reserved_places.specs.declared.form.PlaceForm.{PlaceForm}
 use Rattle.reserved_places.specs.declared.error.ReserveError.{ReserveError}
 use Rattle.reserved_places.specs.declared.error.ReserveError.TheVariants as reserves
 use Rattle.vol_format.specs.Meaning.{Meaning}
-use Rattle.file_cmds.specs.DosText.{Text}
+use Rattle.file_listings.specs.DosText.{Text}
 use Rattle.shop_jobs.specs.declared.job.FileSystem.{FileSystem}
 use Rattle.job_reply.specs.declared.reply.Reply.{Reply}
 use Rattle.job_reply.specs.Reply.{reply_to_image}

@@ -9,9 +9,9 @@ use Rattle.image_device.specs.DosPlaces.{sector_at, sectors_by_place}
 use Rattle.image_device.specs.ImageDevice.{length-stored_units}
 use Rattle.reserved_places.specs.declared.form.PlaceForm.TheVariants.{Sector}
 use Rattle.dos_format.specs.Dos.{dos_meaning}
-use Rattle.file_cmds.specs.DosFiles.{dos_files}
-use Rattle.file_cmds.specs.DosText.{IsListingText}
-use Rattle.file_cmds.specs.lemmas.DosListing.{dos_listing_text, no_dos_listing}
+use Rattle.file_formats.specs.DosFiles.{dos_files}
+use Rattle.file_listings.specs.DosText.{IsListingText}
+use Rattle.file_listings.specs.lemmas.DosListing.{dos_listing_text, no_dos_listing}
 use Rattle.shop_jobs.specs.declared.job.FileSystem.{FileSystem}
 use Rattle.shop_jobs.specs.declared.job.FileSystem.TheVariants.{Dos}
 use Rattle.job_reply.specs.declared.reply.Reply.{Reply}

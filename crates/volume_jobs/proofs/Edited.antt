@@ -3,7 +3,7 @@ use Rattle.std.proofs.Common.{◌≡◌, ◌∙◌, ℕ, ◌+◌, List, [], ◌�
 use Rattle.std.specs.Prelude.{◌⊎◌, ◌<◌, true, IfSome, IsTrue, Err, Ok, take, slice_index_or}
 use Rattle.a2_device.specs.Device.{DeviceState, FailsWrite, OnlyReads, UsesWrite, last_count, one_fewer, written}
 use Rattle.vol_format.specs.Meaning.{Meaning}
-use Rattle.file_cmds.specs.Files.{FileMeaning}
+use Rattle.file_formats.specs.Files.{FileMeaning}
 use Rattle.edit_formats.specs.Edited.{HasChanged}
 use Rattle.edit_formats.specs.Renamed.{IsRenameRefusal}
 use Rattle.delete_laws.specs.Writes.{Write}

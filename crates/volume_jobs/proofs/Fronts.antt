@@ -11,9 +11,9 @@ use Rattle.shop_jobs.specs.declared.job.FileSystem.TheVariants.{Dos as Dos_volum
 use Rattle.job_reply.specs.declared.reply.Reply.{Reply}
 use Rattle.job_reply.specs.Disk.{most_bytes}
 use Rattle.job_reply.proofs.Fronts.{disk_bytes-lt}
-use Rattle.given_file.specs.Content.{GivenView}
+use Rattle.given_file.specs.Content.{GivenView, most_input}
 use Rattle.save_formats.specs.Saves.{SaveMeaning}
-use Rattle.volume_jobs.specs.SaveReply.{IsSaved, most_input}
+use Rattle.volume_jobs.specs.SaveReply.{IsSaved}
 use Rattle.reading_jobs.specs.VerifyReply.{IsVerified, most_certificate}
 use Rattle.image_volume.specs.Volume.{OfVolume, TakesBytes, meaning_of}
 use Rattle.volume_jobs.specs.VolumeReply.{IsVolumeReply}

@@ -2,8 +2,8 @@
 use Rattle.std.specs.Prelude.{◌≡◌, ◌⊎◌, ℕ, List, length}
 use Rattle.sector_order.specs.declared.order.Order.{Order}
 use Rattle.a2_device.specs.Device.{DeviceState}
-use Rattle.file_cmds.specs.Catalog.{HasNoCatalog}
-use Rattle.file_cmds.specs.DosText.{IsListingText}
+use Rattle.file_formats.specs.Catalog.{HasNoCatalog}
+use Rattle.file_listings.specs.DosText.{IsListingText}
 use Rattle.shop_jobs.specs.declared.job.FileSystem.TheVariants.{Dos}
 use Rattle.job_reply.specs.declared.refusal.Refusal.TheVariants as refusals
 use Rattle.job_reply.specs.declared.refusal.Failure.TheVariants as failures

@@ -4,8 +4,8 @@ use Rattle.a2_device.specs.Device.{DeviceState}
 use Rattle.vol_format.specs.Accepted.{IsVolume}
 use Rattle.vol_format.specs.Meaning.{Meaning}
 use Rattle.vol_files.specs.Files.{File}
-use Rattle.file_cmds.specs.DosText.{Text}
-use Rattle.file_cmds.specs.Files.{FileMeaning}
+use Rattle.file_listings.specs.DosText.{Text}
+use Rattle.file_formats.specs.Files.{FileMeaning}
 use Rattle.edit_formats.specs.Deleted.{HasFirstProtected, IsDeleteEdit, IsOldOrErased}
 use Rattle.edit_formats.specs.Edited.{HasChanged, HasNoSuchFile, IsLockEdit, IsOldOrChanged}
 use Rattle.edit_formats.specs.Lists.{with_lock_on, without_named}

@@ -1,7 +1,7 @@
 -- What the two file systems have of files, and of their changes.
-use Rattle.file_cmds.specs.DosFiles.{dos_files}
-use Rattle.file_cmds.specs.Files.{FileMeaning}
-use Rattle.file_cmds.specs.ProFiles.{pro_files}
+use Rattle.file_formats.specs.DosFiles.{dos_files}
+use Rattle.file_formats.specs.Files.{FileMeaning}
+use Rattle.file_formats.specs.ProFiles.{pro_files}
 use Rattle.edit_formats.specs.DosEdits.{dos_edits}
 use Rattle.edit_formats.specs.DosErasing.{dos_erasures}
 use Rattle.edit_formats.specs.DosNames.{dos_names}

@@ -8,7 +8,7 @@ use Rattle.a2_device.specs.Device.{DeviceState, ImageForm}
 use Rattle.image_device.specs.DosPlaces.{sectors_by_place}
 use Rattle.image_device.specs.ImageDevice.{AreUnitsOf}
 use Rattle.vol_format.specs.Meaning.{Meaning}
-use Rattle.file_cmds.specs.DosText.{Text, line}
+use Rattle.file_listings.specs.DosText.{Text, line}
 use Rattle.vol_mover.specs.Report.{IsReported, IsStopped}
 use Rattle.vol_mover.specs.declared.progress.StepError.{StepError}
 use Rattle.vol_mover.specs.declared.report.Report.{Report}

@@ -8,7 +8,7 @@ use Rattle.edit_writes.specs.Writes.{device_after}
 use Rattle.save_formats.specs.Saves.{SaveMeaning}
 use Rattle.save_formats.specs.declared.target.Attributes.{Attributes}
 use Rattle.file_saving.specs.Saved.{HasFewPlaces, HasFullDirectory, HasNameInUse, HasNoDirectory, HasNoName, HasSaved, IsOldOrSaved, IsSaveEdit, IsTooLong}
-use Rattle.given_file.specs.Content.{GivenView, IsTooLongForHead, content, stored_units, unit_bytes}
+use Rattle.given_file.specs.Content.{GivenView, IsTooLongForHead, content, most_input, stored_units, unit_bytes}
 use Rattle.job_reply.specs.declared.refusal.Refusal.{Refusal}
 use Rattle.job_reply.specs.declared.refusal.Refusal.TheVariants as refusals
 use Rattle.job_reply.specs.declared.refusal.Failure.TheVariants as failures
@@ -16,10 +16,6 @@ use Rattle.job_reply.specs.declared.reply.Reply.{Reply}
 use Rattle.job_reply.specs.Reply.{IsMadeReply, failed, made_of, refused}
 use Rattle.volume_jobs.specs.OptimizeReply.{AreBytesOf, KeepsBytes}
 use Rattle.image_volume.specs.Volume.{LacksUnit}
-
--- the most bytes of a file that is saved
-abbrev pub most_input : ℕ
-most_input = 16777216
 
 -- what its owner says of a file, and how many bytes it has
 abbrev pub attributes_of : GivenView → Attributes

@@ -6,7 +6,7 @@ use Rattle.vol_format.specs.Meaning.{Meaning}
 use Rattle.job_reply.specs.declared.reply.Reply.{Reply}
 use Rattle.volume_jobs.specs.declared.volume.Work.{Work}
 use Rattle.volume_jobs.specs.declared.volume.Work.TheVariants as works
-use Rattle.file_cmds.specs.Files.{FileMeaning}
+use Rattle.file_formats.specs.Files.{FileMeaning}
 use Rattle.shop_jobs.specs.Job.{EditView, edit_view}
 use Rattle.given_file.specs.Content.{GivenView, given_view}
 use Rattle.reading_jobs.specs.CatalogReply.{IsListed}

@@ -17,5 +17,5 @@ mod volume;
 
 pub use edit::{edit_file, edit_refusal_reply};
 pub use reading_work::reading_reply;
-pub use save::{MOST_INPUT, save_file};
+pub use save::save_file;
 pub use volume::{Work, reserve_reply, reserved_by, volume_reply};

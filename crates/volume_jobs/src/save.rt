@@ -2,23 +2,20 @@
 ghost use Rattle.std.specs.Prelude.{◌≡◌, ◌<◌, ◌≤◌, ◌*◌, [], Some, None, Err, IfErr, IfSome, IsTrue, OnOk, length};
 ghost use Rattle.edit_writes.specs.Writes.{HasEdited};
 ghost use Rattle.file_saving.specs.Saved.{IsSaveRefusal};
-ghost use Rattle.given_file.specs.Content.{content, given_view, stored_units, unit_bytes};
+ghost use Rattle.given_file.specs.Content.{content, given_view, most_input, stored_units, unit_bytes};
 ghost use Rattle.volume_jobs.specs.Refusals.{refusal_of_edit};
-ghost use Rattle.volume_jobs.specs.SaveReply.{AreSaveWrites, HasGivenSaved, IsOldOrGivenSaved, IsSaveCause, IsSaveTried, IsSaved, attributes_of as said_of, most_input};
+ghost use Rattle.volume_jobs.specs.SaveReply.{AreSaveWrites, HasGivenSaved, IsOldOrGivenSaved, IsSaveCause, IsSaveTried, IsSaved, attributes_of as said_of};
 
 use crate::edit::edit_refusal_reply;
 use crate::optimize::image_bytes;
 use a2_device::Device;
 use edit_writes::EditError;
 use file_saving::save;
-use given_file::{FileUnits, GivenError, GivenFile, file_units};
+use given_file::{FileUnits, GivenError, GivenFile, MOST_INPUT, file_units};
 use image_device::ImageDevice;
 use job_reply::{Failure, Refusal, Reply};
 use save_formats::{Attributes, SavableFormat};
 use std::alloc::Global;
-
-/// The most bytes of a file that is saved.
-pub const MOST_INPUT: usize = 16_777_216;
 
 // What its owner says of a file, and how many bytes it has.
 fn attributes_of(given: &GivenFile<'_>) -> Attributes

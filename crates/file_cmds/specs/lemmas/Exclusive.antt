@@ -6,7 +6,7 @@ use Rattle.std.specs.Prelude.{nat_lt}
 use Rattle.vol_format.specs.Directory.{Directory, entry_of}
 use Rattle.vol_format.specs.Meaning.{Meaning}
 use Rattle.vol_format.specs.Laws.{IsReadable}
-use Rattle.file_cmds.specs.Files.{FileMeaning, is_named, IsFirstNamed, NamesNone}
+use Rattle.file_formats.specs.Files.{FileMeaning, is_named, IsFirstNamed, NamesNone}
 use Rattle.file_cmds.specs.Text.{OwnFault}
 use Rattle.file_cmds.specs.Read.{IsTextAt, IsBroken, IsUnreadable, HasNoFile}
 

@@ -1,5 +1,5 @@
 use Rattle.std.proofs.Common.{◌∙◌, List, ℕ, arith, subst, tests}
-use Rattle.file_cmds.specs.DosText.{line}
+use Rattle.file_listings.specs.DosText.{line}
 use Rattle.volume_jobs.specs.OptimizeReply.{report_line}
 use Rattle.job_reply.specs.Reply.{IsWritten}
 use Rattle.device_jobs.proofs.Telling.{both_written, only_first}

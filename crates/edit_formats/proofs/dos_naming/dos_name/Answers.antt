@@ -1,6 +1,6 @@
 use Rattle.std.proofs.Common.{◌∙◌, ap, List, ℕ}
 use Rattle.std.specs.Prelude.{bit_or, slice_set, slice_index}
-use Rattle.file_cmds.proofs.DosEntries.{name_more}
+use Rattle.file_formats.proofs.DosEntries.{name_more}
 use Rattle.edit_formats.proofs.dos_naming.dos_name.Goals as goal
 
 pub loop-i-preserved : goal.loop-i-preserved

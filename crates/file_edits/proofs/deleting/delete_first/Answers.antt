@@ -9,7 +9,7 @@ use Rattle.vol_format.specs.Directory.{entry_of}
 use Rattle.vol_format.specs.Reach.{IsPartsOf}
 use Rattle.delete_laws.specs.Deletion.{IsDeletion}
 use Rattle.delete_laws.specs.Writes.{Write}
-use Rattle.file_cmds.specs.Files.{IsFirstNamed}
+use Rattle.file_formats.specs.Files.{IsFirstNamed}
 use Rattle.edit_writes.specs.declared.writes.Prepared.{Prepared}
 use Rattle.edit_formats.specs.Deleted.{IsDeleteEdit}
 use Rattle.edit_writes.specs.Prepared.{write_of}

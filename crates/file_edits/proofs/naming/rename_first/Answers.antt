@@ -2,7 +2,7 @@ use Rattle.std.proofs.Common.{◌≡◌, ◌∙◌, List, [], ◌∷◌, refl, a
 use Rattle.a2_device.specs.Device.{DeviceState, unit_at}
 use Rattle.vol_check.specs.Told.{volume_of}
 use Rattle.vol_format.specs.Directory.{Directory, entry_of}
-use Rattle.file_cmds.specs.Files.{IsFirstNamed}
+use Rattle.file_formats.specs.Files.{IsFirstNamed}
 use Rattle.edit_formats.specs.Renamed.{IsRenameEdit, IsRenamable}
 use Rattle.delete_laws.specs.Writes.{Write}
 use Rattle.edit_writes.specs.Writes.{HasEdited}

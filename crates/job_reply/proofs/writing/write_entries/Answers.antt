@@ -1,8 +1,8 @@
 use Rattle.std.proofs.Common.{◌<◌, ◌∙◌, arith, flat_map, take_all, subst}
 use Rattle.std.specs.Io.KnownBytes.{Appends}
 use Rattle.vol_format.specs.Directory.{Directory, entries, entry_of, no_entry}
-use Rattle.file_cmds.specs.ProLines.{directory_in}
-use Rattle.file_cmds.specs.ProText.{entry_line}
+use Rattle.file_listings.specs.ProLines.{directory_in}
+use Rattle.file_listings.specs.ProText.{entry_line}
 use Rattle.job_reply.specs.Reply.{AppendsFront}
 use Rattle.job_reply.proofs.Appended.{all_front, texts_grown, texts_stopped}
 use Rattle.job_reply.proofs.writing.write_entries.Goals as goal

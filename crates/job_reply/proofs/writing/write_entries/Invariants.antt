@@ -1,7 +1,7 @@
 use Rattle.std.proofs.Common.{◌≡◌, flat_map, take}
 use Rattle.std.specs.Io.KnownBytes.{Appends}
-use Rattle.file_cmds.specs.ProLines.{directory_in}
-use Rattle.file_cmds.specs.ProText.{entry_line}
+use Rattle.file_listings.specs.ProLines.{directory_in}
+use Rattle.file_listings.specs.ProText.{entry_line}
 use Rattle.job_reply.proofs.writing.write_entries.Given as goal
 
 abbrev pub invariant-loop-entry : goal.invariant-loop-entry

@@ -1,8 +1,8 @@
 use Rattle.std.proofs.Common.{◌∙◌, ◌++◌, flat_map, subst}
 use Rattle.std.specs.Io.KnownBytes.{Appends}
 use Rattle.vol_format.specs.Directory.{Directory}
-use Rattle.file_cmds.specs.ProLines.{directory_in}
-use Rattle.file_cmds.specs.ProText.{entry_line, first_line, last_line}
+use Rattle.file_listings.specs.ProLines.{directory_in}
+use Rattle.file_listings.specs.ProText.{entry_line, first_line, last_line}
 use Rattle.job_reply.specs.Reply.{AppendsFront}
 use Rattle.job_reply.proofs.Appended.{appends_both, front_before, front_behind}
 use Rattle.job_reply.proofs.writing.write_lines.Goals as goal

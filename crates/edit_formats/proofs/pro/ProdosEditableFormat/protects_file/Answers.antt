@@ -2,7 +2,7 @@ use Rattle.std.proofs.Common.{◌∙◌, ap}
 use Rattle.pro_dir.specs.Listed.{directory_of}
 use Rattle.pro_dir.specs.Volume.{Directory as Tree}
 use Rattle.pro_format.specs.ProVolume.{tree_of, map_in, system_of}
-use Rattle.file_cmds.proofs.ProEntries.{in_shown}
+use Rattle.file_formats.proofs.ProEntries.{in_shown}
 use Rattle.edit_formats.proofs.NamedEntries.{access-pro}
 use Rattle.edit_formats.proofs.pro.ProdosEditableFormat.protects_file.Goals as goal
 

@@ -1,6 +1,6 @@
 use Rattle.std.proofs.Common.{map, take}
 use Rattle.std.specs.Fmt.{HasWritten, IsPlainFormatter}
-use Rattle.file_cmds.specs.DosText.{shown}
+use Rattle.file_listings.specs.DosText.{shown}
 use Rattle.plan_steps.proofs.shown_path.ShownPathDisplay.fmt.Given as goal
 
 abbrev pub invariant-loop-byte : goal.invariant-loop-byte

@@ -1,0 +1,2 @@
+pub mod DosEntries
+pub mod ProEntries

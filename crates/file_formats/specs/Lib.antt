@@ -1,0 +1,7 @@
+pub mod Files
+pub mod Listing
+pub mod DosFiles
+pub mod Catalog
+pub mod ProFiles
+pub mod ProListing
+pub mod lemmas

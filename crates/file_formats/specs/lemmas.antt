@@ -1,0 +1,2 @@
+pub mod DosShown
+pub mod ProShown

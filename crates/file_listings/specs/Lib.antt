@@ -1,0 +1,4 @@
+pub mod DosText
+pub mod ProText
+pub mod ProLines
+pub mod lemmas
