@@ -25,7 +25,60 @@ fn is_placed_as_said(words: &[String], standing: &Job) -> bool {
     !is_asked(words) || is_on_standard_input(standing)
 }
 
-// Does what words ask for on the image in memory, so that `auto` can be settled by it, and notes what becomes known of it.
+// Does a job on the bytes of its image, and notes what becomes known of it.
+fn run_noted<T: Write>(
+    rt: &HostRuntime,
+    job: &Job,
+    mut image: &[u8],
+    found: &mut Found,
+    text: &mut T,
+) -> u8 {
+    found.order = image_order(job);
+    if let Some(status) = run_in_its_place(rt, job, text) {
+        return status;
+    }
+    let status = run_with(rt, job, &mut image, text);
+    found.is_content = status == 0 && matches!(job, Job::Read { .. });
+    status
+}
+
+// Settles each `auto` of the words by the bytes of the image, and does their job.
+fn run_settled<T: Write>(
+    rt: &HostRuntime,
+    words: &[String],
+    standing: &Job,
+    image: &[u8],
+    found: &mut Found,
+    text: &mut T,
+) -> Result<u8, Stop> {
+    if !is_asked(words) {
+        return Ok(run_noted(rt, standing, image, found, text));
+    }
+    let job = settled_job(rt.alloc(), words, standing, image)?;
+    Ok(run_noted(rt, &job, image, found, text))
+}
+
+// Reads the image of a job, if it needs to, and does the job that the words then ask for.
+fn run_standing<T: Write>(
+    rt: &HostRuntime,
+    words: &[String],
+    standing: &Job,
+    found: &mut Found,
+    text: &mut T,
+) -> Result<u8, Stop> {
+    found.path = image_path(standing).to_string(rt.alloc()).ok();
+    if is_placed_as_said(words, standing)
+        && let Some(status) = run_in_its_place(rt, standing, text)
+    {
+        return Ok(status);
+    }
+    let image = image_bytes(rt, standing)?;
+    found.bytes = Some(image.len());
+    run_settled(rt, words, standing, image.as_slice(), found, text)
+}
+
+// Does what words ask for on the image in memory, so that `auto` can be settled by it, and notes what becomes known of it. A job is
+// owned where little is done with it: each exit that it leaves by is proved with all of its parts.
 fn run_in_memory<T: Write>(
     rt: &HostRuntime,
     words: &[String],
@@ -33,26 +86,7 @@ fn run_in_memory<T: Write>(
     text: &mut T,
 ) -> Result<u8, Stop> {
     let standing = standing_job(rt.alloc(), words)?;
-    found.path = image_path(&standing).to_string(rt.alloc()).ok();
-    if is_placed_as_said(words, &standing)
-        && let Some(status) = run_in_its_place(rt, &standing, text)
-    {
-        return Ok(status);
-    }
-    let image = image_bytes(rt, &standing)?;
-    found.bytes = Some(image.len());
-    let job = if is_asked(words) {
-        settled_job(rt.alloc(), words, &standing, image.as_slice())?
-    } else {
-        standing
-    };
-    found.order = image_order(&job);
-    if let Some(status) = run_in_its_place(rt, &job, text) {
-        return Ok(status);
-    }
-    let status = run_with(rt, &job, &mut image.as_slice(), text);
-    found.is_content = status == 0 && matches!(&job, Job::Read { .. });
-    Ok(status)
+    run_standing(rt, words, &standing, found, text)
 }
 
 // Does what words ask for that have an `auto`, or whose answer is to be explained.

@@ -12,7 +12,7 @@ use Rattle.vol_format.specs.declared.link.Link.{Link}
 use Rattle.vol_format.specs.declared.link.Link.TheVariants.{Null, To}
 use Rattle.dos_format.specs.Dos.{link_to, list_link, dos_child, dos_pointers, dos_meaning, CanNameDos}
 use Rattle.dos_format.specs.lemmas.DosBytes.{stored, link_to-place}
-use Rattle.entry_laws.specs.Built.{Planned, part_of, place_of, unit_of, built_link, IsBuilt}
+use Rattle.edit_laws.specs.Built.{Planned, part_of, place_of, unit_of, built_link, IsBuilt}
 use Rattle.dos_entries.specs.Plan.{NamesAt, IsDosPlan}
 use Rattle.dos_entries.specs.Slots.{new_listed}
 

@@ -14,7 +14,7 @@ use Rattle.vol_format.specs.Directory.{Directory, entries}
 use Rattle.dos_format.specs.Dos.{dos_entry, dos_directory, DescribesDos, CanNameDos}
 use Rattle.dos_format.specs.lemmas.DosBytes.{link_to-place}
 use Rattle.dos_format.specs.lemmas.DosDirectory.{length-numbered}
-use Rattle.entry_laws.specs.Inserted.{inserted}
+use Rattle.edit_laws.specs.Inserted.{inserted}
 use Rattle.dos_entries.specs.Slots.{IsFreeSlot, number_of_slot, new_listed, entry_written}
 use Rattle.dos_entries.proofs.OneMore.{number_within, more_described}
 use Rattle.dos_entries.proofs.SlotWrites.{fills, says_of, below_last}

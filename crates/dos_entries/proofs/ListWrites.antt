@@ -7,7 +7,7 @@ use Rattle.vol_parts.specs.declared.part.Part.{Part}
 use Rattle.dos_catalog.specs.Writes.{with_place}
 use Rattle.dos_tslist.specs.Pointers.{pair_offset, link_offset}
 use Rattle.dos_format.specs.lemmas.DosBytes.{byte-with_place_other, track-with_place, sector-with_place}
-use Rattle.entry_laws.specs.Built.{Planned, part_of, place_of}
+use Rattle.edit_laws.specs.Built.{Planned, part_of, place_of}
 use Rattle.dos_entries.specs.Plan.{NamesAt, HasPairs, HasLink, HaveSameParts}
 
 module _ (count : ℕ) (planned : List Planned) (n : ℕ) where

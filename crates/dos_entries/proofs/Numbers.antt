@@ -9,7 +9,7 @@ use Rattle.dos_tslist.specs.Reach.{entry_pointer}
 use Rattle.vol_format.specs.declared.link.Link.{Link}
 use Rattle.vol_format.specs.declared.link.Link.TheVariants.{Wild, To}
 use Rattle.dos_format.specs.Dos.{link_to, dos_entry, numbered}
-use Rattle.entry_laws.specs.Inserted.{insert_at, shifted, shifted_link, shifted_entry}
+use Rattle.edit_laws.specs.Inserted.{insert_at, shifted, shifted_link, shifted_entry}
 
 pub numbered_set : (all : List Entry) (from k : ℕ) (entry : Entry) → numbered from (slice_set all k entry) ≡ slice_set (numbered from all) k (dos_entry (from + k) entry)
 numbered_set [] from k entry = refl

@@ -20,7 +20,7 @@ use Rattle.dos_format.specs.lemmas.DosDirectory.{entry_of-dos, no_list}
 use Rattle.dos_format.specs.lemmas.DosEntries.{each_in_use, on_track, entries_apart}
 use Rattle.dos_format.specs.lemmas.DosRoots.{IsStored, each_stored}
 use Rattle.dos_format.specs.lemmas.DosTurned.{with_entry, entries_turned, one_turned}
-use Rattle.entry_laws.specs.Inserted.{rewritten}
+use Rattle.edit_laws.specs.Inserted.{rewritten}
 use Rattle.dos_entries.proofs.Numbers.{numbered_set}
 use Rattle.dos_entries.proofs.Windows.{IsSameOutside, other_slot}
 

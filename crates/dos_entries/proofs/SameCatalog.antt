@@ -16,7 +16,7 @@ use Rattle.write_laws.specs.Marked.{with_marks}
 use Rattle.write_laws.specs.declared.mark.Mark.{Mark}
 use Rattle.dos_entries.specs.SameCatalog.{HasSameCatalog}
 use Rattle.dos_entries.specs.Slots.{IsFreeSlot, number_of_slot}
-use Rattle.entry_laws.specs.Inserted.{index_in_all}
+use Rattle.edit_laws.specs.Inserted.{index_in_all}
 
 -- a unit written outside the system
 pub outside_leaves : (data_disk : Bool) (reserved : List Bool) (store : List (List ℕ)) (directory : Directory) (place : ℕ) (unit : List ℕ)

@@ -3,7 +3,7 @@ use Rattle.std.specs.Prelude.{◌≡◌, ◌≢◌, ◌⊎◌, ◌<◌, ◌≤�
 use Rattle.vol_parts.specs.declared.part.PartKind.TheVariants.{List as AList, Body}
 use Rattle.dos_tslist.specs.Pointers.{pair_offset, link_offset}
 use Rattle.dos_format.specs.Dos.{CanNameDos}
-use Rattle.entry_laws.specs.Built.{Planned, part_of, place_of, unit_of}
+use Rattle.edit_laws.specs.Built.{Planned, part_of, place_of, unit_of}
 
 -- a track and a sector stand at a byte of a unit
 abbrev pub NamesAt : List ℕ → ℕ → ℕ → Type 0

@@ -8,7 +8,7 @@ use Rattle.dos_catalog.specs.Entry.{entry_at, is_in_use, entries_of}
 use Rattle.dos_catalog.specs.Writes.{slot_offset, with_bytes, entry_bytes}
 use Rattle.vol_format.specs.declared.link.Link.TheVariants.{To}
 use Rattle.vol_format.specs.Directory.{Listed}
-use Rattle.entry_laws.specs.Inserted.{index_in_all}
+use Rattle.edit_laws.specs.Inserted.{index_in_all}
 
 -- a slot of a catalog sector, which has an entry in use, or none
 pub record IsUsedSlot (store : List (List ℕ)) (sectors : List ℕ) (place slot : ℕ) : Type 0 where

@@ -6,8 +6,8 @@ ghost use Rattle.dos_catalog.specs.Catalog.{IsCatalog};
 ghost use Rattle.dos_catalog.specs.Entry.{free_slots_in};
 ghost use Rattle.vol_format.specs.Directory.{Directory, entries, is_system};
 ghost use Rattle.dos_format.specs.Dos.{DescribesDos, CanNameDos};
-ghost use Rattle.entry_laws.specs.Entered.{HasSameRest};
-ghost use Rattle.entry_laws.specs.Inserted.{inserted};
+ghost use Rattle.edit_laws.specs.Entered.{HasSameRest};
+ghost use Rattle.edit_laws.specs.Inserted.{inserted};
 ghost use Rattle.dos_entries.specs.Slots.{IsFreeSlot, number_of_slot, new_listed, entry_written};
 
 /// A law: what `encode` of `dos_catalog` writes into a free slot of the catalog is one entry more, with the number that the slot has among the entries in

@@ -12,7 +12,7 @@
 //!   and each pair or link that is written brings the unit of a list nearer to that (`specs/Plan.antt`, `planning`).
 //!
 //! With each goes that the slot stands in a sector of the system, so that the units of the files are as they were. These are the premises of the laws of
-//! `entry_laws`, of which one more asks that a unit means the same in a file of any number (`formats`).
+//! `edit_laws`, of which one more asks that a unit means the same in a file of any number (`formats`).
 #![tactic(auto)]
 
 mod elsewhere;

@@ -5,7 +5,7 @@ ghost use Rattle.dos_catalog.specs.declared.slot.NewEntry.{NewEntry};
 ghost use Rattle.dos_catalog.specs.Writes.{with_place};
 ghost use Rattle.dos_tslist.specs.Pointers.{pair_offset, link_offset};
 ghost use Rattle.dos_format.specs.Dos.{dos_meaning};
-ghost use Rattle.entry_laws.specs.Built.{Planned, IsBuilt, part_of, place_of};
+ghost use Rattle.edit_laws.specs.Built.{Planned, IsBuilt, part_of, place_of};
 ghost use Rattle.dos_entries.specs.Plan.{IsDosPlan, HasPairs, HasLink, HaveSameParts};
 ghost use Rattle.dos_entries.specs.Slots.{new_listed};
 

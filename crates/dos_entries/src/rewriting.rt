@@ -2,8 +2,8 @@
 ghost use Rattle.std.specs.Prelude.{◌≡◌, ◌<◌, ◌≤◌, ℕ, Bool, true, List, length, slice_set};
 ghost use Rattle.vol_format.specs.Directory.{Directory, entries, entry_of, is_system};
 ghost use Rattle.dos_format.specs.Dos.{DescribesDos};
-ghost use Rattle.entry_laws.specs.Entered.{HasSameRest};
-ghost use Rattle.entry_laws.specs.Inserted.{rewritten};
+ghost use Rattle.edit_laws.specs.Entered.{HasSameRest};
+ghost use Rattle.edit_laws.specs.Inserted.{rewritten};
 ghost use Rattle.dos_entries.specs.Rewriting.{with_kind, with_name, place_of_entry, slot_of_entry, sector_of_entry, kind_written, name_written};
 
 /// A law: what `set_kind` and `set_name` of `dos_catalog` write into the slot of an entry rewrites this entry alone. The slot is one of the seven of

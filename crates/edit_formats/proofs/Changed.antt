@@ -7,7 +7,7 @@ use Rattle.vol_files.specs.Files.{File}
 use Rattle.edit_writes.specs.declared.error.EditError.{EditError}
 use Rattle.edit_writes.specs.declared.error.EditError.TheVariants.{Device}
 use Rattle.edit_formats.specs.Edited.{HasChanged, IsOldOrChanged}
-use Rattle.delete_laws.specs.Writes.{Write}
+use Rattle.edit_laws.specs.Writes.{Write}
 use Rattle.edit_writes.specs.Writes.{HasEdited, StopsIn, RefusesWrite, device_after, no_write}
 
 -- a read that failed leaves the store, and a write that was refused leaves the old unit or the new one

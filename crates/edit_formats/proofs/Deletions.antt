@@ -12,8 +12,8 @@ use Rattle.vol_format.specs.Meaning.{Meaning}
 use Rattle.vol_format.specs.Reach.{IsPartsOf}
 use Rattle.vol_check.specs.Told.{Told, IsToldOf}
 use Rattle.vol_files.proofs.Lists.{in_filter, out_of_filter, in_map, out_of_map}
-use Rattle.entry_laws.proofs.EntryNumbers.{parts_of_number}
-use Rattle.delete_laws.specs.Deletion.{IsDeletion}
+use Rattle.edit_laws.proofs.EntryNumbers.{parts_of_number}
+use Rattle.edit_laws.specs.Deletion.{IsDeletion}
 use Rattle.edit_writes.specs.declared.writes.Prepared.{Prepared}
 use Rattle.edit_writes.specs.Prepared.{write_of}
 use Rattle.file_formats.specs.Files.{FileMeaning}

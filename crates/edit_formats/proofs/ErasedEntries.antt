@@ -12,7 +12,7 @@ use Rattle.vol_format.specs.Directory.{Listed, entries}
 use Rattle.dos_format.specs.Dos.{dos_directory}
 use Rattle.pro_format.specs.Pro.{no_slot}
 use Rattle.pro_entries.proofs.EntrySlots.{each_slot_of}
-use Rattle.delete_laws.specs.Writes.{Write}
+use Rattle.edit_laws.specs.Writes.{Write}
 use Rattle.file_formats.proofs.DosEntries.{entry_read}
 use Rattle.vol_parts.specs.declared.fault.Fault.{Fault}
 use Rattle.vol_parts.specs.declared.fault.WalkError.{WalkError}

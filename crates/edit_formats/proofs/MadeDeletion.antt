@@ -5,12 +5,12 @@ use Rattle.std.proofs.lemmas.List.{take_more}
 use Rattle.a2_device.specs.Device.{DeviceState, OnlyReads, written}
 use Rattle.vol_format.specs.Laws.{IsReadable, IsMovable, IsWritable}
 use Rattle.vol_format.specs.Meaning.{Meaning}
-use Rattle.entry_laws.specs.EditLaws.{IsFileFree}
-use Rattle.delete_laws.specs.Deleted.{HasEntryErased, HasFileDeleted}
-use Rattle.delete_laws.specs.Lists.{IsFirst}
-use Rattle.delete_laws.specs.Writes.{Write, store_after}
-use Rattle.delete_laws.proofs.Fronts.{after_both}
-use Rattle.delete_laws.proofs.WholeDeletion as whole
+use Rattle.edit_laws.specs.EditLaws.{IsFileFree}
+use Rattle.edit_laws.specs.Deleted.{HasEntryErased, HasFileDeleted}
+use Rattle.edit_laws.specs.Lists.{IsFirst}
+use Rattle.edit_laws.specs.Writes.{Write, store_after}
+use Rattle.edit_laws.proofs.Fronts.{after_both}
+use Rattle.edit_laws.proofs.WholeDeletion as whole
 use Rattle.file_formats.specs.Files.{FileMeaning}
 use Rattle.edit_writes.specs.declared.error.EditError.{EditError}
 use Rattle.edit_writes.specs.declared.error.EditError.TheVariants.{Device}

@@ -6,9 +6,9 @@ use Rattle.a2_device.specs.Device.{DeviceState}
 use Rattle.vol_format.specs.Directory.{Directory, map_place}
 use Rattle.vol_format.specs.Laws.{IsReadable}
 use Rattle.vol_format.specs.Meaning.{Meaning}
-use Rattle.delete_laws.specs.Deletion.{IsOwnPlace, IsDeletion}
-use Rattle.delete_laws.specs.Markings.{Marking}
-use Rattle.delete_laws.specs.Writes.{Write}
+use Rattle.edit_laws.specs.Deletion.{IsOwnPlace, IsDeletion}
+use Rattle.edit_laws.specs.Markings.{Marking}
+use Rattle.edit_laws.specs.Writes.{Write}
 use Rattle.edit_writes.specs.declared.writes.Prepared.{Prepared}
 use Rattle.edit_writes.specs.Prepared.{write_of}
 use Rattle.edit_formats.specs.Deleted.{HasPlacesOf}

@@ -4,10 +4,10 @@ use Rattle.vol_parts.specs.declared.part.Part.{Part}
 use Rattle.vol_format.specs.Accepted.{IsAccepted}
 use Rattle.vol_format.specs.Directory.{Directory, entry_of, root_of}
 use Rattle.vol_format.specs.Meaning.{Meaning}
-use Rattle.entry_laws.specs.Entered.{IsTaken}
-use Rattle.delete_laws.specs.Deleted.{HasEntryErased}
-use Rattle.delete_laws.specs.Deletion.{IsDeletion}
-use Rattle.delete_laws.specs.Writes.{Write}
+use Rattle.edit_laws.specs.Entered.{IsTaken}
+use Rattle.edit_laws.specs.Deleted.{HasEntryErased}
+use Rattle.edit_laws.specs.Deletion.{IsDeletion}
+use Rattle.edit_laws.specs.Writes.{Write}
 use Rattle.file_formats.specs.Files.{FileMeaning, IsFirstNamed}
 use Rattle.edit_writes.specs.declared.error.EditError.{EditError}
 use Rattle.edit_writes.specs.declared.error.EditError.TheVariants.{Check, NotFound, Locked, Device, Memory}

@@ -7,8 +7,8 @@ use Rattle.vol_format.specs.Directory.{Directory, entry_of}
 use Rattle.vol_format.specs.Meaning.{Meaning}
 use Rattle.file_formats.specs.Files.{FileMeaning, IsFirstNamed, NamesNone}
 use Rattle.edit_formats.specs.Edits.{EditMeaning}
-use Rattle.delete_laws.specs.Deleted.{IsLostOn}
-use Rattle.delete_laws.specs.Writes.{Write}
+use Rattle.edit_laws.specs.Deleted.{IsLostOn}
+use Rattle.edit_laws.specs.Writes.{Write}
 
 -- The one write that locks or unlocks the first file that a path names, of an accepted volume: into the entry of that file.
 pub record IsLockEdit (format : Meaning) (files : FileMeaning) (edits : EditMeaning) (store : List (List ℕ)) (path : List ℕ) (on : Bool) (writes : List Write) : Type 0 where

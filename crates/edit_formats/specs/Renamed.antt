@@ -12,7 +12,7 @@ use Rattle.edit_writes.specs.declared.error.EditError.{EditError}
 use Rattle.edit_writes.specs.declared.error.EditError.TheVariants.{Check, NotFound, Name, Exists, Locked, Device, Memory}
 use Rattle.edit_formats.specs.Lists.{with_first}
 use Rattle.edit_formats.specs.Names.{NameMeaning}
-use Rattle.delete_laws.specs.Writes.{Write}
+use Rattle.edit_laws.specs.Writes.{Write}
 
 -- the list with a new name of the first file that the path names: in its path and in the bytes of its entry
 abbrev pub with_new_name : FileMeaning → NameMeaning → List ℕ → List ℕ → List File → List File

@@ -10,7 +10,7 @@ pub trait EditableFormat: WritableFormat + FileFormat {
     ghost use Rattle.std.specs.Prelude.{◌≡◌, ◌≢◌, ◌<◌, true, length, map, All, Err, IfErr, IfOk, IsTrue};
     ghost use Rattle.a2_device.specs.Device.{OnlyReads};
     ghost use Rattle.vol_format.specs.Directory.{entries, entry_of};
-    ghost use Rattle.entry_laws.specs.EditLaws.{IsFileFree};
+    ghost use Rattle.edit_laws.specs.EditLaws.{IsFileFree};
     ghost use Rattle.edit_writes.specs.declared.writes.Prepared.{Prepared};
     ghost use Rattle.edit_formats.specs.Edits.{EditMeaning, IsLockable};
     ghost use Rattle.edit_formats.specs.Erasing.{EraseMeaning, IsErasable};

@@ -5,7 +5,7 @@ use Rattle.a2_device.specs.Device.{DeviceState, IsSameDevice, OnlyReads, counted
 use Rattle.edit_writes.specs.declared.error.EditError.{EditError}
 use Rattle.edit_writes.specs.declared.error.EditError.TheVariants.{Device}
 use Rattle.edit_writes.specs.Refusal.{told_device}
-use Rattle.delete_laws.specs.Writes.{Write}
+use Rattle.edit_laws.specs.Writes.{Write}
 use Rattle.edit_writes.specs.Writes.{HasEdited, StopsIn, RefusesWrite, device_after}
 
 module _ {T : Type 0} (result : Result T EditError) (old new : DeviceState) where

@@ -9,7 +9,7 @@ use Rattle.a2_device.specs.Device.{DeviceState}
 use Rattle.vol_format.specs.Directory.{Directory, map_place}
 use Rattle.vol_format.specs.Laws.{IsDirectory}
 use Rattle.vol_format.specs.Meaning.{Meaning}
-use Rattle.delete_laws.specs.Markings.{marking_write}
+use Rattle.edit_laws.specs.Markings.{marking_write}
 use Rattle.edit_writes.specs.declared.writes.Prepared.{Prepared}
 use Rattle.edit_writes.specs.Prepared.{write_of}
 use Rattle.edit_writes.specs.Markings.{nearest, marked_in, HasMarkOf, IsMarking}

@@ -8,8 +8,8 @@ use Rattle.a2_device.specs.Device.{DeviceState}
 use Rattle.vol_format.specs.Directory.{Directory, map_place}
 use Rattle.vol_format.specs.Meaning.{Meaning}
 use Rattle.vol_format.proofs.Filters.{in_filter}
-use Rattle.delete_laws.specs.Markings.{Marking, no_marking, marking_of, marking_write}
-use Rattle.delete_laws.specs.Writes.{Write}
+use Rattle.edit_laws.specs.Markings.{Marking, no_marking, marking_of, marking_write}
+use Rattle.edit_laws.specs.Writes.{Write}
 use Rattle.edit_writes.specs.declared.writes.Prepared.{Prepared}
 use Rattle.edit_writes.specs.Prepared.{write_of}
 use Rattle.edit_writes.specs.Markings.{marked_in, IsMarking, AreMarked}

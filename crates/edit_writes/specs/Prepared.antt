@@ -1,5 +1,5 @@
 -- A write as it is kept until it is made.
-use Rattle.delete_laws.specs.Writes.{Write}
+use Rattle.edit_laws.specs.Writes.{Write}
 use Rattle.edit_writes.specs.declared.writes.Prepared.{Prepared}
 
 abbrev pub write_of : {A : Type 0} → Prepared A → Write

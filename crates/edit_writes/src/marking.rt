@@ -4,7 +4,7 @@ ghost use Rattle.a2_device.specs.Device.{OnlyReads};
 ghost use Rattle.a2_device.specs.Device.{unit_at};
 ghost use Rattle.vol_format.specs.Directory.{map_place};
 ghost use Rattle.write_laws.specs.Marked.{with_marks};
-ghost use Rattle.delete_laws.specs.Markings.{mark_as, marking_write};
+ghost use Rattle.edit_laws.specs.Markings.{mark_as, marking_write};
 ghost use Rattle.edit_writes.specs.declared.writes.Prepared.{Prepared};
 ghost use Rattle.edit_writes.specs.Prepared.{write_of};
 ghost use Rattle.edit_writes.specs.Refusal.{told_device, IsPrepareRefusal};

@@ -1,7 +1,7 @@
 // A list of writes that is made whole before the first of them, and its writing.
 ghost use Rattle.std.specs.Prelude.{◌≡◌, ◌<◌, List, [], ◌∷◌, ◌++◌, length, map, All, IfErr, IfOk};
 ghost use Rattle.edit_writes.specs.declared.writes.Prepared.{Prepared};
-ghost use Rattle.delete_laws.specs.Writes.{Write};
+ghost use Rattle.edit_laws.specs.Writes.{Write};
 ghost use Rattle.edit_writes.specs.Prepared.{write_of};
 ghost use Rattle.edit_writes.specs.Writes.{HasEdited};
 

@@ -11,7 +11,7 @@ use Rattle.file_formats.specs.Files.{FileMeaning, IsFirstNamed}
 use Rattle.edit_formats.specs.Edits.{EditMeaning, IsLockable, lock_written}
 use Rattle.edit_formats.specs.Edited.{IsLockEdit, HasChanged}
 use Rattle.edit_formats.specs.Lists.{with_lock_on}
-use Rattle.delete_laws.specs.Writes.{Write}
+use Rattle.edit_laws.specs.Writes.{Write}
 use Rattle.edit_formats.proofs.Changed.{IsOneChange}
 use Rattle.file_edits.proofs.RewrittenFile.{first_is_file, first_inside, rewrite_changes}
 

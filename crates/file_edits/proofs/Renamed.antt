@@ -11,7 +11,7 @@ use Rattle.file_formats.specs.Files.{FileMeaning, IsFirstNamed}
 use Rattle.edit_formats.specs.Edited.{HasChanged}
 use Rattle.edit_formats.specs.Names.{NameMeaning, IsNamable, name_written}
 use Rattle.edit_formats.specs.Renamed.{IsRenameEdit, with_new_name}
-use Rattle.delete_laws.specs.Writes.{Write}
+use Rattle.edit_laws.specs.Writes.{Write}
 use Rattle.edit_formats.proofs.Changed.{IsOneChange}
 use Rattle.file_edits.proofs.RewrittenFile.{first_is_file, first_inside, rewrite_changes}
 

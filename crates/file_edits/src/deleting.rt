@@ -6,7 +6,7 @@ ghost use Rattle.vol_format.specs.Accepted.{IsAccepted, IsVolume};
 ghost use Rattle.vol_format.specs.Directory.{entries, entry_of, is_directory};
 ghost use Rattle.vol_format.specs.Reach.{IsPartsOf};
 ghost use Rattle.edit_writes.specs.declared.writes.Prepared.{Prepared};
-ghost use Rattle.delete_laws.specs.Deletion.{IsDeletion};
+ghost use Rattle.edit_laws.specs.Deletion.{IsDeletion};
 ghost use Rattle.edit_formats.specs.Deleted.{IsDeleteEdit, IsDeleteRefusal, IsOldOrErased, HasFirstProtected, HasFirstUnprotected, IsDeleteTold, places_of_file};
 ghost use Rattle.edit_formats.specs.Edited.{HasChanged, HasNoSuchFile};
 ghost use Rattle.edit_formats.specs.Lists.{without_named};

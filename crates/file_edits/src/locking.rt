@@ -6,7 +6,7 @@ ghost use Rattle.a2_device.specs.Device.{unit_at};
 ghost use Rattle.edit_formats.specs.Edited.{IsLockEdit, HasNoSuchFile, HasChanged, IsOldOrChanged};
 ghost use Rattle.edit_formats.specs.Lists.{with_lock_on};
 ghost use Rattle.edit_writes.specs.Refusal.{IsLockRefusal};
-ghost use Rattle.delete_laws.specs.Writes.{Write};
+ghost use Rattle.edit_laws.specs.Writes.{Write};
 ghost use Rattle.edit_writes.specs.Writes.{HasEdited};
 
 use a2_device::Device;

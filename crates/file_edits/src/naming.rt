@@ -6,7 +6,7 @@ ghost use Rattle.a2_device.specs.Device.{OnlyReads, unit_at};
 ghost use Rattle.edit_formats.specs.Edited.{HasNoSuchFile, HasChanged, IsOldOrChanged};
 ghost use Rattle.edit_writes.specs.Refusal.{told_device};
 ghost use Rattle.edit_formats.specs.Renamed.{IsRenameEdit, IsRenamable, HasFirst, HasFirstBeside, HasFirstLocked, IsWeighed, IsRenameTold, IsRenameRefusal, IsEntryRefusal, with_new_name};
-ghost use Rattle.delete_laws.specs.Writes.{Write};
+ghost use Rattle.edit_laws.specs.Writes.{Write};
 ghost use Rattle.edit_writes.specs.Writes.{HasEdited};
 
 use a2_device::Device;

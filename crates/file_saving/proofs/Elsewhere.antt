@@ -7,9 +7,9 @@ use Rattle.a2_device.specs.Device.{unit_at}
 use Rattle.vol_format.specs.Directory.{Directory, is_system, map_place}
 use Rattle.vol_format.specs.Meaning.{Meaning}
 use Rattle.write_laws.specs.Marked.{with_marks}
-use Rattle.delete_laws.specs.Markings.{Marking, marking_of, mark_as, marking_write}
-use Rattle.delete_laws.specs.Writes.{Write, store_after}
-use Rattle.delete_laws.proofs.Fronts.{unit_after}
+use Rattle.edit_laws.specs.Markings.{Marking, marking_of, mark_as, marking_write}
+use Rattle.edit_laws.specs.Writes.{Write, store_after}
+use Rattle.edit_laws.proofs.Fronts.{unit_after}
 use Rattle.save_formats.specs.Saves.{IsElsewhere}
 
 pub same_length : (writes : List Write) (store : List (List ℕ)) → length (store_after writes store) ≡ length store

@@ -6,14 +6,14 @@ use Rattle.std.proofs.lemmas.List.{take_all, take_more}
 use Rattle.a2_device.specs.Device.{DeviceState, OnlyReads}
 use Rattle.vol_format.specs.Laws.{IsReadable, IsMovable, IsWritable}
 use Rattle.vol_format.specs.Meaning.{Meaning}
-use Rattle.entry_laws.specs.Built.{IsBodyOf}
-use Rattle.entry_laws.specs.EditLaws.{IsFileFree}
-use Rattle.delete_laws.specs.Writes.{Write, store_after}
-use Rattle.delete_laws.proofs.Fronts.{after_both}
-use Rattle.save_laws.specs.Saved.{HasNothingSaved}
-use Rattle.save_laws.proofs.WholeSaving as whole
-use Rattle.file_plans.specs.Placed.{stored_units}
-use Rattle.file_plans.proofs.Bodies.{body_placed}
+use Rattle.edit_laws.specs.Built.{IsBodyOf}
+use Rattle.edit_laws.specs.EditLaws.{IsFileFree}
+use Rattle.edit_laws.specs.Writes.{Write, store_after}
+use Rattle.edit_laws.proofs.Fronts.{after_both}
+use Rattle.edit_laws.specs.Saved.{HasNothingSaved}
+use Rattle.edit_laws.proofs.WholeSaving as whole
+use Rattle.new_files.specs.Placed.{stored_units}
+use Rattle.new_files.proofs.Bodies.{body_placed}
 use Rattle.edit_writes.specs.declared.error.EditError.{EditError}
 use Rattle.edit_writes.specs.declared.error.EditError.TheVariants.{Device}
 use Rattle.edit_formats.specs.Erasing.{HasWholeUnits}

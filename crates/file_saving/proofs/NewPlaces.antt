@@ -7,9 +7,9 @@ use Rattle.std.proofs.lemmas.List.Kept.{AllPairs-filter}
 use Rattle.vol_format.specs.Directory.{Directory, is_free}
 use Rattle.vol_format.specs.Laws.{IsDirectory}
 use Rattle.vol_format.specs.Meaning.{Meaning}
-use Rattle.save_laws.specs.Saving.{IsNewPlace}
+use Rattle.edit_laws.specs.Saving.{IsNewPlace}
 use Rattle.new_files.specs.declared.part.NewPart.{NewPart}
-use Rattle.file_plans.specs.Placed.{HavePlaces}
+use Rattle.new_files.specs.Placed.{HavePlaces}
 use Rattle.file_saving.specs.Places.{first_places, free_places}
 
 module _ (directory : Directory) (count : ℕ) where

@@ -4,16 +4,16 @@ use Rattle.std.proofs.Common.{refl, sym, ◌∙◌, ap, subst, arith}
 use Rattle.std.proofs.lemmas.List.{ext_get_or, get_or-map, get_or_default, length-map}
 use Rattle.std.proofs.lemmas.List.FromFn.{get_or-map-range_with_len}
 use Rattle.vol_parts.specs.declared.part.PartKind.TheVariants.{Body}
-use Rattle.entry_laws.specs.Built.{Planned, no_plan, plan_of, place_of, unit_of}
-use Rattle.delete_laws.specs.Writes.{Write}
-use Rattle.save_laws.specs.Saving.{unit_write, places_of}
+use Rattle.edit_laws.specs.Built.{Planned, no_plan, plan_of, place_of, unit_of}
+use Rattle.edit_laws.specs.Writes.{Write}
+use Rattle.edit_laws.specs.Saving.{unit_write, places_of}
 use Rattle.new_files.specs.declared.part.NewPart.{NewPart}
 use Rattle.new_files.specs.Order.{HasStored, part_at}
 use Rattle.new_files.specs.Parts.{new_part}
 use Rattle.new_files.proofs.Membership.{inside_file}
-use Rattle.file_plans.specs.Placed.{HasPlaced, HasBodyUnits, plan_with}
-use Rattle.file_plans.proofs.Bodies.{plan_placed, plan_unit}
-use Rattle.file_plans.proofs.Parts.{part_is, plan_place}
+use Rattle.new_files.specs.Placed.{HasPlaced, HasBodyUnits, plan_with}
+use Rattle.new_files.proofs.Bodies.{plan_placed, plan_unit}
+use Rattle.new_files.proofs.Parts.{part_is, plan_place}
 use Rattle.edit_writes.specs.Writes.{no_write}
 use Rattle.save_formats.specs.Saves.{SaveMeaning, HasTables}
 use Rattle.file_saving.specs.Given.{given_unit, given_units}

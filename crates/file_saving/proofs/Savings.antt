@@ -11,17 +11,17 @@ use Rattle.vol_format.specs.Laws.{IsDirectory, IsReadable, IsMovable, IsWritable
 use Rattle.vol_format.specs.Meaning.{Meaning}
 use Rattle.write_laws.specs.Kept.{IsKept}
 use Rattle.write_laws.specs.Marked.{marked}
-use Rattle.entry_laws.specs.Built.{Planned, place_of}
-use Rattle.entry_laws.specs.Entered.{HasSameRest}
-use Rattle.entry_laws.specs.Inserted.{inserted}
-use Rattle.delete_laws.specs.Markings.{Marking, marking_of, marking_write, all_marks}
-use Rattle.delete_laws.specs.Writes.{Write, store_after}
-use Rattle.save_laws.specs.Saving.{IsNewPlace, IsPlacing, IsPlannedPlace, IsSaving, unit_write, with_places}
-use Rattle.save_laws.proofs.Marks.{marked_listed, marked_system}
-use Rattle.save_laws.proofs.Unsaved.{all_stands}
+use Rattle.edit_laws.specs.Built.{Planned, place_of}
+use Rattle.edit_laws.specs.Entered.{HasSameRest}
+use Rattle.edit_laws.specs.Inserted.{inserted}
+use Rattle.edit_laws.specs.Markings.{Marking, marking_of, marking_write, all_marks}
+use Rattle.edit_laws.specs.Writes.{Write, store_after}
+use Rattle.edit_laws.specs.Saving.{IsNewPlace, IsPlacing, IsPlannedPlace, IsSaving, unit_write, with_places}
+use Rattle.edit_laws.proofs.SavedMarks.{marked_listed, marked_system}
+use Rattle.edit_laws.proofs.Unsaved.{all_stands}
 use Rattle.new_files.specs.declared.part.NewPart.{NewPart}
-use Rattle.file_plans.specs.Placed.{HavePlaces, HasPlaced}
-use Rattle.file_plans.proofs.Parts.{plan_place}
+use Rattle.new_files.specs.Placed.{HavePlaces, HasPlaced}
+use Rattle.new_files.proofs.Parts.{plan_place}
 use Rattle.edit_writes.specs.declared.writes.Prepared.{Prepared}
 use Rattle.edit_formats.specs.Erasing.{HasWholeUnits}
 use Rattle.edit_writes.specs.Markings.{marked_in, AreMarked}

@@ -3,7 +3,7 @@ use Rattle.std.specs.Prelude.{◌≡◌, ◌≢◌, ◌<◌, ℕ, Bool, List, le
 use Rattle.vol_parts.specs.declared.part.PartKind.TheVariants.{Body}
 use Rattle.new_files.specs.declared.part.NewPart.{NewPart}
 use Rattle.new_files.specs.Order.{part_at}
-use Rattle.delete_laws.specs.Writes.{Write}
+use Rattle.edit_laws.specs.Writes.{Write}
 use Rattle.edit_writes.specs.Writes.{no_write}
 use Rattle.save_formats.specs.Saves.{SaveMeaning}
 use Rattle.file_saving.specs.Given.{given_unit}

@@ -4,11 +4,11 @@ use Rattle.vol_format.specs.Accepted.{IsAccepted}
 use Rattle.vol_format.specs.Directory.{Directory, Listed}
 use Rattle.vol_format.specs.Meaning.{Meaning}
 use Rattle.vol_files.specs.Files.{File}
-use Rattle.entry_laws.specs.Built.{Planned}
-use Rattle.delete_laws.specs.Writes.{Write}
-use Rattle.save_laws.specs.Saved.{HasFileSaved, HasNothingSaved}
-use Rattle.save_laws.specs.Saving.{IsSaving}
-use Rattle.file_plans.specs.Placed.{HasPlaced, HasBodyUnits, stored_units}
+use Rattle.edit_laws.specs.Built.{Planned}
+use Rattle.edit_laws.specs.Writes.{Write}
+use Rattle.edit_laws.specs.Saved.{HasFileSaved, HasNothingSaved}
+use Rattle.edit_laws.specs.Saving.{IsSaving}
+use Rattle.new_files.specs.Placed.{HasPlaced, HasBodyUnits, stored_units}
 use Rattle.edit_writes.specs.declared.error.EditError.{EditError}
 use Rattle.edit_writes.specs.declared.error.EditError.TheVariants.{Check, NotFound, Name, Exists, TooLong, DirFull, VolumeFull, Device, Memory}
 use Rattle.save_formats.specs.declared.target.Attributes.{Attributes}

@@ -1,14 +1,8 @@
 // What the words say of a new file.
-ghost use Rattle.std.specs.Prelude.{◌≡◌, ◌↔◌, None, IfSome, option_map};
-ghost use Rattle.given_file.specs.Words.{dos_head, dos_kind, hex_byte, hex_value, letter_kind, pro_kind, IsDateOf, NamesDate};
+ghost use Rattle.std.specs.Prelude.{◌≡◌, option_map};
+ghost use Rattle.given_file.specs.Words.{dos_head, dos_kind, hex_byte, hex_value, letter_kind, pro_kind};
 
 use crate::Head;
-use jiff::civil::DateTime;
-use pro_dates::from_civil;
-use pro_dir::ProDate;
-
-/// The bytes of no date.
-const NO_DATE: ProDate = ProDate([0; 4]);
 
 // The type that a letter names.
 fn letter_kind(letter: &str) -> Option<u8>
@@ -75,17 +69,5 @@ pub fn dos_head(kind: u8) -> Head
         0x01 | 0x02 => Head::Length,
         0x04 => Head::AddressAndLength,
         _ => Head::None,
-    }
-}
-
-/// The date of a file's creation: that of a civil date and time of 1940 to 2039, without its seconds; no date (four bytes 0) if none is said. `None` where the word is no
-/// such date and time.
-pub fn date(word: Option<&str>) -> Option<ProDate>
-    ensures said { IfSome result (IsDateOf (option_map (λ s. s.now) word.entry)) }
-    ensures none { (result ≡ None) ↔ (¬ NamesDate (option_map (λ s. s.now) word.entry)) }
-{
-    match word {
-        Some(text) => from_civil(text.parse::<DateTime>().ok()?),
-        None => Some(NO_DATE),
     }
 }

@@ -3,3 +3,9 @@ mod Pushed
 pub mod Membership
 pub mod DosOrder
 pub mod ProOrder
+pub mod Parts
+mod ListWrites
+mod TableWrites
+pub mod DosBuilt
+pub mod ProPlanned
+pub mod Bodies

@@ -1,3 +1,4 @@
 mod Small
 mod DatesDecided
 mod NoMinutes
+mod SaidDates

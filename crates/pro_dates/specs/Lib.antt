@@ -1,3 +1,4 @@
 pub mod Dates
 pub mod Moments
 pub mod ShownDates
+pub mod SaidDates

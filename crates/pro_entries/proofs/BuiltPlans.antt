@@ -11,8 +11,8 @@ use Rattle.pro_tree.specs.Pointers.{pointer_of}
 use Rattle.pro_tree.specs.Reach.{pro_link, pro_root, pro_child, pro_pointers, link_below}
 use Rattle.vol_format.specs.declared.link.Link.{Link}
 use Rattle.vol_format.specs.declared.link.Link.TheVariants.{Null, Wild, To}
-use Rattle.entry_laws.specs.Built.{Planned, part_of, place_of, unit_of, built_link, IsBuilt}
-use Rattle.entry_laws.specs.Inserted.{in_file}
+use Rattle.edit_laws.specs.Built.{Planned, part_of, place_of, unit_of, built_link, IsBuilt}
+use Rattle.edit_laws.specs.Inserted.{in_file}
 use Rattle.pro_entries.specs.Plan.{seedling_plan, IsTable, IsProPlan, IsStorageOf}
 
 part_eta : (part : Part) (file : ℕ) (kind : PartKind) (number : ℕ) → part.file ≡ file → part.kind ≡ kind → part.number ≡ number

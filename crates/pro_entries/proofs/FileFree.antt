@@ -8,8 +8,8 @@ use Rattle.pro_tree.specs.Pointers.{pointer_of}
 use Rattle.pro_tree.specs.Reach.{pro_link, pro_root, link_below, pro_child}
 use Rattle.vol_format.specs.declared.link.Link.{Link}
 use Rattle.vol_format.specs.declared.link.Link.TheVariants.{Null, Wild, Directory as ToDirectory, OtherType, To}
-use Rattle.entry_laws.specs.EditLaws.{IsFileFree}
-use Rattle.entry_laws.specs.Inserted.{refiled, shifted, shifted_link}
+use Rattle.edit_laws.specs.EditLaws.{IsFileFree}
+use Rattle.edit_laws.specs.Inserted.{refiled, shifted, shifted_link}
 
 link_refiled : (places file other : ℕ) (kind : PartKind) (number block : ℕ) → pro_link places file kind number block ≡ refiled file (pro_link places other kind number block)
 link_refiled places file other kind number block = by_tests (block == 0) (nat_lt block places)

@@ -9,7 +9,7 @@ use Rattle.vol_parts.specs.declared.part.PartKind.TheVariants.{Master, Index, Bo
 use Rattle.pro_tree.specs.Content.{CanNameBlock}
 use Rattle.pro_tree.specs.Pointers.{pointer_of, with_pointer}
 use Rattle.pro_tree.specs.lemmas.PointerLaws.{pointer-here, pointer-other}
-use Rattle.entry_laws.specs.Built.{Planned, part_of, no_plan, unit_of}
+use Rattle.edit_laws.specs.Built.{Planned, part_of, no_plan, unit_of}
 use Rattle.vol_format.specs.Standing.{no_part}
 use Rattle.pro_entries.specs.Plan.{ArePlannedParts, ArePointed, HasPointers, IsBelow, IsProPlan, IsTable, part_at, parts_of}
 

@@ -7,7 +7,7 @@ use Rattle.vol_parts.specs.declared.part.PartKind.TheVariants.{Master, Index, Bo
 use Rattle.vol_format.specs.Standing.{no_part}
 use Rattle.pro_tree.specs.Content.{CanNameBlock}
 use Rattle.pro_tree.specs.Pointers.{pointer_of}
-use Rattle.entry_laws.specs.Built.{Planned, part_of, place_of, unit_of}
+use Rattle.edit_laws.specs.Built.{Planned, part_of, place_of, unit_of}
 
 -- a kind of block with so many pointers, and the kind that they name
 abbrev pub IsTable : PartKind → ℕ → PartKind → Type 0

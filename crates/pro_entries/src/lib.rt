@@ -8,7 +8,7 @@
 //! - a file's entry is written into a free slot of a directory, or is erased; a directory's count of files is written; and
 //!   the slot that a walk over the directories kept is a free one (`entering`, `specs/Slots.antt`).
 //!
-//! What the blocks of a file mean does not depend on the number of its entry (`numbering`). So `entry_laws` tells from these
+//! What the blocks of a file mean does not depend on the number of its entry (`numbering`). So `edit_laws` tells from these
 //! laws what becomes of the files. The blocks of a new file are built after a plan, pointer by pointer (`planning`,
 //! `specs/Plan.antt`).
 //!

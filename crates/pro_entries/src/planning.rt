@@ -8,8 +8,8 @@ ghost use Rattle.pro_tree.specs.Content.{CanNameBlock};
 ghost use Rattle.pro_tree.specs.Pointers.{with_pointer};
 ghost use Rattle.pro_tree.specs.Reach.{pro_root};
 ghost use Rattle.pro_format.specs.Pro.{pro_meaning};
-ghost use Rattle.entry_laws.specs.Built.{Planned, IsBuilt, part_of};
-ghost use Rattle.entry_laws.specs.Inserted.{in_file};
+ghost use Rattle.edit_laws.specs.Built.{Planned, IsBuilt, part_of};
+ghost use Rattle.edit_laws.specs.Inserted.{in_file};
 ghost use Rattle.pro_entries.specs.Plan.{ArePlannedParts, ArePointed, HasPointers, IsBelow, IsProPlan, IsStorageOf, IsTable, part_at, parts_of, seedling_plan};
 
 /// A law: a plan's blocks are a file, where its entry points to the first part: each pointer names a part of the plan or

@@ -5,8 +5,8 @@ ghost use Rattle.pro_dir.specs.Entry.{name_of};
 ghost use Rattle.pro_dir.specs.Writes.{slot_offset};
 ghost use Rattle.vol_format.specs.Directory.{Directory, is_directory, entries, entry_of};
 ghost use Rattle.pro_format.specs.Pro.{DescribesPro};
-ghost use Rattle.entry_laws.specs.Entered.{HasSameRest};
-ghost use Rattle.entry_laws.specs.Inserted.{rewritten};
+ghost use Rattle.edit_laws.specs.Entered.{HasSameRest};
+ghost use Rattle.edit_laws.specs.Inserted.{rewritten};
 ghost use Rattle.pro_entries.specs.Rewritten.{access_at, renamed, with_access, with_name};
 
 /// A law: a file's entry can be rewritten in its slot, and nothing else of the volume's directory changes.

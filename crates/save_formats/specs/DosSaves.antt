@@ -12,12 +12,12 @@ use Rattle.dos_catalog.specs.Entry.{entries_in, free_slots_in}
 use Rattle.dos_catalog.specs.Writes.{slot_offset, with_bytes, entry_bytes}
 use Rattle.vol_format.specs.Directory.{Listed}
 use Rattle.dos_entries.specs.Slots.{IsFreeSlot, number_of_slot, new_listed}
-use Rattle.delete_laws.specs.Writes.{Write}
+use Rattle.edit_laws.specs.Writes.{Write}
 use Rattle.new_files.specs.Order.{part_at}
 use Rattle.new_files.specs.Parts.{dos_parts_of}
 use Rattle.file_formats.specs.DosFiles.{dos_name}
 use Rattle.edit_formats.specs.DosNames.{is_dos_name}
-use Rattle.file_plans.specs.ListUnit.{IsListUnit}
+use Rattle.new_files.specs.ListUnit.{IsListUnit}
 use Rattle.save_formats.specs.declared.target.Attributes.{Attributes}
 use Rattle.save_formats.specs.declared.target.Extent.{Extent}
 use Rattle.save_formats.specs.declared.target.Slot.{Slot}

@@ -15,11 +15,11 @@ use Rattle.pro_dir.specs.Writes.{entry_bytes, slot_offset, with_bytes}
 use Rattle.pro_tree.specs.Reach.{pro_root}
 use Rattle.vol_format.specs.Directory.{Listed}
 use Rattle.pro_format.specs.Pro.{without_key}
-use Rattle.delete_laws.specs.Writes.{Write}
+use Rattle.edit_laws.specs.Writes.{Write}
 use Rattle.new_files.specs.declared.part.NewPart.{NewPart}
 use Rattle.new_files.specs.Order.{part_at}
 use Rattle.new_files.specs.Parts.{kept, pro_parts_of, storage_type}
-use Rattle.file_plans.specs.TableUnit.{IsTableUnit}
+use Rattle.new_files.specs.TableUnit.{IsTableUnit}
 use Rattle.edit_formats.specs.declared.counting.FileCount.TheVariants.{More}
 use Rattle.edit_formats.specs.Counting.{counted_writes}
 use Rattle.edit_formats.specs.ProNames.{is_name_in, is_pro_name, pro_name}

@@ -6,13 +6,13 @@ use Rattle.vol_format.specs.Directory.{Directory, Listed, entries, is_system, ma
 use Rattle.vol_format.specs.Meaning.{Meaning}
 use Rattle.write_laws.specs.Marked.{with_marks}
 use Rattle.write_laws.specs.declared.mark.Mark.{Mark}
-use Rattle.entry_laws.specs.Built.{Planned, IsBuilt, IsRisingPlan, place_of, unit_of}
-use Rattle.entry_laws.specs.Entered.{HasSameRest}
-use Rattle.entry_laws.specs.Inserted.{inserted}
-use Rattle.delete_laws.specs.Writes.{Write, store_after}
+use Rattle.edit_laws.specs.Built.{Planned, IsBuilt, IsRisingPlan, place_of, unit_of}
+use Rattle.edit_laws.specs.Entered.{HasSameRest}
+use Rattle.edit_laws.specs.Inserted.{inserted}
+use Rattle.edit_laws.specs.Writes.{Write, store_after}
 use Rattle.new_files.specs.declared.part.NewPart.{NewPart}
 use Rattle.new_files.specs.Order.{HasStored, part_at}
-use Rattle.file_plans.specs.Placed.{HavePlaces, HasPlaced}
+use Rattle.new_files.specs.Placed.{HavePlaces, HasPlaced}
 use Rattle.edit_formats.specs.Erasing.{HasWholeUnits}
 use Rattle.save_formats.specs.declared.target.Attributes.{Attributes}
 use Rattle.save_formats.specs.declared.target.Extent.{Extent}

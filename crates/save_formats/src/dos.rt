@@ -19,8 +19,7 @@ use dos_format::{Dos33, read_vtoc};
 use dos_vtoc::Vtoc;
 use edit_formats::{dos_name, has_name, is_dos_name, refusal};
 use edit_writes::{EditError, Prepared, alone, copy_unit};
-use file_plans::build_list;
-use new_files::{NewFileError, NewPart, dos_parts};
+use new_files::{NewFileError, NewPart, build_list, dos_parts};
 use std::alloc::Allocator;
 
 /// Where the VTOC stands, which leads to the catalog.

@@ -5,7 +5,8 @@ use Rattle.sector_order.specs.declared.order.Order.{Order}
 use Rattle.sector_order.specs.declared.order.Order.TheVariants as orders
 use Rattle.file_listings.specs.DosText.{Text}
 use Rattle.given_file.specs.Content.{GivenView}
-use Rattle.given_file.specs.Words.{IsDateOf, NamesDate, dos_head, dos_kind, pro_kind}
+use Rattle.given_file.specs.Words.{dos_head, dos_kind, pro_kind}
+use Rattle.pro_dates.specs.SaidDates.{IsDateOf, NamesDate}
 use Rattle.given_file.specs.declared.content.Head.{Head}
 use Rattle.given_file.specs.declared.content.Head.TheVariants as heads
 use Rattle.shop_jobs.specs.Job.{JobView, SaveView, TargetView, ToFile, InPlace, catalog, check, read, convert, plan, optimize, edit, save, verify, identify}

@@ -8,10 +8,11 @@ ghost use Rattle.volume_jobs.specs.Work.{work_view};
 ghost use Rattle.shop_commands.specs.Answer.{AsksFor, AsksForPlan, ChangesVolume, HandsOutFor, IsAnswer, IsDosCatalogAnswer, IsGiven, IsInPlaceAnswer, IsOnVolume, IsReadFailure, IsReplyToBytes, IsStatus, MakesImage, ReadsExtra, ReadsImage, RefusesAttributes, RefusesWords, attributes_view, head_of as first_of, image_order_of, is_in_place as in_place, kind_of as type_of, limit_of as of_limit};
 
 use crate::input::{read_extra, read_image};
-use given_file::{GivenFile, Head, date, dos_head, dos_kind, pro_kind};
+use given_file::{GivenFile, Head, dos_head, dos_kind, pro_kind};
 use image_readings::identify_reply;
 use image_volume::order_of;
 use job_reply::{Failure, Refusal, Reply, convert_reply};
+use pro_dates::date;
 use sector_order::Order;
 use shop_jobs::{FileSystem, Job, SaveAttributes, Target, VolumeOptions};
 use std::alloc::Global;

@@ -1,8 +1,7 @@
 //! The parts of new files, and the units of their lists.
 ghost use Rattle.std.specs.Prelude.{◌≤◌, ◌<◌};
 
-use file_plans::build_list;
-use new_files::{NewFileError, NewPart, dos_parts, parts_of_a_new_dos_file};
+use new_files::{NewFileError, NewPart, build_list, dos_parts, parts_of_a_new_dos_file};
 use refusing::Refusing;
 use std::alloc::{Allocator, Global};
 use std::test::Fail;

@@ -1,4 +1,4 @@
-//! The tests of `pro_bitmap`, `pro_dir`, `pro_tree` and `pro_format`, and of `new_files` and `file_plans` for ProDOS: the worked
+//! The tests of `pro_bitmap`, `pro_dir`, `pro_tree` and `pro_format`, and of `new_files` for ProDOS: the worked
 //! rows with literal values, printed text, each public call on its happy path, refused memory, and reads that fail.
 #![tactic(auto)]
 

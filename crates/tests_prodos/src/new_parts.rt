@@ -1,8 +1,10 @@
 //! The parts of new files, and the blocks of their indexes.
 ghost use Rattle.std.specs.Prelude.{◌<◌};
 
-use file_plans::{build_index, build_master};
-use new_files::{NewFileError, NewPart, parts_of_a_new_pro_file, pro_parts, pro_storage};
+use new_files::{
+    NewFileError, NewPart, build_index, build_master, parts_of_a_new_pro_file, pro_parts,
+    pro_storage,
+};
 use refusing::Refusing;
 use std::alloc::{Allocator, Global};
 use std::test::Fail;

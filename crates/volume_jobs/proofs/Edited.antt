@@ -6,7 +6,7 @@ use Rattle.vol_format.specs.Meaning.{Meaning}
 use Rattle.file_formats.specs.Files.{FileMeaning}
 use Rattle.edit_formats.specs.Edited.{HasChanged}
 use Rattle.edit_formats.specs.Renamed.{IsRenameRefusal}
-use Rattle.delete_laws.specs.Writes.{Write}
+use Rattle.edit_laws.specs.Writes.{Write}
 use Rattle.edit_writes.specs.Writes.{HasEdited, RefusesWrite, StopsIn, device_after, no_write}
 use Rattle.edit_writes.specs.declared.error.EditError.{EditError}
 use Rattle.edit_writes.specs.declared.error.EditError.TheVariants as refused

@@ -3,7 +3,7 @@ use Rattle.std.proofs.Common.{◌≡◌, List, [], inl, inr, refl, subst, sym, S
 use Rattle.std.specs.Prelude.{◌⊎◌, ℕ, true, IfSome, IsTrue, Err, Ok}
 use Rattle.a2_device.specs.Device.{DeviceState, OnlyReads}
 use Rattle.vol_format.specs.Meaning.{Meaning}
-use Rattle.delete_laws.specs.Writes.{Write}
+use Rattle.edit_laws.specs.Writes.{Write}
 use Rattle.edit_writes.specs.Writes.{HasEdited, StopsIn}
 use Rattle.edit_writes.specs.declared.error.EditError.{EditError}
 use Rattle.edit_writes.specs.declared.error.EditError.TheVariants as refused

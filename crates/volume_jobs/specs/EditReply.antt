@@ -10,7 +10,7 @@ use Rattle.edit_formats.specs.Deleted.{HasFirstProtected, IsDeleteEdit, IsOldOrE
 use Rattle.edit_formats.specs.Edited.{HasChanged, HasNoSuchFile, IsLockEdit, IsOldOrChanged}
 use Rattle.edit_formats.specs.Lists.{with_lock_on, without_named}
 use Rattle.edit_formats.specs.Renamed.{HasFirstBeside, HasFirstLocked, IsRenameEdit, with_new_name}
-use Rattle.delete_laws.specs.Writes.{Write}
+use Rattle.edit_laws.specs.Writes.{Write}
 use Rattle.edit_writes.specs.Writes.{device_after}
 use Rattle.shop_jobs.specs.Job.{EditView, Lock, Unlock, Delete, Rename}
 use Rattle.job_reply.specs.declared.refusal.Refusal.{Refusal}

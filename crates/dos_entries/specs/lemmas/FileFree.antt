@@ -8,8 +8,8 @@ use Rattle.dos_vtoc.specs.Vtoc.{link_of}
 use Rattle.vol_format.specs.declared.link.Link.{Link}
 use Rattle.vol_format.specs.declared.link.Link.TheVariants.{Null, Wild, To}
 use Rattle.dos_format.specs.Dos.{link_to, list_link, dos_child, dos_meaning}
-use Rattle.entry_laws.specs.EditLaws.{IsFileFree}
-use Rattle.entry_laws.specs.Inserted.{refiled}
+use Rattle.edit_laws.specs.EditLaws.{IsFileFree}
+use Rattle.edit_laws.specs.Inserted.{refiled}
 
 link_refiled : (file other : ℕ) (kind : PartKind) (number : ℕ) (pointer : Option (ℕ × ℕ)) → link_to file kind number pointer ≡ refiled file (link_to other kind number pointer)
 link_refiled file other kind number None = refl

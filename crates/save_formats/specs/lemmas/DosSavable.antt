@@ -17,23 +17,23 @@ use Rattle.vol_format.specs.Directory.{Directory, Listed, entries, is_system, ma
 use Rattle.dos_format.specs.Dos.{DescribesDos, CanNameDos, dos_meaning}
 use Rattle.dos_format.specs.lemmas.DosChain.{IsOnTrack, sectors_on_track}
 use Rattle.dos_format.specs.lemmas.DosMarks.{track_inside}
-use Rattle.entry_laws.specs.Built.{IsBuilt}
-use Rattle.entry_laws.specs.Entered.{HasSameRest}
-use Rattle.entry_laws.specs.Inserted.{inserted}
+use Rattle.edit_laws.specs.Built.{IsBuilt}
+use Rattle.edit_laws.specs.Entered.{HasSameRest}
+use Rattle.edit_laws.specs.Inserted.{inserted}
 use Rattle.dos_entries.specs.SameCatalog.{HasSameCatalog}
 use Rattle.dos_entries.specs.Slots.{IsFreeSlot, number_of_slot, new_listed, entry_written}
 use Rattle.dos_entries.proofs.Entered.{entered, number_inside}
 use Rattle.dos_entries.proofs.FreeSlots.{first_is_free}
 use Rattle.dos_entries.proofs.SameCatalog.{marks_leave, catalog_stays, free_stays, number_stays}
 use Rattle.dos_entries.proofs.SlotWrites.{sector_written}
-use Rattle.delete_laws.specs.Writes.{Write, store_after}
+use Rattle.edit_laws.specs.Writes.{Write, store_after}
 use Rattle.new_files.specs.declared.part.NewPart.{NewPart}
 use Rattle.new_files.specs.Order.{AreDosParts, IsOfList, part_at}
 use Rattle.new_files.specs.Parts.{bodies, dos_parts_of, is_stored, list_count, list_with_bodies, new_part}
 use Rattle.new_files.proofs.DosOrder.{dos_parts_are, has_stored}
-use Rattle.file_plans.specs.ListUnit.{HasListUnits}
-use Rattle.file_plans.proofs.DosBuilt.{dos_file_built, entry_first}
-use Rattle.file_plans.proofs.Parts.{plan_rising}
+use Rattle.new_files.specs.ListUnit.{HasListUnits}
+use Rattle.new_files.proofs.DosBuilt.{dos_file_built, entry_first}
+use Rattle.new_files.proofs.Parts.{plan_rising}
 use Rattle.edit_formats.specs.Erasing.{HasWholeUnits}
 use Rattle.edit_formats.specs.lemmas.DosNaming.{length-dos_name}
 use Rattle.edit_formats.specs.lemmas.Fronts.{one_front}

@@ -30,9 +30,9 @@ use Rattle.pro_format.specs.lemmas.ProChanged.{AreAmong, run_changed}
 use Rattle.pro_format.specs.lemmas.ProDescribed.{block_below}
 use Rattle.pro_format.specs.lemmas.ProLaws.{total_is}
 use Rattle.pro_format.specs.lemmas.ProMarks.{block_in_system, describes_same, map_block, map_place-pro, places_is}
-use Rattle.entry_laws.specs.Built.{Planned}
-use Rattle.entry_laws.specs.Entered.{HasSameRest}
-use Rattle.entry_laws.specs.Inserted.{inserted}
+use Rattle.edit_laws.specs.Built.{Planned}
+use Rattle.edit_laws.specs.Entered.{HasSameRest}
+use Rattle.edit_laws.specs.Inserted.{inserted}
 use Rattle.pro_entries.specs.Slots.{HasOneEntryMore, HasSameDirectory, IsFreeSlotOf, IsPathOfDirectory, IsProperFile, IsSlotOf, SaysOfFile}
 use Rattle.pro_entries.proofs.Bytes.{length-with_bytes}
 use Rattle.pro_entries.proofs.BuiltPlans.{pro_built}
@@ -41,15 +41,15 @@ use Rattle.pro_entries.proofs.FreeSlots.{first_free_slot}
 use Rattle.pro_entries.proofs.NewEntries.{entry_says}
 use Rattle.pro_entries.proofs.Owners.{own_key}
 use Rattle.pro_entries.proofs.SlotLaws.{key_of_path, pro_enters, slot_inside}
-use Rattle.delete_laws.specs.Writes.{Write, store_after}
+use Rattle.edit_laws.specs.Writes.{Write, store_after}
 use Rattle.new_files.specs.declared.part.NewPart.{NewPart}
 use Rattle.new_files.specs.Order.{AreProParts, IsOfIndex, part_at}
 use Rattle.new_files.specs.Parts.{any_stored, index_with_bodies, indexes, new_part, pro_parts_of, storage_type, tree_parts}
 use Rattle.new_files.proofs.ProOrder.{pro_parts_are, pro_units}
-use Rattle.file_plans.specs.Placed.{HavePlaces}
-use Rattle.file_plans.specs.TableUnit.{HasTableUnits}
-use Rattle.file_plans.proofs.Parts.{master_first, plan_rising}
-use Rattle.file_plans.proofs.ProPlanned.{pro_file_planned, pro_root_first}
+use Rattle.new_files.specs.Placed.{HavePlaces}
+use Rattle.new_files.specs.TableUnit.{HasTableUnits}
+use Rattle.new_files.proofs.Parts.{master_first, plan_rising}
+use Rattle.new_files.proofs.ProPlanned.{pro_file_planned, pro_root_first}
 use Rattle.edit_formats.specs.declared.counting.FileCount.TheVariants.{More}
 use Rattle.edit_formats.specs.Counting.{counting, recounted}
 use Rattle.edit_formats.specs.Erasing.{HasWholeUnits}

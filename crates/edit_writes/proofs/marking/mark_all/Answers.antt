@@ -1,7 +1,7 @@
 use Rattle.std.proofs.Common.{◌≡◌, ◌∙◌, None, Some, IsTrue, ap, sym, subst, refl, false, arith}
 use Rattle.a2_device.specs.Device.{DeviceState}
 use Rattle.a2_device.specs.Reading.{unread, then_reads}
-use Rattle.delete_laws.specs.Markings.{marking_write}
+use Rattle.edit_laws.specs.Markings.{marking_write}
 use Rattle.edit_writes.specs.Markings.{nearest, marked_in}
 use Rattle.edit_writes.proofs.Nearest.{nearest_none}
 use Rattle.edit_writes.proofs.MarkedUnits.{none_marked, one_marked, unit_inside, above_from, not_some}

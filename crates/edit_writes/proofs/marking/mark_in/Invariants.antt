@@ -1,6 +1,6 @@
 use Rattle.std.proofs.Common.{◌≡◌, drop, map}
 use Rattle.write_laws.specs.Marked.{with_marks}
-use Rattle.delete_laws.specs.Markings.{mark_as}
+use Rattle.edit_laws.specs.Markings.{mark_as}
 use Rattle.edit_writes.specs.Markings.{marked_in}
 use Rattle.edit_writes.proofs.marking.mark_in.Given as goal
 

@@ -2,7 +2,7 @@ use Rattle.std.proofs.Common.{◌≡◌, ◌∙◌, ap, sym, map, length, arith,
 use Rattle.std.proofs.lemmas.List.{length-map, get_or-map}
 use Rattle.std.proofs.lemmas.Result.{err_from_is_err_and}
 use Rattle.std.specs.Prelude.{◌<◌, ℕ, List, slice_index_or}
-use Rattle.delete_laws.specs.Writes.{Write}
+use Rattle.edit_laws.specs.Writes.{Write}
 use Rattle.edit_writes.specs.Prepared.{write_of}
 use Rattle.edit_writes.specs.Writes.{no_write}
 use Rattle.edit_writes.proofs.Making.{one_more, one_refused}

@@ -7,8 +7,8 @@ use Rattle.vol_check.specs.Told.{told_of, volume_of}
 use Rattle.vol_format.specs.Accepted.{IsAccepted}
 use Rattle.vol_format.specs.Directory.{entry_of}
 use Rattle.vol_format.specs.Reach.{IsPartsOf}
-use Rattle.delete_laws.specs.Deletion.{IsDeletion}
-use Rattle.delete_laws.specs.Writes.{Write}
+use Rattle.edit_laws.specs.Deletion.{IsDeletion}
+use Rattle.edit_laws.specs.Writes.{Write}
 use Rattle.file_formats.specs.Files.{IsFirstNamed}
 use Rattle.edit_writes.specs.declared.writes.Prepared.{Prepared}
 use Rattle.edit_formats.specs.Deleted.{IsDeleteEdit}

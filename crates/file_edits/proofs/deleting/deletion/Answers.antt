@@ -1,7 +1,7 @@
 use Rattle.std.proofs.Common.{◌≡◌, ◌<◌, ◌∙◌, sym, subst, refl, map, length, true}
 use Rattle.std.specs.Prelude.{All}
 use Rattle.a2_device.specs.Device.{DeviceState}
-use Rattle.delete_laws.specs.Deletion.{IsDeletion}
+use Rattle.edit_laws.specs.Deletion.{IsDeletion}
 use Rattle.edit_writes.specs.declared.writes.Prepared.{Prepared}
 use Rattle.edit_writes.specs.Prepared.{write_of}
 use Rattle.edit_writes.specs.Markings.{AreMarked}

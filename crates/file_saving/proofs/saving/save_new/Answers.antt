@@ -3,7 +3,7 @@ use Rattle.a2_device.specs.Device.{DeviceState}
 use Rattle.a2_device.specs.Reading.{then_reads}
 use Rattle.vol_check.specs.Told.{volume_of}
 use Rattle.vol_format.specs.Accepted.{IsAccepted}
-use Rattle.delete_laws.specs.Writes.{Write}
+use Rattle.edit_laws.specs.Writes.{Write}
 use Rattle.edit_writes.specs.Prepared.{write_of}
 use Rattle.edit_writes.proofs.Edits.{edited_after, edited_as}
 use Rattle.file_saving.specs.Saved.{IsSaveEdit}

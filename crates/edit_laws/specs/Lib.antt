@@ -1,0 +1,14 @@
+pub mod Inserted
+pub mod EditLaws
+pub mod PartsOf
+pub mod Entered
+pub mod Rewritten
+pub mod FilesOf
+pub mod Built
+pub mod Writes
+pub mod Lists
+pub mod Markings
+pub mod Deletion
+pub mod Deleted
+pub mod Saving
+pub mod Saved

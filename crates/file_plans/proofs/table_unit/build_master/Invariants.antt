@@ -1,6 +1,0 @@
-use Rattle.vol_parts.specs.declared.part.PartKind.TheVariants.{Index}
-use Rattle.file_plans.specs.Filling.{HasPointers}
-use Rattle.file_plans.proofs.table_unit.build_master.Given as goal
-
-abbrev pub invariant-loop-k : goal.invariant-loop-k
-invariant-loop-k l = HasPointers l.parts l.places Index 0 0 l.k l.unit

@@ -1,4 +1,0 @@
-pub mod Placed
-pub mod ListUnit
-pub mod TableUnit
-pub mod Filling

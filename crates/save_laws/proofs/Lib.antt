@@ -1,4 +1,0 @@
-pub mod Units
-pub mod Marks
-pub mod Unsaved
-pub mod WholeSaving
