@@ -1,4 +1,9 @@
 // The bytes of the files that a job reads.
+ghost use Rattle.std.specs.Prelude.{◌≡◌, ◌≢◌, ◌⊎◌, None, [], IfErr, IfOk};
+ghost use Rattle.job_reply.specs.declared.refusal.Failure.TheVariants.{Input, Memory};
+ghost use Rattle.shop_jobs.specs.Job.{job_view};
+ghost use Rattle.shop_jobs.specs.Paths.{from_of};
+
 use given_file::MOST_INPUT;
 use job_reply::{Failure, most_bytes};
 use sector_order::Order;
@@ -8,7 +13,9 @@ use std::fs::File;
 use std::io::{ErrorKind, Read};
 
 // Reads up to one byte past so many.
-fn front_of<R: Read>(alloc: Global, reader: &mut R, most: u32) -> Result<Vec<u8>, Failure> {
+fn front_of<R: Read>(alloc: Global, reader: &mut R, most: u32) -> Result<Vec<u8>, Failure>
+    ensures { IfErr result (λ failure. (failure ≡ Input) ⊎ (failure ≡ Memory)) }
+{
     let mut bytes = Vec::new(alloc);
     match reader.take(u64::from(most) + 1).read_to_end(&mut bytes) {
         Ok(_) => Ok(bytes),
@@ -21,7 +28,9 @@ fn front_of<R: Read>(alloc: Global, reader: &mut R, most: u32) -> Result<Vec<u8>
 ///
 /// # Errors
 /// `Input` where it can't be opened or read, `Memory` where there is no room for it.
-pub fn image_bytes(rt: &HostRuntime, job: &Job) -> Result<Vec<u8>, Failure> {
+pub fn image_bytes(rt: &HostRuntime, job: &Job) -> Result<Vec<u8>, Failure>
+    ensures { IfErr result (λ failure. (failure ≡ Input) ⊎ (failure ≡ Memory)) }
+{
     let most = most_bytes(Order::Prodos) as u32;
     if is_on_standard_input(job) {
         return front_of(rt.alloc(), &mut rt.stdin(), most);
@@ -36,7 +45,10 @@ pub fn image_bytes(rt: &HostRuntime, job: &Job) -> Result<Vec<u8>, Failure> {
 ///
 /// # Errors
 /// `Input` where it can't be opened or read, `Memory` where there is no room for it.
-pub fn extra_bytes(rt: &HostRuntime, job: &Job) -> Result<Vec<u8>, Failure> {
+pub fn extra_bytes(rt: &HostRuntime, job: &Job) -> Result<Vec<u8>, Failure>
+    ensures none { from_of (job_view job.now) ≡ None → IfOk result (λ bytes. bytes.items ≡ []) }
+    ensures failed { IfErr result (λ failure. (from_of (job_view job.now) ≢ None) × ((failure ≡ Input) ⊎ (failure ≡ Memory))) }
+{
     let Some(path) = from_path(job) else {
         return Ok(Vec::new(rt.alloc()));
     };
