@@ -45,12 +45,28 @@ pub record HasFirst (format : Meaning) (files : FileMeaning) (store : List (List
   pub first : IsFirstNamed files directory path file
   pub is : Is directory file
 
--- beside the first file that the path names there is an entry with the name; this file's entry keeps its name
-abbrev pub HasFirstBeside : Meaning → FileMeaning → NameMeaning → List (List ℕ) → List ℕ → List ℕ → Type 0
-HasFirstBeside format files names store path new = HasFirst format files store path (λ directory file. names.HasBeside store directory file new)
+-- Why the file of an entry is not renamed: no file may have the name; a file may, but an entry beside its own has it; a file may and none beside has it,
+-- but its entry keeps the name that it has. So each cause says that those before it are not there, and none of them is where the file is renamable.
+abbrev pub IsNoName : NameMeaning → List ℕ → Type 0
+IsNoName names new = names.may_have new ≡ false
 
-abbrev pub HasFirstLocked : Meaning → FileMeaning → NameMeaning → List (List ℕ) → List ℕ → Type 0
-HasFirstLocked format files names store path = HasFirst format files store path (λ directory file. names.keeps (entry_of directory file).bytes ≡ true)
+abbrev pub IsNameInUse : NameMeaning → List (List ℕ) → Directory → ℕ → List ℕ → Type 0
+IsNameInUse names store directory file new = (names.may_have new ≡ true) × names.HasBeside store directory file new
+
+pub record IsNameKept (names : NameMeaning) (store : List (List ℕ)) (directory : Directory) (file : ℕ) (new : List ℕ) : Type 0 where
+  pub name : names.may_have new ≡ true
+  pub alone : ¬ names.HasBeside store directory file new
+  pub keeps : names.keeps (entry_of directory file).bytes ≡ true
+
+-- the same of the first file that the path names, on an accepted volume
+abbrev pub HasFirstUnnamed : Meaning → FileMeaning → NameMeaning → List (List ℕ) → List ℕ → List ℕ → Type 0
+HasFirstUnnamed format files names store path new = HasFirst format files store path (λ directory file. IsNoName names new)
+
+abbrev pub HasFirstBeside : Meaning → FileMeaning → NameMeaning → List (List ℕ) → List ℕ → List ℕ → Type 0
+HasFirstBeside format files names store path new = HasFirst format files store path (λ directory file. IsNameInUse names store directory file new)
+
+abbrev pub HasFirstLocked : Meaning → FileMeaning → NameMeaning → List (List ℕ) → List ℕ → List ℕ → Type 0
+HasFirstLocked format files names store path new = HasFirst format files store path (λ directory file. IsNameKept names store directory file new)
 
 -- what is told of an entry that was asked for by reads of the device
 abbrev pub IsAnswer : Type 0 → Result Bool EditError → Type 0
@@ -63,9 +79,9 @@ IsAnswer Holds (Err error) = ⊥
 -- what is told of a file that is to be renamed
 abbrev pub IsWeighed : {T : Type 0} → NameMeaning → List (List ℕ) → Directory → ℕ → List ℕ → Result T EditError → Type 0
 IsWeighed names store directory file new (Ok x) = IsRenamable names store directory file new
-IsWeighed names store directory file new (Err Name) = names.may_have new ≡ false
-IsWeighed names store directory file new (Err Exists) = names.HasBeside store directory file new
-IsWeighed names store directory file new (Err Locked) = names.keeps (entry_of directory file).bytes ≡ true
+IsWeighed names store directory file new (Err Name) = IsNoName names new
+IsWeighed names store directory file new (Err Exists) = IsNameInUse names store directory file new
+IsWeighed names store directory file new (Err Locked) = IsNameKept names store directory file new
 IsWeighed names store directory file new (Err Device) = Unit {0}
 IsWeighed names store directory file new (Err Memory) = Unit {0}
 IsWeighed names store directory file new (Err error) = ⊥
@@ -73,9 +89,9 @@ IsWeighed names store directory file new (Err error) = ⊥
 -- what is told of the first file that a path names, which is to be renamed
 abbrev pub IsRenameTold : {T : Type 0} → Meaning → FileMeaning → NameMeaning → List (List ℕ) → List ℕ → List ℕ → Result T EditError → Type 0
 IsRenameTold format files names store path new (Ok x) = HasFirst format files store path (λ directory file. IsRenamable names store directory file new)
-IsRenameTold format files names store path new (Err Name) = names.may_have new ≡ false
+IsRenameTold format files names store path new (Err Name) = HasFirstUnnamed format files names store path new
 IsRenameTold format files names store path new (Err Exists) = HasFirstBeside format files names store path new
-IsRenameTold format files names store path new (Err Locked) = HasFirstLocked format files names store path
+IsRenameTold format files names store path new (Err Locked) = HasFirstLocked format files names store path new
 IsRenameTold format files names store path new (Err error) = Unit {0}
 
 -- why a file is not renamed: no other refusal is told

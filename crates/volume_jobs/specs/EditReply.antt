@@ -9,7 +9,7 @@ use Rattle.file_formats.specs.Files.{FileMeaning}
 use Rattle.edit_formats.specs.Deleted.{HasFirstProtected, IsDeleteEdit, IsOldOrErased}
 use Rattle.edit_formats.specs.Edited.{HasChanged, HasNoSuchFile, IsLockEdit, IsOldOrChanged}
 use Rattle.edit_formats.specs.Lists.{with_lock_on, without_named}
-use Rattle.edit_formats.specs.Renamed.{HasFirstBeside, HasFirstLocked, IsRenameEdit, with_new_name}
+use Rattle.edit_formats.specs.Renamed.{HasFirstUnnamed, HasFirstBeside, HasFirstLocked, IsRenameEdit, with_new_name}
 use Rattle.edit_laws.specs.Writes.{Write}
 use Rattle.edit_writes.specs.Writes.{device_after}
 use Rattle.shop_jobs.specs.Job.{EditView, Lock, Unlock, Delete, Rename}
@@ -41,14 +41,14 @@ abbrev pub IsOldOrEdited : EditView → Text → FileMeaning → EditRules → M
 IsOldOrEdited Delete name files rules format old new = IsOldOrErased format files name old new
 IsOldOrEdited edit name files rules format old new = IsOldOrChanged format (edited_files edit name files rules) old new
 
--- Why an edit is refused: the volume is not accepted; no file of it has the name; no file may get the new name, or an entry beside the file has it; the entry of
--- the file does not let it be deleted or renamed. Nothing else is told as refused.
+-- Why an edit is refused, of several causes the first: the volume is not accepted; no file of it has the name; no file may get the new name; an entry beside
+-- the file has it; the entry of the file does not let it be deleted or renamed. Nothing else is told as refused.
 abbrev pub IsCause : Refusal → EditView → Text → FileMeaning → EditRules → Meaning → List (List ℕ) → Type 0
 IsCause refusals.Check edit name files rules format store = ¬ IsVolume format store
 IsCause refusals.NotFound edit name files rules format store = HasNoSuchFile format files store name
-IsCause refusals.Name (Rename new) name files rules format store = rules.name.may_have new ≡ false
+IsCause refusals.Name (Rename new) name files rules format store = HasFirstUnnamed format files rules.name store name new
 IsCause refusals.Exists (Rename new) name files rules format store = HasFirstBeside format files rules.name store name new
-IsCause refusals.Locked (Rename new) name files rules format store = HasFirstLocked format files rules.name store name
+IsCause refusals.Locked (Rename new) name files rules format store = HasFirstLocked format files rules.name store name new
 IsCause refusals.Locked Delete name files rules format store = HasFirstProtected format files rules.erase store name
 IsCause refusal edit name files rules format store = ⊥
 
