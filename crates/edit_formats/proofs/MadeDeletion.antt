@@ -52,7 +52,7 @@ module _ (format : Meaning) (laws : IsReadable format) (movable : IsMovable form
   deletion_changed {T} result honest edited = by_result result (deletion_done result honest edited)
     where
       by_result : (r : Result T EditError) → OnOk r (HasFileDeleted format (files.matches path) old.store new.store) → OnOk r (HasChanged format (without_named files path) old.store new.store)
-      by_result (Ok x) deleted = record { files = deleted.files; lost = deleted.lost }
+      by_result (Ok x) deleted = record { volume = deleted.volume; files = deleted.files; lost = deleted.lost }
       by_result (Err e) deleted = tt
 
   -- the store is that after a front of the writes

@@ -2,7 +2,7 @@
 use Rattle.std.specs.Prelude.{◌≡◌, ◌⊎◌, ◌↔◌, ℕ, Bool, List, [], ◌∷◌}
 use Rattle.a2_device.specs.Device.{unit_at}
 use Rattle.vol_files.specs.Files.{File, HasFiles}
-use Rattle.vol_format.specs.Accepted.{IsAccepted}
+use Rattle.vol_format.specs.Accepted.{IsAccepted, IsVolume}
 use Rattle.vol_format.specs.Directory.{Directory, entry_of}
 use Rattle.vol_format.specs.Meaning.{Meaning}
 use Rattle.file_formats.specs.Files.{FileMeaning, IsFirstNamed, NamesNone}
@@ -27,8 +27,9 @@ pub record HasNoSuchFile (format : Meaning) (files : FileMeaning) (store : List 
   pub accepted : IsAccepted format directory store
   pub none : NamesNone files directory path
 
--- The files of a store are those of another after a change of their list, and the same places are lost.
+-- The volume is accepted, its files are those of before after a change of their list, and the same places are lost.
 pub record HasChanged (format : Meaning) (change : List File → List File) (old new : List (List ℕ)) : Type 0 where
+  pub volume : IsVolume format new
   pub files : (all : List File) → HasFiles format old all → HasFiles format new (change all)
   pub lost : (place : ℕ) → IsLostOn format new place ↔ IsLostOn format old place
 

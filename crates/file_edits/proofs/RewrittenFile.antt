@@ -86,4 +86,4 @@ module _ (format : Meaning) (laws : IsReadable format) (movable : IsMovable form
     )
 
     pub rewrite_changes : HasChanged format (with_first meaning path change) store new
-    rewrite_changes = record { files = has_files; lost = same_lost }
+    rewrite_changes = record { volume = (after, stands.accepted); files = has_files; lost = same_lost }
