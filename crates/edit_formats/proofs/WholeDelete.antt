@@ -14,7 +14,7 @@ use Rattle.edit_writes.specs.Prepared.{write_of}
 use Rattle.edit_formats.specs.Deleted.{HasPlacesOf}
 use Rattle.edit_formats.specs.Erasing.{IsErasing}
 use Rattle.edit_writes.specs.Markings.{marked_in, HasMarkOf, AreMarked}
-use Rattle.edit_writes.proofs.MarkingWrites.{markings, markings_are, markings_rising, of_markings, marked_here, marking_each}
+use Rattle.edit_writes.proofs.MarkingWrites.{markings, markings_are, markings_rising, of_markings, marked_here, marking_each, marking_some}
 
 module _ {A : Type 0} (format : Meaning) (laws : IsReadable format) (directory : Directory) (file : ℕ) (places : List ℕ) (old : DeviceState) (start writes : List (Prepared A))
     (honest : IsTrue old.honest) (erasing : IsErasing format directory file old.store (map write_of start))
@@ -60,6 +60,7 @@ module _ {A : Type 0} (format : Meaning) (laws : IsReadable format) (directory :
           (λ i d within. apart_of (slice_index_or all.1.marked i d).place (all.1.own i d within));
       own = of_markings format true directory places old start writes honest all (λ (m : Marking). All (IsOwnPlace format directory erasing.few file old.store m.at) m.places)
           (λ i d within. own_places (slice_index_or all.1.marked i d).place);
+      some = marking_some format true directory places old start writes honest all;
       each = λ part mine. marking_each format true directory places old start writes honest all part.place ((own.are part.place).1 (part, mine, refl));
     },
     refl,

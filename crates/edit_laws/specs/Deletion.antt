@@ -27,7 +27,7 @@ pub record IsOwnPlace (format : Meaning) (directory few : Directory) (file : ℕ
 
 -- The writes that delete the file of an entry. Those to the directory come first: from the first of them on the store has the directory without
 -- that entry, `few`, and no unit outside the system is written. Then come the units of the map, in rising order and each once, none of them a unit that was written
--- before, in which the places of the file are marked free: these places alone, and all of them.
+-- before and none without a place, in which the places of the file are marked free: these places alone, and all of them.
 pub record IsDeletion (format : Meaning) (directory : Directory) (file : ℕ) (store : List (List ℕ)) (writes : List Write) : Type 0 where
   pub few : Directory
   pub takes : format.Takes few.places
@@ -44,5 +44,6 @@ pub record IsDeletion (format : Meaning) (directory : Directory) (file : ℕ) (s
   pub apart : (k : ℕ) → k < length releases → All (λ (write : Write). write.place ≢ (marking_of releases k).at) system
   pub own : (k : ℕ) → k < length releases
       → All (IsOwnPlace format directory few file store (marking_of releases k).at) (marking_of releases k).places
+  pub some : (k : ℕ) → k < length releases → 0 < length (marking_of releases k).places
   pub each : (part : Part) → PartOf format store (root_of directory file) part
       → (k : ℕ) × (k < length releases) × Contains (marking_of releases k).places part.place
