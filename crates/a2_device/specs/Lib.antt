@@ -2,3 +2,4 @@ pub mod Device
 pub mod Reading
 pub mod Orders
 pub mod Writes
+pub mod Met

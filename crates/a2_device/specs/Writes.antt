@@ -1,8 +1,18 @@
--- What a device says of a write, as one fact.
-use Rattle.std.specs.Prelude.{◌≡◌, ◌↔◌, ℕ, List, Result, IsErr, IsErrOf, IsTrue, OnOk}
+-- What a device says of a read and of a write, each as one fact.
+use Rattle.std.specs.Prelude.{◌≡◌, ◌≢◌, ◌↔◌, ℕ, List, Contains, Result, Err, IsErr, IsErrOf, IsTrue, OnOk, is_err}
 use Rattle.a2_device.specs.declared.device.DeviceError.{DeviceError}
 use Rattle.a2_device.specs.declared.device.DeviceError.TheVariants.{Fault, Spent}
-use Rattle.a2_device.specs.Device.{DeviceState, FailsWrite, IsClosed, IsSameDevice, KeepsUnits, counted, faults_after, last_count, written, writes_after}
+use Rattle.a2_device.specs.Device.{DeviceState, FailsRead, FailsWrite, IsClosed, IsSameDevice, KeepsUnits, OnlyReads}
+use Rattle.a2_device.specs.Device.{counted, faults_after, last_count, unit_at, written, writes_after}
+
+-- the clauses of a read of the unit at a place
+pub record Reads {T : Type 0} (place : ℕ) (unit : List ℕ) (result : Result T DeviceError) (old new : DeviceState) :
+    Type 0 where
+  pub device : OnlyReads (is_err result) old new
+  pub not_spent : result ≢ Err Spent
+  pub read : IsTrue old.honest → OnOk result (unit ≡ unit_at old.store place)
+  pub unreadable : IsTrue old.honest → Contains old.unreadable place → IsErr result
+  pub failed : IsTrue old.honest → IsErr result → FailsRead place old new
 
 -- the clauses of a write of a unit at a place
 pub record Writes {T : Type 0} (place : ℕ) (unit : List ℕ) (result : Result T DeviceError) (old new : DeviceState) : Type 0 where

@@ -1,7 +1,8 @@
 // A device whose next read or write fails to order.
 ghost use Rattle.std.specs.Prelude.{◌≡◌, ◌<◌, Some, None, false, true, [], ◌∷◌, length};
+ghost use Rattle.a2_device.specs.Met.{ReadsToOrder, WritesToOrder};
 ghost use Rattle.a2_device.specs.Orders.{with_orders, HasSameUnits};
-ghost use Rattle.a2_device.specs.Writes.{Writes};
+ghost use Rattle.a2_device.specs.Writes.{Reads, Writes};
 
 use crate::counts::with_refusal;
 use crate::{Device, DeviceError};
@@ -71,7 +72,9 @@ impl<D: Device> FaultDevice<D> {
     fn write_as_ordered(&mut self, place: u32, unit: &[u8]) -> Result<(), DeviceError>
         requires place { place < (D.state self.old.device).places }
         requires unit { length unit.now ≡ (D.state self.old.device).unit_size }
-        ensures { let state = ⟦<FaultDevice<D> as Device>⟧.state in Writes place unit.now result (state self.old) (state self.new) }
+        ensures writes { let state = ⟦<FaultDevice<D> as Device>⟧.state in
+            Writes place unit.now result (state self.old) (state self.new) }
+        ensures to_order { WritesToOrder D.state self.old self.new place unit.now result }
     {
         if self.writes() == u64::MAX {
             self.faults = with_refusal(self.device.faults(), self.faults);
@@ -114,7 +117,14 @@ impl<D: Device> Device for FaultDevice<D> {
         self.device.faults().saturating_add(self.faults)
     }
 
-    fn read(&mut self, place: u32, unit: &mut [u8]) -> Result<(), DeviceError> {
+    /// Meets the order to fail, or is passed on.
+    fn read(&mut self, place: u32, unit: &mut [u8]) -> Result<(), DeviceError>
+        requires place { place < (D.state self.old.device).places }
+        requires unit { length unit.old ≡ (D.state self.old.device).unit_size }
+        ensures reads { let state = ⟦<FaultDevice<D> as Device>⟧.state in
+            Reads place unit.new result (state self.old) (state self.new) }
+        ensures to_order { ReadsToOrder D.state self.old self.new result }
+    {
         if self.read_order {
             self.read_order = false;
             self.faults = with_refusal(self.device.faults(), self.faults);
@@ -123,7 +133,14 @@ impl<D: Device> Device for FaultDevice<D> {
         self.device.read(place, unit)
     }
 
-    fn write(&mut self, place: u32, unit: &[u8]) -> Result<(), DeviceError> {
+    /// Meets the order to fail, or is passed on.
+    fn write(&mut self, place: u32, unit: &[u8]) -> Result<(), DeviceError>
+        requires place { place < (D.state self.old.device).places }
+        requires unit { length unit.now ≡ (D.state self.old.device).unit_size }
+        ensures writes { let state = ⟦<FaultDevice<D> as Device>⟧.state in
+            Writes place unit.now result (state self.old) (state self.new) }
+        ensures to_order { WritesToOrder D.state self.old self.new place unit.now result }
+    {
         self.write_as_ordered(place, unit)
     }
 }
