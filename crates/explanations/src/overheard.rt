@@ -1,7 +1,7 @@
 // A writer that hands all on, and keeps a copy of the front.
-ghost use Rattle.std.specs.Prelude.{◌≡◌, IfOk, OnErr, option_map, take};
+ghost use Rattle.std.specs.Prelude.{◌≡◌, [], Some, IfOk, OnErr, option_map, take};
 ghost use Rattle.std.specs.Io.{WritesAtMost};
-ghost use Rattle.std.specs.Io.KnownBytes.{WriteAppends};
+ghost use Rattle.std.specs.Io.KnownBytes.{Keeps, WriteAppends};
 ghost use Rattle.explanations.specs.Overheard.{Hears};
 
 use std::alloc::Global;
@@ -20,7 +20,10 @@ pub struct Overheard<W> {
 
 impl<W: Write> Overheard<W> {
     /// A writer that hands all on to this one, and has heard nothing yet.
-    pub fn new(alloc: Global, inner: W) -> Overheard<W> {
+    pub fn new(alloc: Global, inner: W) -> Overheard<W>
+        ensures inner { result.inner ≡ inner }
+        ensures told { option_map (λ v. v.items) result.told ≡ Some [] }
+    {
         Overheard {
             inner,
             told: Some(Vec::new(alloc)),
@@ -53,7 +56,10 @@ impl<W: Write> Write for Overheard<W> {
         Ok(count)
     }
 
-    fn flush(&mut self) -> io::Result<()> {
+    fn flush(&mut self) -> io::Result<()>
+        ensures bytes { Keeps (W.contents self.old.inner) (W.contents self.new.inner) }
+        ensures told { self.new.told ≡ self.old.told }
+    {
         self.inner.flush()
     }
 }
