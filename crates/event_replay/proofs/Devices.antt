@@ -1,8 +1,9 @@
 -- The device of a replay at a moment, and after what a session does with it.
-use Rattle.std.specs.Prelude.{◌≡◌, ◌⊎◌, ◌<◌, ℕ, ◌+◌, Bool, true, false, List, [], length, Option, Some, None, slice_set, Contains}
-use Rattle.std.proofs.Common.{refl, ◌∙◌, ap, subst, arith, inl, inr}
+use Rattle.std.specs.Prelude.{◌≡◌, ◌⊎◌, ◌<◌, ℕ, ◌+◌, Bool, true, false, List, [], length, Option, Some, None, slice_set, unwrap_or, Contains}
+use Rattle.std.proofs.Common.{refl, sym, ◌∙◌, ap, subst, arith, inl, inr}
 use Rattle.event_replay.specs.Held.{IsDeviceAt, count_of, orders_of}
-use Rattle.a2_device.specs.Device.{DeviceState, FailsRead, FailsWrite, OnlyReads, UsesRead, UsesWrite, one_fewer, written}
+use Rattle.a2_device.specs.Device.{DeviceState, FailsRead, FailsWrite, OnlyReads, UsesRead, UsesWrite, last_count, one_fewer, written}
+use Rattle.event_replay.specs.Orders.{MeetsOrders}
 
 used_read : (fails : Bool) (old new : Option ℕ) → old ≡ Some (count_of fails) → UsesRead old new → (fails ≡ true) × (new ≡ Some 0)
 used_read fails None new is uses = absurd (cc (is))
@@ -31,7 +32,7 @@ module _ (base left : ℕ) (device new : DeviceState) (fails_read : Bool) (fails
     readable = at.readable;
     reads = at.reads;
     orders = at.orders;
-    passes = at.passes;
+    meets = at.meets;
     stands = at.stands;
     standing = at.standing;
     room = omega (arith, at.room);
@@ -55,7 +56,7 @@ module _ (base left : ℕ) (device new : DeviceState) (fails_read : Bool) (fails
               readable = ap (λ (d : DeviceState). d.unreadable) only ∙ at.readable;
               reads = used.1;
               orders = ap (λ (d : DeviceState). d.write_failures) only ∙ at.orders;
-              passes = ap (λ (d : DeviceState). d.passes) only ∙ at.passes;
+              meets = subst MeetsOrders (sym only) (record { passes = at.meets.passes; none_tried = at.meets.none_tried });
               stands = ap (λ (d : DeviceState). d.store) only ∙ at.stands;
               standing = ap (λ (d : DeviceState). d.standing) only ∙ at.standing;
               room = let same = ap (λ (d : DeviceState). d.writes) only in omega (arith, same, at.room);
@@ -63,27 +64,44 @@ module _ (base left : ℕ) (device new : DeviceState) (fails_read : Bool) (fails
           )
       by_cause (place, inr (has, only)) = absurd (none_unreadable device.unreadable place at.readable has)
 
+  -- a write comes through only where none was ordered to fail
+  pub none_ordered : (place : ℕ) (unit : List ℕ) → IsDeviceAt base left device fails_read fails_write store writes → MeetsOrders new
+      → new ≡ written place unit device → fails_write ≡ None
+  none_ordered place unit at meets only = by_order fails_write refl
+    where
+      not_one_fewer : Some last_count ≡ Some (last_count + 1) → ⊥
+      not_one_fewer same = let numbers : last_count ≡ last_count + 1 = ap (λ (n : Option ℕ). unwrap_or n 0) same in omega (arith, numbers)
+
+      by_order : (order : Option Bool) → fails_write ≡ order → order ≡ None
+      by_order None is = refl
+      by_order (Some took) is =
+          let ordered = at.orders ∙ ap (λ (o : Option Bool). Some (orders_of o)) is in
+          let before = at.meets.none_tried at.honest took ordered in
+          let after = meets.none_tried (ap (λ (d : DeviceState). d.honest) only ∙ at.honest) took (ap (λ (d : DeviceState). d.write_failures) only ∙ ordered) in
+          let fewer = ap (λ (d : DeviceState). d.passes) only ∙ ap one_fewer before in
+          absurd (not_one_fewer (sym fewer ∙ after))
+
   -- a write that stands
-  pub has_written : (place : ℕ) (unit : List ℕ) → IsDeviceAt base (left + 1) device fails_read fails_write store writes → new ≡ written place unit device
-      → IsDeviceAt base left new fails_read fails_write (slice_set store place unit) (writes + 1)
-  has_written place unit at only = record {
+  pub has_written : (place : ℕ) (unit : List ℕ) → IsDeviceAt base (left + 1) device fails_read fails_write store writes → MeetsOrders new
+      → new ≡ written place unit device → IsDeviceAt base left new fails_read fails_write (slice_set store place unit) (writes + 1)
+  has_written place unit at meets only = record {
     honest = ap (λ (d : DeviceState). d.honest) only ∙ at.honest;
     readable = ap (λ (d : DeviceState). d.unreadable) only ∙ at.readable;
     reads = ap (λ (d : DeviceState). d.read_failures) only ∙ at.reads;
     orders = ap (λ (d : DeviceState). d.write_failures) only ∙ at.orders;
-    passes = ap (λ (d : DeviceState). d.passes) only ∙ ap one_fewer at.passes;
+    meets = meets;
     stands = ap (λ (d : DeviceState). d.store) only ∙ ap (λ (s : List (List ℕ)). slice_set s place unit) at.stands;
     standing = let same = ap (λ (d : DeviceState). d.standing) only in omega (arith, same, at.standing);
     room = let same = ap (λ (d : DeviceState). d.writes) only in omega (arith, same, at.room);
   }
 
   -- a write that failed met the failure that was ordered, and its unit stands where that was said
-  pub write_failed : (place : ℕ) (unit : List ℕ) → IsDeviceAt base (left + 1) device fails_read fails_write store writes → FailsWrite place unit device new
+  pub write_failed : (place : ℕ) (unit : List ℕ) → IsDeviceAt base (left + 1) device fails_read fails_write store writes → MeetsOrders new → FailsWrite place unit device new
       → ((fails_write ≡ Some true) × IsDeviceAt base left new fails_read None (slice_set store place unit) (writes + 1))
       ⊎ ((fails_write ≡ Some false) × IsDeviceAt base left new fails_read None store writes)
-  write_failed place unit at (inr (inl has, only)) = absurd (none_unreadable device.unreadable place at.readable has)
-  write_failed place unit at (inr (inr none, only)) = let passes = at.passes in absurd (cc (none, passes))
-  write_failed place unit at (inl (true, uses, passes, only)) =
+  write_failed place unit at meets (inr (inl has, only)) = absurd (none_unreadable device.unreadable place at.readable has)
+  write_failed place unit at meets (inr (inr none, only)) = absurd (at.meets.passes none)
+  write_failed place unit at meets (inl (true, uses, passes, only)) =
       let used = used_write fails_write device.write_failures new.write_failures true at.orders uses in
       inl (
         used.0,
@@ -92,13 +110,13 @@ module _ (base left : ℕ) (device new : DeviceState) (fails_read : Bool) (fails
           readable = ap (λ (d : DeviceState). d.unreadable) only ∙ at.readable;
           reads = ap (λ (d : DeviceState). d.read_failures) only ∙ at.reads;
           orders = used.1;
-          passes = ap (λ (d : DeviceState). d.passes) only ∙ ap one_fewer at.passes;
+          meets = meets;
           stands = ap (λ (d : DeviceState). d.store) only ∙ ap (λ (s : List (List ℕ)). slice_set s place unit) at.stands;
           standing = let same = ap (λ (d : DeviceState). d.standing) only in omega (arith, same, at.standing);
           room = let same = ap (λ (d : DeviceState). d.writes) only in omega (arith, same, at.room);
         },
       )
-  write_failed place unit at (inl (false, uses, passes, only)) =
+  write_failed place unit at meets (inl (false, uses, passes, only)) =
       let used = used_write fails_write device.write_failures new.write_failures false at.orders uses in
       inr (
         used.0,
@@ -107,13 +125,9 @@ module _ (base left : ℕ) (device new : DeviceState) (fails_read : Bool) (fails
           readable = ap (λ (d : DeviceState). d.unreadable) only ∙ at.readable;
           reads = ap (λ (d : DeviceState). d.read_failures) only ∙ at.reads;
           orders = used.1;
-          passes = still passes;
+          meets = meets;
           stands = ap (λ (d : DeviceState). d.store) only ∙ at.stands;
           standing = let same = ap (λ (d : DeviceState). d.standing) only in omega (arith, same, at.standing);
           room = let same = ap (λ (d : DeviceState). d.writes) only in omega (arith, same, at.room);
         },
       )
-    where
-      still : (new.passes ≡ device.passes) ⊎ (new.passes ≡ one_fewer device.passes) → new.passes ≡ None
-      still (inl same) = same ∙ at.passes
-      still (inr fewer) = fewer ∙ ap one_fewer at.passes

@@ -1,5 +1,5 @@
 -- What holds of a run, by induction over it.
-use Rattle.std.specs.Prelude.{◌≡◌, ◌⊎◌, ℕ, ◌+◌, false, List, [], ◌∷◌, All, length}
+use Rattle.std.specs.Prelude.{◌≡◌, ◌⊎◌, ◌≤◌, ℕ, ◌+◌, false, List, [], ◌∷◌, All, length}
 use Rattle.std.specs.List.{AllZip}
 use Rattle.std.proofs.Common.{refl, sym, ap, subst, arith, inl, inr}
 use Rattle.std.proofs.lemmas.List.Elements.{All-cons, All-nil}
@@ -20,7 +20,7 @@ use Rattle.file_formats.specs.Files.{FileMeaning}
 use Rattle.file_cmds.specs.FileList.{IsTextOfFirst}
 use Rattle.file_cmds.proofs.ByList.{text_by_list}
 use Rattle.event_replay.specs.Moments.{HasSession, Moment}
-use Rattle.event_replay.specs.Runs.{IsRun, IsTurn, AllReopen, KeepsAll, KeepsVolume, LosesFew, Reads, ReadsFile, Reopens, Steps, Stops, wrote, read_failed, write_failed, write_failed_and_stands, nothing_left, not_open, gave, no_file, failed, no_memory, no_session, opened, refused}
+use Rattle.event_replay.specs.Runs.{IsRun, IsTurn, last_of, AllReopen, KeepsAll, KeepsVolume, LosesFew, Reads, ReadsFile, Reopens, Steps, Stops, wrote, read_failed, write_failed, write_failed_and_stands, nothing_left, not_open, gave, no_file, failed, no_memory, no_session, opened, refused}
 use Rattle.event_replay.specs.Volumes.{HasDeficit, HasFewLost, HasRoom, Opens, Writes}
 use Rattle.event_replay.proofs.Rooms.{room_kept, room_opens}
 use Rattle.event_replay.specs.declared.event.Answer.{Answer}
@@ -34,7 +34,7 @@ Moves format old new = ((new.store ≡ old.store) × (new.moves ≡ old.moves)) 
 
 module _ (A : Type 0) (format : Meaning) (files : FileMeaning) where
   step_moves : (old : Moment) (answer : Answer A) (new : Moment) → Steps format old answer new → Moves format old new
-  step_moves old Stepped new (wrote left mid is writes) = inr (mid, writes, refl, refl)
+  step_moves old Stepped new (wrote left mid is none writes) = inr (mid, writes, refl, refl)
   step_moves old Refused new (read_failed left is ordered) = inl (refl, refl)
   step_moves old Refused new (write_failed left is ordered) = inl (refl, refl)
   step_moves old Refused new (write_failed_and_stands left mid is ordered writes) = inr (mid, writes, refl, refl)
@@ -61,6 +61,47 @@ module _ (A : Type 0) (format : Meaning) (files : FileMeaning) where
   turn_moves old FailRead answer new (is, only) = inl (ap (λ (m : Moment). m.store) only, ap (λ (m : Moment). m.moves) only)
   turn_moves old (FailWrite took) answer new (is, only) = inl (ap (λ (m : Moment). m.store) only, ap (λ (m : Moment). m.moves) only)
   turn_moves old Stop answer new turn = stop_moves old answer new turn
+
+-- how many unit writes stand: one more at most after each event
+module _ (A : Type 0) (format : Meaning) (files : FileMeaning) where
+  step_writes : (old : Moment) (answer : Answer A) (new : Moment) → Steps format old answer new → new.writes ≤ old.writes + 1
+  step_writes old Stepped new (wrote left mid is none writes) = let made = ap (λ (m : Moment). m.writes) writes.only in omega (arith, made)
+  step_writes old Refused new (read_failed left is ordered) = omega arith
+  step_writes old Refused new (write_failed left is ordered) = omega arith
+  step_writes old Refused new (write_failed_and_stands left mid is ordered writes) = let made = ap (λ (m : Moment). m.writes) writes.only in omega (arith, made)
+  step_writes old Stepped new (nothing_left is order) = omega arith
+  step_writes old Refused new (not_open is) = omega arith
+  step_writes old (Bytes bytes) new steps = elim steps [ ]
+  step_writes old NoMemory new steps = elim steps [ ]
+
+  read_writes : (path : List ℕ) (old : Moment) (answer : Answer A) (new : Moment) → Reads format files path old answer new → new.writes ≤ old.writes + 1
+  read_writes path old answer new (gave told text there gives is) = omega arith
+  read_writes path old answer new (no_file there none) = omega arith
+  read_writes path old answer new (failed there ordered) = omega arith
+  read_writes path old answer new (no_memory there) = omega arith
+  read_writes path old answer new (no_session is) = omega arith
+
+  stop_writes : (old : Moment) (answer : Answer A) (new : Moment) → Stops format old answer new → new.writes ≤ old.writes + 1
+  stop_writes old answer new (opened lost writes opens) = omega arith
+  stop_writes old answer new (failed ordered) = omega arith
+  stop_writes old answer new (refused error can) = omega arith
+
+  turn_writes : (old : Moment) (event : Event) (answer : Answer A) (new : Moment) → IsTurn format files old event answer new → new.writes ≤ old.writes + 1
+  turn_writes old Step answer new turn = step_writes old answer new turn
+  turn_writes old (Read path) answer new turn = read_writes path.now old answer new turn
+  turn_writes old FailRead answer new (is, only) = let same = ap (λ (m : Moment). m.writes) only in omega (arith, same)
+  turn_writes old (FailWrite took) answer new (is, only) = let same = ap (λ (m : Moment). m.writes) only in omega (arith, same)
+  turn_writes old Stop answer new turn = stop_writes old answer new turn
+
+  pub run_writes : (old : Moment) (events : List Event) (answers : List (Answer A)) (run : List Moment) → IsRun format files old events answers run
+      → (last_of old run).writes ≤ old.writes + length answers
+  run_writes old [] [] [] is = omega arith
+  run_writes old (event ∷ events) (answer ∷ answers) (new ∷ run) is =
+      omega (arith, turn_writes old event answer new is.0, run_writes new events answers run is.1)
+  run_writes old [] [] (new ∷ run) is = absurd is
+  run_writes old [] (answer ∷ answers) run is = absurd is
+  run_writes old (event ∷ events) [] run is = absurd is
+  run_writes old (event ∷ events) (answer ∷ answers) [] is = absurd is
 
 module _ (A : Type 0) (format : Meaning) (laws : IsReadable format) (movable : IsMovable format) (files : FileMeaning) (all : List File) (first : Moment) where
   is_volume : (now : Moment) → KeepsVolume format all first now → IsVolume format now.store
@@ -135,7 +176,7 @@ module _ (A : Type 0) (format : Meaning) (laws : IsReadable format) (movable : I
 
   -- lost places
   few_moved : (old : Moment) (answer : Answer A) (new : Moment) → LosesFew format old → Steps format old answer new → LosesFew format new
-  few_moved old Stepped new few (wrote left mid is writes) =
+  few_moved old Stepped new few (wrote left mid is none writes) =
       subst (λ o. HasFewLost format o mid.store mid.writes mid.moves) (sym (ap (λ (m : Moment). m.opened) writes.only)) writes.few
   few_moved old Refused new few (read_failed left is ordered) = few
   few_moved old Refused new few (write_failed left is ordered) = few

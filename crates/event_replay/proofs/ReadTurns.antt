@@ -110,7 +110,7 @@ read_order_at base left device fails_read fails_write store writes at = record {
   readable = at.readable;
   reads = refl;
   orders = at.orders;
-  passes = at.passes;
+  meets = record { passes = at.meets.passes; none_tried = at.meets.none_tried };
   stands = at.stands;
   standing = at.standing;
   room = omega (arith, at.room);
@@ -123,7 +123,7 @@ write_order_at base left device took fails_read fails_write store writes at = re
   readable = at.readable;
   reads = at.reads;
   orders = refl;
-  passes = at.passes;
+  meets = record { passes = λ none. absurd (cc (none)); none_tried = λ _ _ _. refl };
   stands = at.stands;
   standing = at.standing;
   room = omega (arith, at.room);

@@ -22,7 +22,8 @@ use Rattle.event_replay.specs.Runs.{Steps, wrote, read_failed, write_failed, wri
 use Rattle.event_replay.specs.Volumes.{IsInOrder}
 use Rattle.event_replay.specs.declared.event.Answer.{Answer}
 use Rattle.event_replay.specs.declared.event.Answer.TheVariants.{Stepped, Refused}
-use Rattle.event_replay.proofs.Devices.{has_written, later, read_failed as device_read_failed, write_failed as device_write_failed}
+use Rattle.event_replay.specs.Orders.{MeetsOrders}
+use Rattle.event_replay.proofs.Devices.{has_written, later, none_ordered, read_failed as device_read_failed, write_failed as device_write_failed}
 use Rattle.event_replay.specs.Held.{IsDeviceAt, IsAt, IsOpenAt}
 use Rattle.event_replay.proofs.Writing.{come_after, is_write, open_layout, written_moment}
 
@@ -49,7 +50,8 @@ rest_of : (task other : Task) (rest more : List Task) → task ∷ rest ≡ othe
 rest_of task other rest more same = cc (same)
 
 module _ (A : Type 0) (format : Meaning) (laws : IsReadable format) (movable : IsMovable format) (base left : ℕ) (old new : Present) (now : Moment)
-    (device : IsDeviceAt base (left + 1) old.device now.fails_read now.fails_write now.store now.writes) (volume : IsVolume format now.store) where
+    (device : IsDeviceAt base (left + 1) old.device now.fails_read now.fails_write now.store now.writes) (volume : IsVolume format now.store)
+    (meets : MeetsOrders new.device) where
   -- the line of the run that the step is
   abbrev IsLine : Answer A → Type 0
   IsLine answer = (next : Moment) × Steps format now answer next × IsAt format base left (ASession new) next
@@ -126,9 +128,10 @@ module _ (A : Type 0) (format : Meaning) (laws : IsReadable format) (movable : I
         let lost : new.lost_at_first ≡ old.lost_at_first = ap (λ (p : Present). p.lost_at_first) goes.4 ∙ advanced_lost old goes.0 goes.1 in
         let tasks : new.tasks ≡ next.rest = ap (λ (p : Present). p.tasks) goes.4 ∙ advanced_tasks old goes.0 goes.1 ∙ same_rest in (
           record mid { session = Open (length next.rest) },
-          wrote (length next.rest) mid (left_over next.task next.rest next.first) writes,
+          wrote (length next.rest) mid (left_over next.task next.rest next.first)
+              (none_ordered base (left + 1) old.device new.device now.fails_read now.fails_write now.store now.writes place unit device meets made.3) writes,
           (
-            has_written base left old.device new.device now.fails_read now.fails_write now.store now.writes place unit device made.3,
+            has_written base left old.device new.device now.fails_read now.fails_write now.store now.writes place unit device meets made.3,
             (
               writes.volume,
               inl (record {
@@ -195,7 +198,7 @@ module _ (A : Type 0) (format : Meaning) (laws : IsReadable format) (movable : I
         by_cause : RefusesWrite refused.0 refused.1 old.device new.device → IsLine Refused
         by_cause (inl (last, only)) = absurd (omega (arith, last, device.room))
         by_cause (inr fails) =
-            by_failure (device_write_failed base left old.device new.device now.fails_read now.fails_write now.store now.writes refused.0 refused.1 device fails)
+            by_failure (device_write_failed base left old.device new.device now.fails_read now.fails_write now.store now.writes refused.0 refused.1 device meets fails)
 
     open_line : (result : Result Progress StepError) → IsStep format old new result → IsLine (step_answer result)
     open_line (Ok Done) step = done_line step

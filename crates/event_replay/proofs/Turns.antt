@@ -1,11 +1,17 @@
 -- An event of a replay is a turn of a run.
 use Rattle.std.specs.Prelude.{◌≡◌, ℕ, ◌+◌, true, List, [], ◌∷◌, ◌++◌, Some}
-use Rattle.std.proofs.Common.{refl, sym, subst}
+use Rattle.std.proofs.Common.{refl, sym, ◌∙◌, subst}
+use Rattle.a2_device.specs.Device.{DeviceState, IsSameDevice}
+use Rattle.vol_format.specs.Directory.{Directory}
 use Rattle.vol_format.specs.Laws.{IsMovable, IsReadable}
 use Rattle.vol_format.specs.Meaning.{Meaning}
+use Rattle.vol_mover.specs.Present.{Present}
 use Rattle.file_formats.specs.Files.{FileMeaning}
-use Rattle.event_replay.specs.Holds.{Holds, ASession, ADevice, TurnsHolds, device_of}
+use Rattle.event_replay.specs.Holds.{Holds, ASession, ADevice, ChangesHolds, OpensHolds, TurnsHolds, device_of, held}
+use Rattle.event_replay.specs.declared.turning.Held.{Held}
+use Rattle.event_replay.specs.declared.turning.Held.TheVariants.{Session as HeldSession, Device as HeldDevice}
 use Rattle.event_replay.specs.Moments.{IsNotOpen, Moment}
+use Rattle.event_replay.specs.Orders.{MeetsOrders, read_ordered, write_ordered}
 use Rattle.event_replay.specs.Runs.{IsRun, IsTurn, last_of, Reads, Steps, no_session, not_open}
 use Rattle.event_replay.specs.declared.event.Answer.{Answer}
 use Rattle.event_replay.specs.declared.event.Event.{Event}
@@ -16,13 +22,60 @@ use Rattle.event_replay.proofs.ReadTurns.{read_line, read_order, write_order}
 use Rattle.event_replay.proofs.StepTurns.{step_line}
 use Rattle.event_replay.proofs.StopTurns.{stop_line}
 
+-- what is true of each device is true of one that is held
+pub of_held : {D F A V : Type 0} (P : DeviceState → Type 0) (state : D → DeviceState) (directory : F → V → Directory) → ((device : D) → P (state device))
+    → (h : Held D F A V) → P (device_of (held state directory h))
+of_held P state directory all (HeldSession session) = all session.device
+of_held P state directory all (HeldDevice device) = all device
+
+-- what no call changes
+still_same : (old new : DeviceState) → new ≡ old → IsSameDevice old new
+still_same old new same = subst (IsSameDevice old) (sym same) (record { places = refl; unit_size = refl; image = refl; honest = refl; unreadable = refl })
+
+pub same_then : (old mid new : DeviceState) → IsSameDevice old mid → IsSameDevice mid new → IsSameDevice old new
+same_then old mid new first next = record {
+  places = next.places ∙ first.places;
+  unit_size = next.unit_size ∙ first.unit_size;
+  image = next.image ∙ first.image;
+  honest = next.honest ∙ first.honest;
+  unreadable = next.unreadable ∙ first.unreadable;
+}
+
+module _ (A : Type 0) (format : Meaning) where
+  pub opens_same : (old : DeviceState) (answer : Answer A) (new : Holds) → OpensHolds format old answer new → IsSameDevice old (device_of new)
+  opens_same old answer (ASession new) (begun, is) = begun.reads.same
+  opens_same old answer (ADevice new) opening = opening.device.same
+
+  changes_same : (change : DeviceState → DeviceState) → ((device : DeviceState) → IsSameDevice device (change device)) → (old new : Holds) → ChangesHolds change old new
+      → IsSameDevice (device_of old) (device_of new)
+  changes_same change same (ASession old) (ASession new) is = subst (λ (p : Present). IsSameDevice old.device p.device) (sym is) (same old.device)
+  changes_same change same (ADevice old) (ADevice new) is = subst (IsSameDevice old) (sym is) (same old)
+  changes_same change same (ASession old) (ADevice new) is = absurd is
+  changes_same change same (ADevice old) (ASession new) is = absurd is
+
+  pub turn_same : (files : FileMeaning) (event : Event) (answer : Answer A) (old new : Holds) → TurnsHolds format files event old answer new
+      → IsSameDevice (device_of old) (device_of new)
+  turn_same files Step answer (ASession old) (ASession new) (result, step, is) = step.device
+  turn_same files Step answer (ADevice old) (ADevice new) (same, is) = still_same old new same
+  turn_same files Step answer (ASession old) (ADevice new) never = absurd never
+  turn_same files Step answer (ADevice old) (ASession new) never = absurd never
+  turn_same files (Read path) answer (ASession old) (ASession new) (reads, only) = reads.device.same
+  turn_same files (Read path) answer (ADevice old) (ADevice new) (same, is) = still_same old new same
+  turn_same files (Read path) answer (ASession old) (ADevice new) never = absurd never
+  turn_same files (Read path) answer (ADevice old) (ASession new) never = absurd never
+  turn_same files FailRead answer old new (is, changes) =
+      changes_same read_ordered (λ device. record { places = refl; unit_size = refl; image = refl; honest = refl; unreadable = refl }) old new changes
+  turn_same files (FailWrite took) answer old new (is, changes) =
+      changes_same (write_ordered took) (λ device. record { places = refl; unit_size = refl; image = refl; honest = refl; unreadable = refl }) old new changes
+  turn_same files Stop answer old new opens = opens_same (device_of old) answer new opens
+
 module _ (A : Type 0) (format : Meaning) (laws : IsReadable format) (movable : IsMovable format) (files : FileMeaning) (base left : ℕ) where
-  pub turn_line : (event : Event) (answer : Answer A) (old new : Holds) (now : Moment) → IsAt format base (left + 1) old now → TurnsHolds format files event old answer new
-      → (next : Moment) × IsTurn format files now event answer next × IsAt format base left new next
-  turn_line Step answer (ASession old) (ASession new) now at (result, step, is) =
+  pub turn_line : (event : Event) (answer : Answer A) (old new : Holds) (now : Moment) → IsAt format base (left + 1) old now → MeetsOrders (device_of new)
+      → TurnsHolds format files event old answer new → (next : Moment) × IsTurn format files now event answer next × IsAt format base left new next
+  turn_line Step answer (ASession old) (ASession new) now at meets (result, step, is) =
       subst (λ a. (next : Moment) × Steps format now a next × IsAt format base left (ASession new) next) (sym is)
-      (step_line A format laws movable base left old new now at.0 at.1.0 at.1.1 result step)
-  turn_line Step answer (ADevice old) (ADevice new) now at (same, is) =
+      (step_line A format laws movable base left old new now at.0 at.1.0 meets at.1.1 result step)
+  turn_line Step answer (ADevice old) (ADevice new) now at meets (same, is) =
       subst (λ a. (next : Moment) × Steps format now a next × IsAt format base left (ADevice new) next) (sym is) (
         now,
         not_open (subst IsNotOpen (sym at.1) tt),
@@ -32,10 +85,10 @@ module _ (A : Type 0) (format : Meaning) (laws : IsReadable format) (movable : I
           at.1,
         ),
       )
-  turn_line Step answer (ASession old) (ADevice new) now at never = absurd never
-  turn_line Step answer (ADevice old) (ASession new) now at never = absurd never
-  turn_line (Read path) answer (ASession old) (ASession new) now at (reads, only) = read_line A format laws files path.now base left old new now at only answer reads
-  turn_line (Read path) answer (ADevice old) (ADevice new) now at (same, is) =
+  turn_line Step answer (ASession old) (ADevice new) now at meets never = absurd never
+  turn_line Step answer (ADevice old) (ASession new) now at meets never = absurd never
+  turn_line (Read path) answer (ASession old) (ASession new) now at meets (reads, only) = read_line A format laws files path.now base left old new now at only answer reads
+  turn_line (Read path) answer (ADevice old) (ADevice new) now at meets (same, is) =
       subst (λ a. (next : Moment) × Reads format files path.now now a next × IsAt format base left (ADevice new) next) (sym is) (
         now,
         no_session at.1,
@@ -45,12 +98,12 @@ module _ (A : Type 0) (format : Meaning) (laws : IsReadable format) (movable : I
           at.1,
         ),
       )
-  turn_line (Read path) answer (ASession old) (ADevice new) now at never = absurd never
-  turn_line (Read path) answer (ADevice old) (ASession new) now at never = absurd never
-  turn_line FailRead answer old new now at (is, changes) = (record now { fails_read = true }, (is, refl), read_order format base left old new now at changes)
-  turn_line (FailWrite took) answer old new now at (is, changes) =
+  turn_line (Read path) answer (ASession old) (ADevice new) now at meets never = absurd never
+  turn_line (Read path) answer (ADevice old) (ASession new) now at meets never = absurd never
+  turn_line FailRead answer old new now at meets (is, changes) = (record now { fails_read = true }, (is, refl), read_order format base left old new now at changes)
+  turn_line (FailWrite took) answer old new now at meets (is, changes) =
       (record now { fails_write = Some took }, (is, refl), write_order format base left took old new now at changes)
-  turn_line Stop answer old new now at opens =
+  turn_line Stop answer old new now at meets opens =
       stop_line A format base left (device_of old) now (later base left (device_of old) (device_of old) now.fails_read now.fails_write now.store now.writes at.0) answer new opens
 
   -- a run that goes on

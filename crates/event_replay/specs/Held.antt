@@ -7,6 +7,7 @@ use Rattle.plan_writes.specs.Tasks.{Course}
 use Rattle.vol_mover.specs.Present.{Present, IsSession}
 use Rattle.event_replay.specs.Holds.{Holds, ASession, ADevice, device_of}
 use Rattle.event_replay.specs.Moments.{Moment, Opened, SessionState, Open, Closed, Absent, first_moment}
+use Rattle.event_replay.specs.Orders.{MeetsOrders}
 use Rattle.event_replay.specs.Runs.{Begins, IsRun, last_of}
 use Rattle.event_replay.specs.declared.event.Answer.{Answer}
 use Rattle.event_replay.specs.declared.event.Event.{Event}
@@ -21,13 +22,13 @@ abbrev pub orders_of : Option Bool → List Bool
 orders_of None = []
 orders_of (Some took) = took ∷ []
 
--- A device with these failures to come and this store, of whose writes so many stand more than at first, and that can count so many more.
+-- A device with these failures to come, which it meets in time, and this store, of whose writes so many stand more than at first, and that can count so many more.
 pub record IsDeviceAt (base left : ℕ) (device : DeviceState) (fails_read : Bool) (fails_write : Option Bool) (store : List (List ℕ)) (writes : ℕ) : Type 0 where
   pub honest : device.honest ≡ true
   pub readable : device.unreadable ≡ []
   pub reads : device.read_failures ≡ Some (count_of fails_read)
   pub orders : device.write_failures ≡ Some (orders_of fails_write)
-  pub passes : device.passes ≡ None
+  pub meets : MeetsOrders device
   pub stands : device.store ≡ store
   pub standing : device.standing ≡ base + writes
   pub room : device.writes + left ≤ last_count
@@ -68,6 +69,7 @@ pub record HasRun {A : Type 0} (format : Meaning) (files : FileMeaning) (base le
 pub record RanTo {A : Type 0} (format : Meaning) (files : FileMeaning) (base : ℕ) (first : Moment) (events : List Event) (answers : List (Answer A)) (device : DeviceState) : Type 0 where
   pub run : List Moment
   pub is_run : IsRun format files first (take (length answers) events) answers run
+  pub honest : device.honest ≡ true
   pub store : device.store ≡ (last_of first run).store
   pub standing : device.standing ≡ base + (last_of first run).writes
 

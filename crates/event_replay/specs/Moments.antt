@@ -49,6 +49,12 @@ first_moment store session lost = record {
   opened = record { lost = lost; writes = 0; moves = 0 };
 }
 
+-- a device of as many places, of units as long, in an image of the same form
+pub record HasSameShape (old new : DeviceState) : Type 0 where
+  pub places : new.places ≡ old.places
+  pub unit_size : new.unit_size ≡ old.unit_size
+  pub image : new.image ≡ old.image
+
 -- A device that fails nothing by itself, and that counts so many writes more before its count stands at its last value.
 pub record FailsNothing (device : DeviceState) (calls : ℕ) : Type 0 where
   pub honest : device.honest ≡ true

@@ -1,7 +1,7 @@
 -- The runs of a replay: what each event does, what it answers, and what holds from the first moment to the last.
-use Rattle.std.specs.Prelude.{◌≡◌, ◌⊎◌, ℕ, ◌+◌, true, false, List, [], ◌∷◌, length, take, All, None, Some, slice_get}
+use Rattle.std.specs.Prelude.{◌≡◌, ◌⊎◌, ◌≤◌, ℕ, ◌+◌, true, false, List, [], ◌∷◌, length, take, All, None, Some, slice_get}
 use Rattle.std.specs.List.{AllZip}
-use Rattle.a2_device.specs.Device.{DeviceState}
+use Rattle.a2_device.specs.Device.{DeviceState, last_count}
 use Rattle.vol_format.specs.Meaning.{Meaning}
 use Rattle.vol_files.specs.Files.{File, HasFiles}
 use Rattle.vol_opening.specs.declared.error.OpenError.{OpenError}
@@ -9,17 +9,19 @@ use Rattle.vol_mover.specs.Volume.{SameVolume}
 use Rattle.file_cmds.specs.FileList.{IsTextOfFirst}
 use Rattle.file_formats.specs.Files.{FileMeaning}
 use Rattle.file_cmds.specs.Read.{IsTextAt, HasNoFile}
-use Rattle.event_replay.specs.Moments.{HasSession, IsNotOpen, Moment, Open, Closed, Absent, first_moment}
+use Rattle.event_replay.specs.Moments.{FailsNothing, HasSession, IsNotOpen, Moment, Open, Closed, Absent, first_moment}
 use Rattle.event_replay.specs.Volumes.{CantOpen, HasDeficit, HasFewLost, HasRoom, IsInOrder, Opens, Writes}
 use Rattle.event_replay.specs.declared.event.Answer.{Answer}
 use Rattle.event_replay.specs.declared.event.Answer.TheVariants.{Stepped, Bytes, Refused, NoMemory}
 use Rattle.event_replay.specs.declared.event.Event.{Event}
 use Rattle.event_replay.specs.declared.event.Event.TheVariants.{Step, Read, FailRead, FailWrite, Stop}
 
--- A step of an open session makes one unit write; or a read or a write met the failure that was ordered, and a failed write closes the session; or nothing is left to
--- write, each part stands at its target and no place is lost. Without an open session a step is refused.
+-- A step of an open session makes one unit write, where none was ordered to fail; or a read or a write met the failure that
+-- was ordered, and a failed write closes the session; or nothing is left to write, each part stands at its target and no
+-- place is lost. Without an open session a step is refused.
 pub data Steps {A : Type 0} (format : Meaning) (old : Moment) : Answer A → Moment → Type 0 where
-  wrote : (left : ℕ) (new : Moment) → old.session ≡ Open (left + 1) → Writes format old new → Steps format old Stepped (record new { session = Open left })
+  wrote : (left : ℕ) (new : Moment) → old.session ≡ Open (left + 1) → old.fails_write ≡ None → Writes format old new
+      → Steps format old Stepped (record new { session = Open left })
   read_failed : (left : ℕ) → old.session ≡ Open (left + 1) → old.fails_read ≡ true → Steps format old Refused (record old { fails_read = false })
   write_failed : (left : ℕ) → old.session ≡ Open (left + 1) → old.fails_write ≡ Some false → Steps format old Refused (record old { session = Closed; fails_write = None })
   write_failed_and_stands : (left : ℕ) (new : Moment) → old.session ≡ Open (left + 1) → old.fails_write ≡ Some true → Writes format old new
@@ -108,8 +110,10 @@ pub record KeepsAll {A : Type 0} (format : Meaning) (files : FileMeaning) (all :
   pub reads : AllZip (ReadsFile format files all) events answers
   pub reopens : HasRoom format first.store → AllReopen first events run
 
--- The events that were answered, a front of the list; the moments of their run; and that it leads from the store of the device that was handed in to that of the device that
--- is handed back, whose count of writes rose by the unit writes that stand. On a volume with a free place, or in order, a session is open at first.
+-- The events that were answered, a front of the list; the moments of their run; and that it leads from the store of the
+-- device that was handed in to that of the device that is handed back, whose count of writes rose by the unit writes that
+-- stand. On a volume with a free place, or in order, a session is open at first. The device that is handed back fails
+-- nothing either, over as many events more as its count of writes has room for.
 pub record IsReplay {A : Type 0} (format : Meaning) (files : FileMeaning) (events : List Event) (answers : List (Answer A)) (old new : DeviceState) : Type 0 where
   pub first : Moment
   pub begins : Begins A format old.store first ⊎ ((answers ≡ []) × (first ≡ first_moment old.store Absent 0))
@@ -119,6 +123,7 @@ pub record IsReplay {A : Type 0} (format : Meaning) (files : FileMeaning) (event
   pub store : new.store ≡ (last_of first run).store
   pub writes : new.writes ≡ old.writes + (last_of first run).writes
   pub keeps : (all : List File) → HasFiles format old.store all → KeepsAll format files all first (take (length answers) events) answers run
+  pub again : (calls : ℕ) → old.writes + length events + calls ≤ last_count → FailsNothing new calls
 
 -- Each event was answered; or none was, since there was no memory at the beginning; or the first that was not is a stop, after which no session could be opened for want of memory.
 abbrev pub EndsEarly : {A : Type 0} → List Event → List (Answer A) → Type 0

@@ -1,20 +1,20 @@
 -- A device that fails nothing by itself.
-use Rattle.std.specs.Prelude.{ℕ, Bool, true, false, not, ◌&&◌, List, [], ◌∷◌, Option, Some, None, zero}
+use Rattle.std.specs.Prelude.{◌≡◌, IsTrue, ℕ, Bool, true, false, not, ◌&&◌, List, [], ◌∷◌, Option, Some, None, zero}
 use Rattle.a2_device.specs.Device.{DeviceState}
 
-abbrev is_none : {A : Type 0} → Option A → Bool
+abbrev pub is_none : {A : Type 0} → Option A → Bool
 is_none None = true
 is_none (Some value) = false
 
-abbrev is_empty : {A : Type 0} → List A → Bool
+abbrev pub is_empty : {A : Type 0} → List A → Bool
 is_empty [] = true
 is_empty (first ∷ rest) = false
 
-abbrev has_no_reads : Option ℕ → Bool
+abbrev pub has_no_reads : Option ℕ → Bool
 has_no_reads (Some zero) = true
 has_no_reads failures = false
 
-abbrev has_no_writes : Option (List Bool) → Bool
+abbrev pub has_no_writes : Option (List Bool) → Bool
 has_no_writes (Some []) = true
 has_no_writes failures = false
 
@@ -33,3 +33,12 @@ unfailing failed device = record device {
   passes = None;
   standing = device.writes;
 }
+
+-- a device, and the one within it that is handed back once no failure is ordered any more
+pub record HandsBack (outer inner : DeviceState) : Type 0 where
+  pub places : inner.places ≡ outer.places
+  pub unit_size : inner.unit_size ≡ outer.unit_size
+  pub image : inner.image ≡ outer.image
+  pub store : inner.store ≡ outer.store
+  pub writes : inner.writes ≡ outer.standing
+  pub unfailing : IsTrue outer.honest → IsTrue (inner.honest && fails_nothing inner)

@@ -12,6 +12,7 @@
 
 mod event;
 mod laws;
+mod ordered;
 mod replaying;
 mod turning;
 mod unfailing;

@@ -1,14 +1,15 @@
 // A list of events over a volume.
 ghost use Rattle.std.specs.Prelude.{◌≡◌, ◌≤◌, ℕ, List, length, vec_capacity, [], false, None};
+ghost use Rattle.a2_device.specs.Device.{IsSameDevice};
 ghost use Rattle.event_replay.specs.Held.{IsAt, IsDeviceAt, RanFrom, RanTo};
-ghost use Rattle.event_replay.specs.Holds.{IsSound, holds};
-ghost use Rattle.event_replay.specs.Moments.{FailsNothing, Moment};
+ghost use Rattle.event_replay.specs.Holds.{IsSound, device_of, holds};
+ghost use Rattle.event_replay.specs.Moments.{FailsNothing, HasSameShape, Moment};
 ghost use Rattle.event_replay.specs.Runs.{EndsEarly, IsReplay};
 
+use crate::ordered::{FailsToOrder, Ordered};
 use crate::turning::Replay;
-use crate::unfailing::{FailsToOrder, Unfailing};
 use crate::{Answer, Event};
-use a2_device::{Device, FaultDevice};
+use a2_device::Device;
 use file_formats::FileFormat;
 use std::alloc::Allocator;
 use vol_format::WritableFormat;
@@ -24,6 +25,7 @@ fn run<D: FailsToOrder, F: WritableFormat + FileFormat, A: Allocator + Copy>(
     requires room { length events.now ≤ vec_capacity answers }
     ensures front { length result.0.items ≤ length events.now }
     ensures ends { EndsEarly events.now result.0.items }
+    ensures same { IsSameDevice (device_of (holds D.state F.directory replay.entry)) (D.state result.1) }
     ensures ran { (base : ℕ) (first : Moment) → IsAt (F.meaning replay.entry.format.now) base (length events.now) (holds D.state F.directory replay.entry) first
         → RanTo (F.meaning replay.entry.format.now) (F.files replay.entry.format.now) base first events.now result.0.items (D.state result.1) }
 {
@@ -55,6 +57,7 @@ fn begin<D: FailsToOrder, F: WritableFormat + FileFormat, A: Allocator + Copy>(
     requires room { length events.now ≤ vec_capacity answers }
     ensures front { length result.0.items ≤ length events.now }
     ensures ends { EndsEarly events.now result.0.items }
+    ensures same { IsSameDevice (D.state device) (D.state result.1) }
     ensures ran { (base : ℕ) (store : List (List ℕ)) → IsDeviceAt base (length events.now) (D.state device) false None store 0
         → RanFrom (F.meaning format.now) (F.files format.now) base store events.now result.0.items (D.state result.1) }
 {
@@ -76,14 +79,14 @@ pub fn replay<D: Device, F: WritableFormat + FileFormat, A: Allocator + Copy>(
     requires places { (F.meaning format.now).Takes (D.state device).places }
     ensures front { length result.0.items ≤ length events.now }
     ensures ends { EndsEarly events.now result.0.items }
+    ensures shape { HasSameShape (D.state device) (D.state result.1) }
     ensures run { FailsNothing (D.state device) (length events.now)
         → IsReplay (F.meaning format.now) (F.files format.now) events.now result.0.items (D.state device) (D.state result.1) }
 {
     match Vec::with_capacity(alloc, events.len()) {
         Ok(answers) => {
-            let failing = FaultDevice::new(Unfailing::new(device));
-            let (answers, failing) = begin(alloc, failing, format, events, answers);
-            (answers, failing.into_inner().into_inner())
+            let (answers, device) = begin(alloc, Ordered::new(device), format, events, answers);
+            (answers, device.into_inner())
         }
         Err(_) => (Vec::new(alloc), device),
     }

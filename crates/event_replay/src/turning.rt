@@ -4,7 +4,7 @@ ghost use Rattle.a2_device.specs.Device.{OnlyReads};
 ghost use Rattle.event_replay.specs.Holds.{AnswersRead, ChangesHolds, IsSound, OpensHolds, ReadsDevice, ReadsHolds, StepsHolds, TurnsHolds, device_of, held, holds};
 ghost use Rattle.event_replay.specs.Orders.{read_ordered, write_ordered};
 
-use crate::unfailing::FailsToOrder;
+use crate::ordered::FailsToOrder;
 use crate::{Answer, Event};
 use a2_device::Device;
 use file_cmds::{CmdError, read};

@@ -1,18 +1,8 @@
-// A device that fails to order alone.
+// A device that fails nothing by itself.
 ghost use Rattle.std.specs.Prelude.{◌≡◌, false};
-ghost use Rattle.event_replay.specs.Orders.{read_ordered, write_ordered};
 ghost use Rattle.event_replay.specs.Unfailing.{unfailing};
 
-use a2_device::{Device, DeviceError, FaultDevice};
-
-// A device whose next read and next write can be ordered to fail.
-pub(crate) trait FailsToOrder: Device {
-    fn order_read(&mut self)
-        ensures { Self.state self.new ≡ read_ordered (Self.state self.old) };
-
-    fn order_write(&mut self, took: bool)
-        ensures { Self.state self.new ≡ write_ordered took (Self.state self.old) };
-}
+use a2_device::{Device, DeviceError};
 
 /// Passes each call on. Nothing is known of it once the device in it has failed; until then, each of the writes that it counts stands.
 #[derive(Drop)]
@@ -74,15 +64,5 @@ impl<D: Device> Device for Unfailing<D> {
         let written = self.device.write(place, unit);
         self.failed = self.failed || written == Err(DeviceError::Fault);
         written
-    }
-}
-
-impl<D: Device> FailsToOrder for FaultDevice<Unfailing<D>> {
-    fn order_read(&mut self) {
-        self.fail_read();
-    }
-
-    fn order_write(&mut self, took: bool) {
-        self.fail_write(took);
     }
 }

@@ -1,6 +1,7 @@
 use Rattle.std.proofs.Common.{sym, subst, inl}
 use Rattle.event_replay.specs.Held.{IsAt, RanTo}
-use Rattle.event_replay.specs.Holds.{holds}
+use Rattle.event_replay.specs.Holds.{device_of, holds}
+use Rattle.event_replay.proofs.Turns.{opens_same, same_then}
 use Rattle.event_replay.proofs.Devices.{only_read}
 use Rattle.event_replay.proofs.StopTurns.{begin_line}
 use Rattle.event_replay.proofs.WholeRuns.{not_begun}
@@ -30,3 +31,10 @@ returns-in-Err-clause-ran g c = λ base store at.
     let left = length c.args.events.now in
     not_begun g.row.A.Denot (g.F.Format.meaning format) (g.met.F.Format.readable format) (g.met.F.WritableFormat.movable format) (g.F.FileFormat.files format) base
     left store c.args.events.now c.args.answers.items old new c.requires.empty at (only_read base left old new false None store 0 at c.in-Err.ensures.device)
+
+pub returns-in-Ok-clause-same : goal.returns-in-Ok-clause-same
+returns-in-Ok-clause-same g c =
+    let held = holds g.D.Device.state g.F.Format.directory c.in-Ok.replay in
+    let old = g.D.Device.state c.args.device in
+    same_then old (device_of held) (g.D.Device.state c.run.result.1)
+    (opens_same g.row.A.Denot (g.F.Format.meaning c.args.format.now) old c.in-Ok._answer held c.in-Ok.ensures.opens) c.run.ensures.same
