@@ -177,24 +177,24 @@ module _ (A : Type 0) (format : Meaning) (laws : IsReadable format) (movable : I
   -- lost places
   few_moved : (old : Moment) (answer : Answer A) (new : Moment) → LosesFew format old → Steps format old answer new → LosesFew format new
   few_moved old Stepped new few (wrote left mid is none writes) =
-      subst (λ o. HasFewLost format o mid.store mid.writes mid.moves) (sym (ap (λ (m : Moment). m.opened) writes.only)) writes.few
+      subst (λ o. HasFewLost format o mid.store mid.writes) (sym (ap (λ (m : Moment). m.opened) writes.only)) writes.few
   few_moved old Refused new few (read_failed left is ordered) = few
   few_moved old Refused new few (write_failed left is ordered) = few
   few_moved old Refused new few (write_failed_and_stands left mid is ordered writes) =
-      subst (λ o. HasFewLost format o mid.store mid.writes mid.moves) (sym (ap (λ (m : Moment). m.opened) writes.only)) writes.few
+      subst (λ o. HasFewLost format o mid.store mid.writes) (sym (ap (λ (m : Moment). m.opened) writes.only)) writes.few
   few_moved old Stepped new few (nothing_left is order) = few
   few_moved old Refused new few (not_open is) = few
   few_moved old (Bytes bytes) new few steps = elim steps [ ]
   few_moved old NoMemory new few steps = elim steps [ ]
 
-  pub few_opened : (store : List (List ℕ)) (lost writes : ℕ) (opens : Opens format store lost writes) (made moves : ℕ)
-      → HasFewLost format (record { lost = lost; writes = made; moves = moves }) store made moves
+  pub few_opened : (store : List (List ℕ)) (lost : List ℕ) (writes : ℕ) (opens : Opens format store lost writes) (made moves : ℕ)
+      → HasFewLost format (record { lost = lost; writes = made; moves = moves }) store made
   few_opened store lost writes opens made moves = record {
     directory = opens.directory;
     described = opens.accepted.described;
     lost = lost_places opens.directory opens.parts;
-    all = λ place at. (lost_are format opens.directory store opens.parts opens.are_parts place (lost_places opens.directory opens.parts) refl).1 at;
-    few = inr (inr (inl (refl, omega (arith, opens.lost_are))));
+    all = λ place. lost_are format opens.directory store opens.parts opens.are_parts place (lost_places opens.directory opens.parts) refl;
+    few = inr (inr (inl (refl, sym opens.lost_are)));
   }
 
   few_read : (path : List ℕ) (old : Moment) (answer : Answer A) (new : Moment) → LosesFew format old → Reads format files path old answer new → LosesFew format new

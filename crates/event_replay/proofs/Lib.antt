@@ -9,3 +9,4 @@ pub mod Turns
 pub mod Rooms
 pub mod Keeping
 pub mod WholeRuns
+pub mod FirstChanges

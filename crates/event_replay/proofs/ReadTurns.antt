@@ -22,7 +22,7 @@ use Rattle.event_replay.specs.Runs.{Reads, gave, no_file, failed, no_memory}
 use Rattle.event_replay.specs.declared.event.Answer.{Answer}
 use Rattle.event_replay.proofs.Devices.{later, only_read, read_failed}
 use Rattle.event_replay.proofs.Holding.{read_can}
-use Rattle.event_replay.specs.Held.{IsDeviceAt, IsAt, IsHeldAt}
+use Rattle.event_replay.specs.Held.{HasBegun, IsDeviceAt, IsAt, IsHeldAt}
 
 -- no file of an accepted volume is unreadable
 module _ (format : Meaning) (laws : IsReadable format) (files : FileMeaning) (store : List (List ℕ)) (path : List ℕ) where
@@ -50,6 +50,7 @@ still_held format old new state store opened writes moves can only (volume, inl 
     course = at.course;
     is = subst (λ p. IsSession format p at.course) (sym only) (resumed_session format old at.course at.is new.device old.unit refl can);
     come = record { writes_are = at.come.writes_are; moves_are = at.come.moves_are; lost = ap (λ (p : Present). p.lost_at_first) only ∙ at.come.lost };
+    begun = subst (λ (p : Present). HasBegun (length p.opening.map_units) opened.lost at.course p.tasks) (sym only) at.begun;
   }),
 )
 

@@ -2,6 +2,7 @@
 use Rattle.std.specs.Prelude.{◌≡◌, ◌⊎◌, ℕ, ◌+◌, true, false, List, [], ◌∷◌, length, slice_set, Contains, Result, Ok, Err, None, Some}
 use Rattle.std.proofs.Common.{refl, sym, ◌∙◌, ap, subst, arith, inl, inr}
 use Rattle.vol_format.specs.Accepted.{IsVolume}
+use Rattle.vol_format.specs.Directory.{Directory}
 use Rattle.vol_format.specs.Laws.{IsMovable, IsReadable}
 use Rattle.vol_format.specs.Meaning.{Meaning}
 use Rattle.vol_format.specs.Standing.{IsLost}
@@ -24,8 +25,8 @@ use Rattle.event_replay.specs.declared.event.Answer.{Answer}
 use Rattle.event_replay.specs.declared.event.Answer.TheVariants.{Stepped, Refused}
 use Rattle.event_replay.specs.Orders.{MeetsOrders}
 use Rattle.event_replay.proofs.Devices.{has_written, later, none_ordered, read_failed as device_read_failed, write_failed as device_write_failed}
-use Rattle.event_replay.specs.Held.{IsDeviceAt, IsAt, IsOpenAt}
-use Rattle.event_replay.proofs.Writing.{come_after, is_write, open_layout, written_moment}
+use Rattle.event_replay.specs.Held.{HasBegun, IsDeviceAt, IsAt, IsOpenAt}
+use Rattle.event_replay.proofs.Writing.{begun_after, come_after, is_write, open_layout, written_moment}
 
 -- what a write that is taken note of keeps
 advanced_closed : (old : Present) (task : Task) (rest : List Task) → (advanced old task rest).closed ≡ old.closed
@@ -42,6 +43,11 @@ advanced_tasks : (old : Present) (task : Task) (rest : List Task) → (advanced 
 advanced_tasks old (Map at marks) rest = refl
 advanced_tasks old (Copy move) rest = refl
 advanced_tasks old (Pointer move) rest = refl
+
+advanced_opening : (old : Present) (task : Task) (rest : List Task) → (advanced old task rest).opening ≡ old.opening
+advanced_opening old (Map at marks) rest = refl
+advanced_opening old (Copy move) rest = refl
+advanced_opening old (Pointer move) rest = refl
 
 none_there : (place : ℕ) → Contains [] place → ⊥
 none_there place has = omega (arith, has.1)
@@ -123,7 +129,7 @@ module _ (A : Type 0) (format : Meaning) (laws : IsReadable format) (movable : I
         let same_task : goes.0 ≡ next.task = first_task goes.0 next.task goes.1 next.rest (sym goes.2 ∙ next.first) in
         let same_rest : goes.1 ≡ next.rest = rest_of goes.0 next.task goes.1 next.rest (sym goes.2 ∙ next.first) in
         let mid = written_moment format movable laws old opened.course opened.is was_open place unit next now in
-        let writes = is_write format movable laws old opened.course opened.is was_open place unit next now device.stands opened.come in
+        let writes = is_write format movable laws old opened.course opened.is was_open place unit next now device.stands opened.come opened.begun in
         let come = come_after format movable laws old opened.course opened.is was_open place unit next now.opened now.writes now.moves opened.come in
         let lost : new.lost_at_first ≡ old.lost_at_first = ap (λ (p : Present). p.lost_at_first) goes.4 ∙ advanced_lost old goes.0 goes.1 in
         let tasks : new.tasks ≡ next.rest = ap (λ (p : Present). p.tasks) goes.4 ∙ advanced_tasks old goes.0 goes.1 ∙ same_rest in (
@@ -140,6 +146,12 @@ module _ (A : Type 0) (format : Meaning) (laws : IsReadable format) (movable : I
                 course = course_after old.opening opened.course next.task;
                 is = subst (λ t. IsSession format new (course_after old.opening opened.course t)) same_task goes.5;
                 come = record { writes_are = come.writes_are; moves_are = come.moves_are; lost = lost ∙ come.lost };
+                begun = subst (λ (p : Present). HasBegun (length p.opening.map_units) now.opened.lost (course_after old.opening opened.course next.task) p.tasks) (sym goes.4)
+                    (subst (λ (t : List Task). HasBegun (length (advanced old goes.0 goes.1).opening.map_units) now.opened.lost (course_after old.opening opened.course next.task) t)
+                    (sym (advanced_tasks old goes.0 goes.1 ∙ same_rest))
+                    (subst (λ (d : Directory). HasBegun (length d.map_units) now.opened.lost (course_after old.opening opened.course next.task) next.rest)
+                    (sym (advanced_opening old goes.0 goes.1))
+                    (begun_after format movable laws old opened.course opened.is was_open place unit next now.opened opened.begun)));
               }),
             ),
           ),
@@ -163,6 +175,7 @@ module _ (A : Type 0) (format : Meaning) (laws : IsReadable format) (movable : I
                 course = opened.course;
                 is = goes.1;
                 come = record { writes_are = opened.come.writes_are; moves_are = opened.come.moves_are; lost = ap (λ (p : Present). p.lost_at_first) goes.0 ∙ opened.come.lost };
+                begun = subst (λ (p : Present). HasBegun (length p.opening.map_units) now.opened.lost opened.course p.tasks) (sym goes.0) opened.begun;
               }),
             ),
           ),
@@ -184,7 +197,7 @@ module _ (A : Type 0) (format : Meaning) (laws : IsReadable format) (movable : I
             ⊎ ((now.fails_write ≡ Some false) × IsDeviceAt base left new.device now.fails_read None now.store now.writes) → IsLine Refused
         by_failure (inl (ordered, at)) =
             let mid = written_moment format movable laws old opened.course opened.is was_open refused.0 refused.1 next now in
-            let writes = is_write format movable laws old opened.course opened.is was_open refused.0 refused.1 next now device.stands opened.come in (
+            let writes = is_write format movable laws old opened.course opened.is was_open refused.0 refused.1 next now device.stands opened.come opened.begun in (
               record mid { session = Closed; fails_write = None },
               write_failed_and_stands (length next.rest) mid (left_over next.task next.rest next.first) ordered writes,
               (at, (writes.volume, inr (closed, refl))),

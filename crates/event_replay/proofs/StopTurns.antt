@@ -1,9 +1,10 @@
 -- An opening is a line of a run.
-use Rattle.std.specs.Prelude.{◌≢◌, ℕ, false, List, length, Err, None}
+use Rattle.std.specs.Prelude.{◌≢◌, ℕ, false, List, [], length, Err, None}
 use Rattle.std.proofs.Common.{refl, sym, subst, arith, inl}
 use Rattle.a2_device.specs.Device.{DeviceState, OnlyReads}
 use Rattle.move_plan.specs.Planning.{LacksFreePlace}
 use Rattle.vol_format.specs.Accepted.{IsAccepted}
+use Rattle.vol_format.specs.Laws.{IsMovable}
 use Rattle.vol_format.specs.Meaning.{Meaning}
 use Rattle.vol_format.specs.Reach.{IsPartsOf}
 use Rattle.vol_opening.specs.Refused.{IsRefusal, is_device_error}
@@ -17,10 +18,11 @@ use Rattle.event_replay.specs.Runs.{Begins, Stops, opened, failed, refused}
 use Rattle.event_replay.specs.Volumes.{CantOpen, reclaiming}
 use Rattle.event_replay.specs.declared.event.Answer.{Answer}
 use Rattle.event_replay.specs.declared.event.Answer.TheVariants.{Stepped, Bytes, Refused, NoMemory}
+use Rattle.event_replay.proofs.FirstChanges.{begun_at_first}
 use Rattle.event_replay.proofs.Devices.{only_read, read_failed}
 use Rattle.event_replay.specs.Held.{IsDeviceAt, IsAt}
 
-module _ (A : Type 0) (format : Meaning) (base left : ℕ) (old : DeviceState) (now : Moment) (at : IsDeviceAt base left old now.fails_read now.fails_write now.store now.writes) where
+module _ (A : Type 0) (format : Meaning) (movable : IsMovable format) (base left : ℕ) (old : DeviceState) (now : Moment) (at : IsDeviceAt base left old now.fails_read now.fails_write now.store now.writes) where
   abbrev IsLine : Answer A → Holds → Type 0
   IsLine answer new = (next : Moment) × Stops format now answer next × IsAt format base left new next
 
@@ -31,7 +33,7 @@ module _ (A : Type 0) (format : Meaning) (base left : ℕ) (old : DeviceState) (
   session_opened : (new : Present) → IsBegun format reclaiming old new → IsLine Stepped (ASession new)
   session_opened new begun =
       let accepted = subst (λ s. IsAccepted format new.opening s) at.stands (begun.accepted at.honest) in
-      let lost = length (first_lost new) in
+      let lost = first_lost new in
       let writes = length new.tasks in (
         record now { session = Open writes; opened = record { lost = lost; writes = now.writes; moves = now.moves } },
         opened lost writes (record {
@@ -54,6 +56,7 @@ module _ (A : Type 0) (format : Meaning) (base left : ℕ) (old : DeviceState) (
               course = start_of new;
               is = begun.session;
               come = record { writes_are = omega arith; moves_are = omega arith; lost = begun.lost };
+              begun = begun_at_first format new begun.session (movable.described now.store new.opening accepted.described) begun.tasks;
             }),
           ),
         ),
@@ -77,8 +80,8 @@ module _ (A : Type 0) (format : Meaning) (base left : ℕ) (old : DeviceState) (
       (by_error opening.error new opening.device (opening.refused at.honest) opening.not_memory)
 
 -- the opening before the first event
-module _ (A : Type 0) (format : Meaning) (base left : ℕ) (store : List (List ℕ)) (old : DeviceState) (at : IsDeviceAt base left old false None store 0) where
-  by_line : (answer : Answer A) (next : Moment) → Stops format (first_moment store Absent 0) answer next → Begins A format store next
+module _ (A : Type 0) (format : Meaning) (movable : IsMovable format) (base left : ℕ) (store : List (List ℕ)) (old : DeviceState) (at : IsDeviceAt base left old false None store 0) where
+  by_line : (answer : Answer A) (next : Moment) → Stops format (first_moment store Absent []) answer next → Begins A format store next
   by_line Stepped next (opened lost writes is) = opened lost writes is
   by_line Refused next (failed never) = absurd (cc (never))
   by_line Refused next (refused error is) = refused error is
@@ -87,5 +90,5 @@ module _ (A : Type 0) (format : Meaning) (base left : ℕ) (store : List (List �
 
   pub begin_line : (answer : Answer A) (new : Holds) → OpensHolds format old answer new → (first : Moment) × Begins A format store first × IsAt format base left new first
   begin_line answer new opening =
-      let line = stop_line A format base left old (first_moment store Absent 0) at answer new opening in
+      let line = stop_line A format movable base left old (first_moment store Absent []) at answer new opening in
       (line.0, by_line answer line.0 line.1, line.2)

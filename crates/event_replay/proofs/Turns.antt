@@ -104,7 +104,7 @@ module _ (A : Type 0) (format : Meaning) (laws : IsReadable format) (movable : I
   turn_line (FailWrite took) answer old new now at meets (is, changes) =
       (record now { fails_write = Some took }, (is, refl), write_order format base left took old new now at changes)
   turn_line Stop answer old new now at meets opens =
-      stop_line A format base left (device_of old) now (later base left (device_of old) (device_of old) now.fails_read now.fails_write now.store now.writes at.0) answer new opens
+      stop_line A format movable base left (device_of old) now (later base left (device_of old) (device_of old) now.fails_read now.fails_write now.store now.writes at.0) answer new opens
 
   -- a run that goes on
   pub run_on : (first next : Moment) (events : List Event) (answers : List (Answer A)) (run : List Moment) (event : Event) (answer : Answer A)

@@ -129,7 +129,7 @@ module _ (A : Type 0) (format : Meaning) (laws : IsReadable format) (movable : I
   pub not_begun : (left : ℕ) (store : List (List ℕ)) (events : List Event) (answers : List (Answer A)) (old new : DeviceState) → answers ≡ []
       → IsDeviceAt base left old false None store 0 → new ≡ old → RanFrom format files base store events answers new
   not_begun left store events answers old new none at same = subst (λ (given : List (Answer A)). RanFrom format files base store events given new) (sym none) (record {
-    first = first_moment store Absent 0;
+    first = first_moment store Absent [];
     begins = inr (refl, refl);
     ran = record {
       run = [];
@@ -141,10 +141,10 @@ module _ (A : Type 0) (format : Meaning) (laws : IsReadable format) (movable : I
   })
 
   first_few : (store : List (List ℕ)) (first : Moment) → Begins A format store first → HasSession first.session → LosesFew format first
-  first_few store first (opened lost writes opens) there = few_opened A format laws movable files [] (first_moment store Absent 0) store lost writes opens 0 0
+  first_few store first (opened lost writes opens) there = few_opened A format laws movable files [] (first_moment store Absent []) store lost writes opens 0 0
   first_few store first (refused error can) there = absurd there
 
-  first_session : (store : List (List ℕ)) (answers : List (Answer A)) (first : Moment) → Begins A format store first ⊎ ((answers ≡ []) × (first ≡ first_moment store Absent 0))
+  first_session : (store : List (List ℕ)) (answers : List (Answer A)) (first : Moment) → Begins A format store first ⊎ ((answers ≡ []) × (first ≡ first_moment store Absent []))
       → HasRoom format store → (answers ≡ []) ⊎ HasSession first.session
   first_session store answers first (inl (opened lost writes opens)) room = inr tt
   first_session store answers first (inl (refused error can)) room = absurd (room_opens format laws store error room can)
@@ -173,7 +173,7 @@ module _ (A : Type 0) (format : Meaning) (laws : IsReadable format) (movable : I
     again = λ calls room. unfailing_again new calls (back.unfailing ran.ran.honest) (omega (arith, room, made, few, front));
   }
     where
-      keeps : (all : List File) → HasFiles format old.store all → Begins A format old.store ran.first ⊎ ((answers ≡ []) × (ran.first ≡ first_moment old.store Absent 0))
+      keeps : (all : List File) → HasFiles format old.store all → Begins A format old.store ran.first ⊎ ((answers ≡ []) × (ran.first ≡ first_moment old.store Absent []))
           → KeepsAll format files all ran.first (take (length answers) events) answers ran.ran.run
       keeps all has (inl begins) =
           let at = first_store old.store ran.first begins in
@@ -187,7 +187,7 @@ module _ (A : Type 0) (format : Meaning) (laws : IsReadable format) (movable : I
       made : new.writes ≡ old.writes + (last_of ran.first ran.ran.run).writes
       made = back.writes ∙ ran.ran.standing ∙ ap (λ (n : ℕ). n + (last_of ran.first ran.ran.run).writes) from
 
-      by_begin : Begins A format old.store ran.first ⊎ ((answers ≡ []) × (ran.first ≡ first_moment old.store Absent 0)) → ran.first.writes ≡ 0
+      by_begin : Begins A format old.store ran.first ⊎ ((answers ≡ []) × (ran.first ≡ first_moment old.store Absent [])) → ran.first.writes ≡ 0
       by_begin (inl begins) = first_writes old.store ran.first begins
       by_begin (inr (none, is)) = ap (λ (m : Moment). m.writes) is
 

@@ -1,12 +1,12 @@
 -- The next write of an open session, where it stands.
-use Rattle.std.specs.Prelude.{◌≡◌, ◌⊎◌, ℕ, ◌+◌, List, ◌∷◌, length, slice_set}
+use Rattle.std.specs.Prelude.{◌≡◌, ◌⊎◌, ℕ, ◌+◌, List, [], ◌∷◌, None, length, slice_set}
 use Rattle.std.proofs.Common.{refl, sym, ◌∙◌, ap, subst, arith, inl, inr, ⊎_elim}
 use Rattle.vol_layout.specs.Plans.{moved}
 use Rattle.vol_format.specs.Directory.{Directory, IsSameFrame}
 use Rattle.vol_format.specs.Laws.{IsMovable, IsReadable}
 use Rattle.vol_format.specs.Meaning.{Meaning}
 use Rattle.vol_files.specs.Layout.{HasLayout}
-use Rattle.plan_writes.specs.Tasks.{Course, Task, Map, Copy, Pointer, IsFewLost, course_after}
+use Rattle.plan_writes.specs.Tasks.{ChangesMap, Course, Task, Map, Copy, Pointer, IsAgenda, IsFewLost, course_after}
 use Rattle.vol_mover.specs.Open.{IsOpen}
 use Rattle.vol_mover.specs.Present.{Present, IsSession}
 use Rattle.vol_mover.specs.Steps.{IsNextWrite, MovesOne}
@@ -16,7 +16,8 @@ use Rattle.vol_mover.proofs.NextWrites.{first_fits}
 use Rattle.event_replay.specs.Moments.{Moment, Opened}
 use Rattle.event_replay.specs.Volumes.{AreFew, HasFewLost, Writes}
 use Rattle.event_replay.proofs.Layouts.{stands_as}
-use Rattle.event_replay.specs.Held.{HasCome}
+use Rattle.event_replay.specs.Held.{HasBegun, HasCome}
+use Rattle.event_replay.proofs.FirstChanges.{begun_next, some_writes}
 
 -- how many moves a write makes
 abbrev pub moves_by : Task → ℕ
@@ -41,14 +42,22 @@ same_units : (before after : Directory) → IsSameFrame before after → after.m
 same_units before after frame = ap (λ (d : Directory). d.map_units) frame
 
 -- few lost places, counted since the opening
+unmarked : (directory : Directory) (first : ℕ) (course : Course) (tasks : List Task) → IsAgenda directory first course tasks → ChangesMap tasks → course.copied ≡ None
+unmarked directory first course [] agenda changes = absurd changes
+unmarked directory first course (Map at marks ∷ tasks) agenda changes = agenda.0.0
+unmarked directory first course (Copy move ∷ tasks) agenda changes = absurd changes
+unmarked directory first course (Pointer move ∷ tasks) agenda changes = absurd changes
+
 are_few : (units : ℕ) (session : Present) (course : Course) (tasks : List Task) (opened : Opened) (writes moves : ℕ) → HasCome session course opened writes moves
-    → IsFewLost units session.lost_at_first course tasks → AreFew units opened writes moves (length course.lost)
-are_few units session course tasks opened writes moves come (inl one) = inl one
-are_few units session course tasks opened writes moves come (inr (inl two)) = inr (inl two)
-are_few units session course tasks opened writes moves come (inr (inr (inl (none, few)))) =
-    inr (inr (inl (omega (arith, none, come.writes_are), omega (arith, few, come.lost))))
-are_few units session course tasks opened writes moves come (inr (inr (inr (several, none, changes, few)))) =
-    inr (inr (inr (several, omega (arith, none, come.moves_are), omega (arith, few, come.lost))))
+    → HasBegun units opened.lost course tasks → (ChangesMap tasks → course.copied ≡ None) → IsFewLost units session.lost_at_first course tasks
+    → AreFew units opened writes course.lost
+are_few units session course tasks opened writes moves come begun unmarked (inl one) = inl one
+are_few units session course tasks opened writes moves come begun unmarked (inr (inl two)) = inr (inl two)
+are_few units session course tasks opened writes moves come begun unmarked (inr (inr (inl (none, few)))) =
+    inr (inr (inl (omega (arith, none, come.writes_are), begun.none_made none)))
+are_few units session course tasks opened writes moves come begun unmarked (inr (inr (inr (several, none, changes, few)))) =
+    let now = begun.begins none (unmarked changes) changes in
+    inr (inr (inr (several, omega (arith, now.count, some_writes tasks changes, come.writes_are), omega (arith, few, come.lost), begun.to, now.lost)))
 
 module _ (format : Meaning) (movable : IsMovable format) where
   pub open_layout : (opening : Directory) (store : List (List ℕ)) (session : Present) (course : Course) → IsOpen format opening store session.parts course
@@ -57,15 +66,16 @@ module _ (format : Meaning) (movable : IsMovable format) where
       stands_as format movable is.directory (movable.described store is.directory is.accepted.described) store session.parts course.at is.stands is.accepted
 
   pub open_few : (store : List (List ℕ)) (session : Present) (course : Course) (tasks : List Task) (opened : Opened) (writes moves : ℕ)
-      → IsOpen format session.opening store session.parts course → IsFewLost (length session.opening.map_units) session.lost_at_first course tasks
-      → HasCome session course opened writes moves → HasFewLost format opened store writes moves
-  open_few store session course tasks opened writes moves is few come = record {
+      → IsOpen format session.opening store session.parts course → IsAgenda session.opening session.lost_at_first course tasks
+      → HasCome session course opened writes moves → HasBegun (length session.opening.map_units) opened.lost course tasks → HasFewLost format opened store writes
+  open_few store session course tasks opened writes moves is agenda come begun = record {
     directory = is.directory;
     described = is.accepted.described;
     lost = course.lost;
-    all = λ place lost. (is.lost place).1 lost;
-    few = subst (λ (units : List ℕ). AreFew (length units) opened writes moves (length course.lost)) (sym (same_units session.opening is.directory is.frame))
-        (are_few (length session.opening.map_units) session course tasks opened writes moves come few);
+    all = is.lost;
+    few = subst (λ (units : List ℕ). AreFew (length units) opened writes course.lost) (sym (same_units session.opening is.directory is.frame))
+        (are_few (length session.opening.map_units) session course tasks opened writes moves come begun
+        (unmarked session.opening session.lost_at_first course tasks agenda) (agenda_few session.opening session.lost_at_first course tasks agenda));
   }
 
   module _ (laws : IsReadable format) (old : Present) (course : Course) (session : IsSession format old course) (was : IsOpen format old.opening old.device.store old.parts course)
@@ -90,12 +100,18 @@ module _ (format : Meaning) (movable : IsMovable format) where
       lost = come.lost;
     }
 
+    pub begun_after : (opened : Opened) → HasBegun (length old.opening.map_units) opened.lost course old.tasks
+        → HasBegun (length old.opening.map_units) opened.lost after next.rest
+    begun_after opened begun = begun_next old.opening (length old.opening.map_units) opened.lost course next.task next.rest
+        (subst (HasBegun (length old.opening.map_units) opened.lost course) next.first begun)
+
     -- the moment after the write
     abbrev pub written_moment : Moment → Moment
     written_moment now = record now { store = slice_set now.store place unit; writes = now.writes + 1; moves = now.moves + moves_by next.task }
 
-    pub is_write : (now : Moment) → old.device.store ≡ now.store → HasCome old course now.opened now.writes now.moves → Writes format now (written_moment now)
-    is_write now same come = record {
+    pub is_write : (now : Moment) → old.device.store ≡ now.store → HasCome old course now.opened now.writes now.moves
+        → HasBegun (length old.opening.map_units) now.opened.lost course old.tasks → Writes format now (written_moment now)
+    is_write now same come begun = record {
       place = place;
       unit = unit;
       written = refl;
@@ -111,8 +127,8 @@ module _ (format : Meaning) (movable : IsMovable format) where
         described = opens.accepted.described;
         change = ⊎_elim (λ still. inl still) (λ moves. inr (subst (λ n. MovesOne n course.at after.at) places moves.0, moves.1)) (change next.task next.rest next.first now.moves);
       };
-      few = open_few (slice_set now.store place unit) old after next.rest now.opened (now.writes + 1) (now.moves + moves_by next.task) opens few
-          (come_after now.opened now.writes now.moves come);
+      few = open_few (slice_set now.store place unit) old after next.rest now.opened (now.writes + 1) (now.moves + moves_by next.task) opens agenda
+          (come_after now.opened now.writes now.moves come) (begun_after now.opened begun);
     }
       where
         opens : IsOpen format old.opening (slice_set now.store place unit) old.parts after
@@ -121,5 +137,5 @@ module _ (format : Meaning) (movable : IsMovable format) where
         places : old.places ≡ length opens.directory.available
         places = session.available ∙ ap (λ (xs : List ℕ). length xs) (sym (same_available old.opening opens.directory opens.frame))
 
-        few : IsFewLost (length old.opening.map_units) old.lost_at_first after next.rest
-        few = agenda_few old.opening old.lost_at_first after next.rest (first_fits format old course session next.task next.rest next.first).2
+        agenda : IsAgenda old.opening old.lost_at_first after next.rest
+        agenda = (first_fits format old course session next.task next.rest next.first).2

@@ -1,14 +1,16 @@
 -- What a replay holds at a moment of its run.
-use Rattle.std.specs.Prelude.{◌≡◌, ◌⊎◌, ◌≤◌, ℕ, ◌+◌, Bool, true, false, List, [], ◌∷◌, length, take, Option, Some, None}
+use Rattle.std.specs.Prelude.{◌≡◌, ◌⊎◌, ◌≤◌, ℕ, ◌+◌, Bool, true, false, List, [], ◌∷◌, length, take, All, Option, Some, None}
 use Rattle.a2_device.specs.Device.{DeviceState, last_count}
 use Rattle.vol_format.specs.Accepted.{IsVolume}
 use Rattle.vol_format.specs.Meaning.{Meaning}
-use Rattle.plan_writes.specs.Tasks.{Course}
+use Rattle.write_laws.specs.declared.mark.Mark.{Mark}
+use Rattle.plan_writes.specs.Tasks.{ChangesMap, Course, Task, Map}
 use Rattle.vol_mover.specs.Present.{Present, IsSession}
 use Rattle.event_replay.specs.Holds.{Holds, ASession, ADevice, device_of}
 use Rattle.event_replay.specs.Moments.{Moment, Opened, SessionState, Open, Closed, Absent, first_moment}
 use Rattle.event_replay.specs.Orders.{MeetsOrders}
 use Rattle.event_replay.specs.Runs.{Begins, IsRun, last_of}
+use Rattle.event_replay.specs.Volumes.{IsAmong}
 use Rattle.event_replay.specs.declared.event.Answer.{Answer}
 use Rattle.event_replay.specs.declared.event.Event.{Event}
 use Rattle.file_formats.specs.Files.{FileMeaning}
@@ -37,7 +39,38 @@ pub record IsDeviceAt (base left : ℕ) (device : DeviceState) (fails_read : Boo
 pub record HasCome (session : Present) (course : Course) (opened : Opened) (writes moves : ℕ) : Type 0 where
   pub writes_are : writes ≡ opened.writes + course.writes
   pub moves_are : moves ≡ opened.moves + course.moves
-  pub lost : session.lost_at_first ≡ opened.lost
+  pub lost : session.lost_at_first ≡ length opened.lost
+
+-- how many writes of the map come next
+abbrev pub map_writes : List Task → ℕ
+map_writes (Map at marks ∷ tasks) = map_writes tasks + 1
+map_writes tasks = 0
+
+-- a mark is made of no place but this one, or takes one away
+abbrev pub OnlyMarks : ℕ → Mark → Type 0
+OnlyMarks to mark = (mark.free ≡ true) ⊎ (mark.place ≡ to)
+
+-- so are all marks of the writes of the map that come next
+abbrev pub MarksOnly : ℕ → List Task → Type 0
+MarksOnly to (Map at marks ∷ tasks) = All (OnlyMarks to) marks × MarksOnly to tasks
+MarksOnly to tasks = Unit {0}
+
+-- In the first change of the map no more writes come than it has units. They mark one place used at most; and that is the
+-- one place that is lost now and was not at first.
+pub record InFirstChange (units : ℕ) (first : List ℕ) (to : ℕ) (course : Course) (tasks : List Task) : Type 0 where
+  pub count : course.writes + map_writes tasks ≤ units
+  pub marks : MarksOnly to tasks
+  pub lost : All (IsAmong to first) course.lost
+
+abbrev pub BeginsWork : ℕ → List ℕ → ℕ → Course → List Task → Type 0
+BeginsWork units first to course tasks =
+    course.moves ≡ 0 → course.copied ≡ None → ChangesMap tasks → InFirstChange units first to course tasks
+
+-- what is lost in the first change of the map, and before
+pub record HasBegun (units : ℕ) (first : List ℕ) (course : Course) (tasks : List Task) : Type 0 where
+  pub none_made : course.writes ≡ 0 → course.lost ≡ first
+  pub to : ℕ
+  pub begins : BeginsWork units first to course tasks
 
 -- an open session, whose work has come this far
 pub record IsOpenAt (format : Meaning) (session : Present) (state : SessionState) (opened : Opened) (writes moves : ℕ) : Type 0 where
@@ -46,6 +79,7 @@ pub record IsOpenAt (format : Meaning) (session : Present) (state : SessionState
   pub course : Course
   pub is : IsSession format session course
   pub come : HasCome session course opened writes moves
+  pub begun : HasBegun (length session.opening.map_units) opened.lost course session.tasks
 
 -- a session, open or closed, or none
 abbrev pub IsHeldAt : Meaning → Holds → SessionState → List (List ℕ) → Opened → ℕ → ℕ → Type 0
@@ -76,5 +110,5 @@ pub record RanTo {A : Type 0} (format : Meaning) (files : FileMeaning) (base : �
 -- A run from the first moment on a store to a device; or there was no memory for the first opening.
 pub record RanFrom {A : Type 0} (format : Meaning) (files : FileMeaning) (base : ℕ) (store : List (List ℕ)) (events : List Event) (answers : List (Answer A)) (device : DeviceState) : Type 0 where
   pub first : Moment
-  pub begins : Begins A format store first ⊎ ((answers ≡ []) × (first ≡ first_moment store Absent 0))
+  pub begins : Begins A format store first ⊎ ((answers ≡ []) × (first ≡ first_moment store Absent []))
   pub ran : RanTo format files base first events answers device

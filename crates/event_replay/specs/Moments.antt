@@ -20,9 +20,10 @@ IsNotOpen (Open left) = ⊥
 IsNotOpen Closed = Unit {0}
 IsNotOpen Absent = Unit {0}
 
--- What was there when the session was opened last: how many places were lost, how many unit writes stood, and how often they had changed the layout.
+-- What was there when the session was opened last: which places were lost, how many unit writes stood, and how often they
+-- had changed the layout.
 pub record Opened : Type 0 where
-  pub lost : ℕ
+  pub lost : List ℕ
   pub writes : ℕ
   pub moves : ℕ
 
@@ -37,8 +38,8 @@ pub record Moment : Type 0 where
   pub moves : ℕ
   pub opened : Opened
 
--- the first moment on a store, with this session, opened when so many places were lost
-abbrev pub first_moment : List (List ℕ) → SessionState → ℕ → Moment
+-- the first moment on a store, with this session, opened when these places were lost
+abbrev pub first_moment : List (List ℕ) → SessionState → List ℕ → Moment
 first_moment store session lost = record {
   store = store;
   session = session;

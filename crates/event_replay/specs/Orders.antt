@@ -25,4 +25,5 @@ NoneTried honest order at writes = IsTrue honest → IsTrue (is_ordered order) �
 -- A device that never runs out of writes to pass on; and while a write is ordered to fail, none has come through since.
 pub record MeetsOrders (device : DeviceState) : Type 0 where
   pub passes : device.passes ≢ Some 0
-  pub none_tried : IsTrue device.honest → (took : Bool) → device.write_failures ≡ Some (took ∷ []) → device.passes ≡ Some (last_count + 1)
+  pub none_tried : IsTrue device.honest → (took : Bool) → device.write_failures ≡ Some (took ∷ [])
+      → device.passes ≡ Some (last_count + 1)

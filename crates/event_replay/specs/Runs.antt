@@ -46,7 +46,7 @@ pub data Reads {A : Type 0} (format : Meaning) (files : FileMeaning) (path : Lis
 
 -- A session is opened anew on the same store; or a read met the failure that was ordered, or the volume can't be opened, and then there is none.
 pub data Stops {A : Type 0} (format : Meaning) (old : Moment) : Answer A → Moment → Type 0 where
-  opened : (lost writes : ℕ) → Opens format old.store lost writes
+  opened : (lost : List ℕ) (writes : ℕ) → Opens format old.store lost writes
       → Stops format old Stepped (record old { session = Open writes; opened = record { lost = lost; writes = old.writes; moves = old.moves } })
   failed : old.fails_read ≡ true → Stops format old Refused (record old { session = Absent; fails_read = false })
   refused : (error : OpenError A) → CantOpen format old.store error → Stops format old Refused (record old { session = Absent })
@@ -72,8 +72,9 @@ last_of first (next ∷ run) = last_of next run
 
 -- The first moment: a session that was opened on the store, or none, where it can't be opened. No failure is ordered.
 pub data Begins (A : Type 0) (format : Meaning) (store : List (List ℕ)) : Moment → Type 0 where
-  opened : (lost writes : ℕ) → Opens format store lost writes → Begins A format store (first_moment store (Open writes) lost)
-  refused : (error : OpenError A) → CantOpen format store error → Begins A format store (first_moment store Absent 0)
+  opened : (lost : List ℕ) (writes : ℕ) → Opens format store lost writes
+      → Begins A format store (first_moment store (Open writes) lost)
+  refused : (error : OpenError A) → CantOpen format store error → Begins A format store (first_moment store Absent [])
 
 -- a read that gives bytes gives those of the first file of the path, in the list of files at first; no bytes are given for a path that no file of it has
 abbrev pub ReadsFile : {A : Type 0} → Meaning → FileMeaning → List File → Event → Answer A → Type 0
@@ -90,7 +91,7 @@ pub record KeepsVolume (format : Meaning) (all : List File) (first now : Moment)
 
 -- few places are lost, as at the last opening
 abbrev pub LosesFew : Meaning → Moment → Type 0
-LosesFew format now = HasFewLost format now.opened now.store now.writes now.moves
+LosesFew format now = HasFewLost format now.opened now.store now.writes
 
 -- a stop opens a session, unless it met the failure that was ordered
 abbrev pub Reopens : Moment → Event → Moment → Type 0
@@ -116,7 +117,7 @@ pub record KeepsAll {A : Type 0} (format : Meaning) (files : FileMeaning) (all :
 -- nothing either, over as many events more as its count of writes has room for.
 pub record IsReplay {A : Type 0} (format : Meaning) (files : FileMeaning) (events : List Event) (answers : List (Answer A)) (old new : DeviceState) : Type 0 where
   pub first : Moment
-  pub begins : Begins A format old.store first ⊎ ((answers ≡ []) × (first ≡ first_moment old.store Absent 0))
+  pub begins : Begins A format old.store first ⊎ ((answers ≡ []) × (first ≡ first_moment old.store Absent []))
   pub opens : HasRoom format old.store → (answers ≡ []) ⊎ HasSession first.session
   pub run : List Moment
   pub is_run : IsRun format files first (take (length answers) events) answers run

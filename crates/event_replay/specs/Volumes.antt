@@ -1,5 +1,5 @@
 -- What is told of the stores of a replay.
-use Rattle.std.specs.Prelude.{◌≡◌, ◌⊎◌, ◌≤◌, ℕ, ◌+◌, true, List, length, slice_set, Contains}
+use Rattle.std.specs.Prelude.{◌≡◌, ◌⊎◌, ◌↔◌, ◌≤◌, ◌<◌, ℕ, ◌+◌, true, List, length, slice_set, All, Contains}
 use Rattle.vol_parts.specs.declared.part.Part.{Part}
 use Rattle.vol_layout.specs.Layouts.{IsTarget}
 use Rattle.vol_layout.specs.Rings.{IsDeficit}
@@ -33,22 +33,28 @@ pub record HasDeficit (format : Meaning) (store : List (List ℕ)) (deficit : �
   pub layout : HasLayout format store at
   pub is : IsDeficit at deficit
 
--- One place is lost at most, or two where the map has several units; or, until a unit write stands since the last opening, as many as were lost then; or, where the map
--- has several units and until the layout changes, one more.
-abbrev pub AreFew : ℕ → Opened → ℕ → ℕ → ℕ → Type 0
-AreFew units opened writes moves lost =
-    (lost ≤ 1)
-    ⊎ ((2 ≤ units) × (lost ≤ 2))
-    ⊎ ((writes ≡ opened.writes) × (lost ≤ opened.lost))
-    ⊎ ((2 ≤ units) × (moves ≡ opened.moves) × (lost ≤ opened.lost + 1))
+-- a place is this one, or one of those that were lost at first
+abbrev pub IsAmong : ℕ → List ℕ → ℕ → Type 0
+IsAmong to first place = (place ≡ to) ⊎ Contains first place
 
--- the lost places of a store are among these few
-pub record HasFewLost (format : Meaning) (opened : Opened) (store : List (List ℕ)) (writes moves : ℕ) : Type 0 where
+-- One place is lost at most, or two where the map has several units. But until the first write after an opening those are
+-- lost that were lost then; and where the map has several units, until its first change is whole, which takes one write for
+-- each at most, those that are lost were lost then, but for one place.
+abbrev pub AreFew : ℕ → Opened → ℕ → List ℕ → Type 0
+AreFew units opened writes lost =
+    (length lost ≤ 1)
+    ⊎ ((2 ≤ units) × (length lost ≤ 2))
+    ⊎ ((writes ≡ opened.writes) × (lost ≡ opened.lost))
+    ⊎ ((2 ≤ units) × (writes < opened.writes + units) × (length lost ≤ length opened.lost + 1)
+    × (to : ℕ) × All (IsAmong to opened.lost) lost)
+
+-- the lost places of a store are these few
+pub record HasFewLost (format : Meaning) (opened : Opened) (store : List (List ℕ)) (writes : ℕ) : Type 0 where
   pub directory : Directory
   pub described : format.Describes store directory
   pub lost : List ℕ
-  pub all : (place : ℕ) → IsLost format directory store place → Contains lost place
-  pub few : AreFew (length directory.map_units) opened writes moves (length lost)
+  pub all : (place : ℕ) → Contains lost place ↔ IsLost format directory store place
+  pub few : AreFew (length directory.map_units) opened writes lost
 
 -- The layout stays; or one part moves, by a legal move, which lowers the deficit by one, and that is a change more.
 pub record ChangesLayout (format : Meaning) (old new : List (List ℕ)) (before after : ℕ) : Type 0 where
@@ -69,16 +75,17 @@ pub record Writes (format : Meaning) (old new : Moment) : Type 0 where
   pub volume : IsVolume format new.store
   pub same : SameVolume format old.store new.store
   pub layout : ChangesLayout format old.store new.store old.moves new.moves
-  pub few : HasFewLost format old.opened new.store new.writes new.moves
+  pub few : HasFewLost format old.opened new.store new.writes
 
--- A store on which a session is opened: accepted, with a free place or in order; how many of its places are lost, and how many writes bring its parts home.
-pub record Opens (format : Meaning) (store : List (List ℕ)) (lost writes : ℕ) : Type 0 where
+-- A store on which a session is opened: accepted, with a free place or in order; which of its places are lost, and how many
+-- writes bring its parts home.
+pub record Opens (format : Meaning) (store : List (List ℕ)) (lost : List ℕ) (writes : ℕ) : Type 0 where
   pub directory : Directory
   pub accepted : IsAccepted format directory store
   pub parts : List Part
   pub are_parts : IsPartsOf format directory store parts
   pub free : ¬ LacksFreePlace (record { at = layout_of directory parts; places = length directory.available })
-  pub lost_are : lost ≡ length (lost_places directory parts)
+  pub lost_are : lost ≡ lost_places directory parts
   pub takes : TakesWrites (length directory.map_units) (layout_of directory parts) (lost_places directory parts) writes
 
 -- an accepted volume that has a free place or is in order

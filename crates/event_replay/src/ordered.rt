@@ -54,7 +54,8 @@ impl<D: Device> Device for Ordered<D> {
 
     ghost state = { λ s. since s.ordered_at (⟦<FaultDevice<Unfailing<D>> as Device>⟧.state s.device) };
 
-    ghost whole = { λ s h. let whole = D.whole s.device.device.device (first_test _ _ h) in record { all = whole.all; units = whole.units } };
+    ghost whole = { λ s h. let whole = D.whole s.device.device.device (first_test _ _ h) in
+        record { all = whole.all; units = whole.units } };
 
     fn places(&self) -> u32 {
         self.device.places()
@@ -85,7 +86,8 @@ impl<D: Device> FailsToOrder for Ordered<D> {
     ghost use Rattle.event_replay.specs.lemmas.Meeting.{orders_are_met};
 
     ghost meets_orders = { λ s. let within = s.device.device in
-        orders_are_met s.device.read_order s.device.writes s.device.faults within.failed (D.state within.device) s.ordered_at s.device.write_order s.none_tried };
+        orders_are_met s.device.read_order s.device.writes s.device.faults within.failed (D.state within.device) s.ordered_at
+        s.device.write_order s.none_tried };
 
     fn order_read(&mut self) {
         self.device.fail_read();

@@ -8,5 +8,5 @@ mod Spare
 mod Released
 mod Changed
 mod Whole
-mod Counts
+pub mod Counts
 mod Totals

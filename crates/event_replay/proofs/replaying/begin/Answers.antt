@@ -15,7 +15,7 @@ returns-in-Ok-clause-ran g c = λ base store at.
     let made = c.in-Ok.ensures in
     let held = holds g.D.Device.state g.F.Format.directory c.in-Ok.replay in
     let left = length c.args.events.now in
-    let line = begin_line g.row.A.Denot (meaning format) base left store (g.D.Device.state c.args.device) at c.in-Ok._answer held made.opens in
+    let line = begin_line g.row.A.Denot (meaning format) (g.met.F.WritableFormat.movable format) base left store (g.D.Device.state c.args.device) at c.in-Ok._answer held made.opens in
     let ran = c.run.ensures.ran base line.0 (subst (λ f. IsAt (meaning f) base left held line.0) (sym made.format) line.2) in
     record {
       first = line.0;
