@@ -45,28 +45,32 @@ pub record HasFirst (format : Meaning) (files : FileMeaning) (store : List (List
   pub first : IsFirstNamed files directory path file
   pub is : Is directory file
 
--- Why the file of an entry is not renamed: no file may have the name; a file may, but an entry beside its own has it; a file may and none beside has it,
--- but its entry keeps the name that it has. So each cause says that those before it are not there, and none of them is where the file is renamable.
+-- Why the file of an entry is not renamed: no file may have the name; a file may, but an entry beside its own has it;
+-- none beside has it, but its entry keeps the name that it has. Each cause says that those before it are not there.
 abbrev pub IsNoName : NameMeaning → List ℕ → Type 0
 IsNoName names new = names.may_have new ≡ false
 
 abbrev pub IsNameInUse : NameMeaning → List (List ℕ) → Directory → ℕ → List ℕ → Type 0
 IsNameInUse names store directory file new = (names.may_have new ≡ true) × names.HasBeside store directory file new
 
-pub record IsNameKept (names : NameMeaning) (store : List (List ℕ)) (directory : Directory) (file : ℕ) (new : List ℕ) : Type 0 where
+pub record IsNameKept (names : NameMeaning) (store : List (List ℕ)) (directory : Directory) (file : ℕ) (new : List ℕ)
+    : Type 0 where
   pub name : names.may_have new ≡ true
   pub alone : ¬ names.HasBeside store directory file new
   pub keeps : names.keeps (entry_of directory file).bytes ≡ true
 
 -- the same of the first file that the path names, on an accepted volume
 abbrev pub HasFirstUnnamed : Meaning → FileMeaning → NameMeaning → List (List ℕ) → List ℕ → List ℕ → Type 0
-HasFirstUnnamed format files names store path new = HasFirst format files store path (λ directory file. IsNoName names new)
+HasFirstUnnamed format files names store path new =
+    HasFirst format files store path (λ directory file. IsNoName names new)
 
 abbrev pub HasFirstBeside : Meaning → FileMeaning → NameMeaning → List (List ℕ) → List ℕ → List ℕ → Type 0
-HasFirstBeside format files names store path new = HasFirst format files store path (λ directory file. IsNameInUse names store directory file new)
+HasFirstBeside format files names store path new =
+    HasFirst format files store path (λ directory file. IsNameInUse names store directory file new)
 
 abbrev pub HasFirstLocked : Meaning → FileMeaning → NameMeaning → List (List ℕ) → List ℕ → List ℕ → Type 0
-HasFirstLocked format files names store path new = HasFirst format files store path (λ directory file. IsNameKept names store directory file new)
+HasFirstLocked format files names store path new =
+    HasFirst format files store path (λ directory file. IsNameKept names store directory file new)
 
 -- what is told of an entry that was asked for by reads of the device
 abbrev pub IsAnswer : Type 0 → Result Bool EditError → Type 0

@@ -27,7 +27,7 @@ pub record IsOwnPlace (format : Meaning) (directory few : Directory) (file : ℕ
 
 -- The writes that delete the file of an entry. Those to the directory come first: from the first of them on the store has the directory without
 -- that entry, `few`, and no unit outside the system is written. Then come the units of the map, in rising order and each once, none of them a unit that was written
--- before and none without a place, in which the places of the file are marked free: these places alone, and all of them.
+-- before, and none without a place, in which the places of the file are marked free: these places alone, all of them.
 pub record IsDeletion (format : Meaning) (directory : Directory) (file : ℕ) (store : List (List ℕ)) (writes : List Write) : Type 0 where
   pub few : Directory
   pub takes : format.Takes few.places

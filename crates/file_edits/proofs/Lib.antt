@@ -2,3 +2,4 @@ mod FirstNamed
 mod RewrittenFile
 mod Locked
 mod Renamed
+mod OneAnswer

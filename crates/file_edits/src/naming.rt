@@ -5,7 +5,9 @@ ghost use Rattle.vol_format.specs.Directory.{entries, entry_of};
 ghost use Rattle.a2_device.specs.Device.{OnlyReads, unit_at};
 ghost use Rattle.edit_formats.specs.Edited.{HasNoSuchFile, HasChanged, IsOldOrChanged};
 ghost use Rattle.edit_writes.specs.Refusal.{told_device};
-ghost use Rattle.edit_formats.specs.Renamed.{IsRenameEdit, IsRenamable, HasFirst, HasFirstUnnamed, HasFirstBeside, HasFirstLocked, IsWeighed, IsRenameTold, IsRenameRefusal, IsEntryRefusal, with_new_name};
+ghost use Rattle.edit_formats.specs.Renamed.{HasFirst, HasFirstUnnamed, HasFirstBeside, HasFirstLocked};
+ghost use Rattle.edit_formats.specs.Renamed.{IsRenameEdit, IsRenamable, IsWeighed, IsRenameTold};
+ghost use Rattle.edit_formats.specs.Renamed.{IsRenameRefusal, IsEntryRefusal, with_new_name};
 ghost use Rattle.edit_laws.specs.Writes.{Write};
 ghost use Rattle.edit_writes.specs.Writes.{HasEdited};
 
@@ -178,11 +180,13 @@ pub fn rename<D: Device, F: EditableFormat, A: Allocator + Copy>(
     ensures not_found { IsTrue (D.state device.old).honest → result ≡ Err EditError.NotFound
         → HasNoSuchFile (F.meaning format.now) (F.files format.now) (D.state device.old).store path.now }
     ensures name { IsTrue (D.state device.old).honest → result ≡ Err EditError.Name
-        → HasFirstUnnamed (F.meaning format.now) (F.files format.now) (F.names format.now) (D.state device.old).store path.now new.now }
+        → HasFirstUnnamed (F.meaning format.now) (F.files format.now) (F.names format.now) (D.state device.old).store
+        path.now new.now }
     ensures exists { IsTrue (D.state device.old).honest → result ≡ Err EditError.Exists
         → HasFirstBeside (F.meaning format.now) (F.files format.now) (F.names format.now) (D.state device.old).store path.now new.now }
     ensures locked { IsTrue (D.state device.old).honest → result ≡ Err EditError.Locked
-        → HasFirstLocked (F.meaning format.now) (F.files format.now) (F.names format.now) (D.state device.old).store path.now new.now }
+        → HasFirstLocked (F.meaning format.now) (F.files format.now) (F.names format.now) (D.state device.old).store
+        path.now new.now }
 {
     rename_first(alloc, device, format, path, new)
 }

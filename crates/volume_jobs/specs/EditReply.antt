@@ -41,8 +41,9 @@ abbrev pub IsOldOrEdited : EditView → Text → FileMeaning → EditRules → M
 IsOldOrEdited Delete name files rules format old new = IsOldOrErased format files name old new
 IsOldOrEdited edit name files rules format old new = IsOldOrChanged format (edited_files edit name files rules) old new
 
--- Why an edit is refused, of several causes the first: the volume is not accepted; no file of it has the name; no file may get the new name; an entry beside
--- the file has it; the entry of the file does not let it be deleted or renamed. Nothing else is told as refused.
+-- Why an edit is refused, of several causes the first: the volume is not accepted; no file of it has the name; no file
+-- may get the new name; an entry beside the file has it; the entry of the file does not let it be deleted or renamed.
+-- Nothing else is told as refused.
 abbrev pub IsCause : Refusal → EditView → Text → FileMeaning → EditRules → Meaning → List (List ℕ) → Type 0
 IsCause refusals.Check edit name files rules format store = ¬ IsVolume format store
 IsCause refusals.NotFound edit name files rules format store = HasNoSuchFile format files store name

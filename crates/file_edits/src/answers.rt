@@ -1,0 +1,15 @@
+// What holds of the answers of a command that changes a file.
+ghost use Rattle.std.specs.Prelude.{◌≡◌, ℕ, List, Result};
+ghost use Rattle.file_edits.specs.Answers.{IsRenameAnswer};
+
+use edit_formats::EditableFormat;
+use edit_writes::EditError;
+
+/// A law: a volume has one answer to a path and a new name. So where memory is there and no call of the device fails, a
+/// file is renamed exactly where no cause stands in the way, and each cause is told exactly where it is the first.
+pub fn a_rename_has_one_answer<F: EditableFormat>(format: &F)
+    ensures { (store : List (List ℕ)) (path new : List ℕ) (one other : Result (Unit {0}) EditError)
+        → IsRenameAnswer (F.meaning format.now) (F.files format.now) (F.names format.now) store path new one
+        → IsRenameAnswer (F.meaning format.now) (F.files format.now) (F.names format.now) store path new other
+        → one ≡ other }
+{}
