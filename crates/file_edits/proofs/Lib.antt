@@ -3,3 +3,5 @@ mod RewrittenFile
 mod Locked
 mod Renamed
 mod OneAnswer
+mod OneRename
+mod OneDeletion

@@ -1,6 +1,6 @@
 // What holds of the answers of a command that changes a file.
 ghost use Rattle.std.specs.Prelude.{◌≡◌, ℕ, List, Result};
-ghost use Rattle.file_edits.specs.Answers.{IsRenameAnswer};
+ghost use Rattle.file_edits.specs.Answers.{IsDeleteAnswer, IsRenameAnswer};
 
 use edit_formats::EditableFormat;
 use edit_writes::EditError;
@@ -11,5 +11,13 @@ pub fn a_rename_has_one_answer<F: EditableFormat>(format: &F)
     ensures { (store : List (List ℕ)) (path new : List ℕ) (one other : Result (Unit {0}) EditError)
         → IsRenameAnswer (F.meaning format.now) (F.files format.now) (F.names format.now) store path new one
         → IsRenameAnswer (F.meaning format.now) (F.files format.now) (F.names format.now) store path new other
+        → one ≡ other }
+{}
+
+/// A law: a volume has one answer to the path of a file that is to be deleted.
+pub fn a_deletion_has_one_answer<F: EditableFormat>(format: &F)
+    ensures { (store : List (List ℕ)) (path : List ℕ) (one other : Result (Unit {0}) EditError)
+        → IsDeleteAnswer (F.meaning format.now) (F.files format.now) (F.erasures format.now) store path one
+        → IsDeleteAnswer (F.meaning format.now) (F.files format.now) (F.erasures format.now) store path other
         → one ≡ other }
 {}
