@@ -18,11 +18,13 @@ abbrev pub Any : OfEntry
 Any directory file = Unit {0}
 
 -- what is said of the first entry that a path names
-module _ (format : Meaning) (laws : IsReadable format) (files : FileMeaning) (store : List (List ℕ)) (path : List ℕ) where
+module _ (format : Meaning) (laws : IsReadable format) (files : FileMeaning) (store : List (List ℕ))
+    (path : List ℕ) where
   abbrev First : OfEntry → Type 0
   First Is = HasFirst format files store path Is
 
-  pub also : (P Q : OfEntry) → ((directory : Directory) (file : ℕ) → P directory file → Q directory file) → First P → First Q
+  pub also : (P Q : OfEntry) → ((directory : Directory) (file : ℕ) → P directory file → Q directory file)
+      → First P → First Q
   also P Q follows has = record {
     directory = has.directory;
     accepted = has.accepted;
@@ -70,7 +72,7 @@ module _ (format : Meaning) (laws : IsReadable format) (files : FileMeaning) (st
       let unnamed = no_name has.file has.first.inside in
       cc
 
--- Each stage that is passed lies behind those before it; a command ends at one that is passed where the next one is not.
+-- Each stage that is passed lies behind those before it; a command ends at one that is passed and the next one is not.
 module _ (Passed : ℕ → Type 0) (fewer : (n : ℕ) → Passed (suc n) → Passed n) where
   all_fewer : (more n : ℕ) → Passed (more + n) → Passed n
   all_fewer zero n passed = let none : 0 + n ≡ n = omega arith in subst Passed none passed
