@@ -86,18 +86,8 @@ pub fn answered<A: Allocator + Copy>(
     replay(heap, dos_device(image), format, events)
 }
 
-/// How the events end on an image.
-pub fn end_of(
-    alloc: Global,
-    image: Vec<u8>,
-    format: &Dos33,
-    events: &[Event],
-    told: &[Told],
-) -> Ended
-    requires { vec_len image ≡ 143360 }
-{
-    let (answers, device) = answered(alloc, image, format, events);
-    let as_told = are_told(answers.as_slice(), told);
+/// How the events ended on a device, with these answers.
+pub fn end_on(alloc: Global, device: ImageDevice, format: &Dos33, as_told: bool) -> Ended {
     let writes = device.writes();
     let image = device.into_image().into_bytes();
     let moves_left = if image.len() == 143_360 {
@@ -110,4 +100,18 @@ pub fn end_of(
         writes,
         moves_left,
     }
+}
+
+/// How the events end on an image.
+pub fn end_of(
+    alloc: Global,
+    image: Vec<u8>,
+    format: &Dos33,
+    events: &[Event],
+    told: &[Told],
+) -> Ended
+    requires { vec_len image ≡ 143360 }
+{
+    let (answers, device) = answered(alloc, image, format, events);
+    end_on(alloc, device, format, are_told(answers.as_slice(), told))
 }
