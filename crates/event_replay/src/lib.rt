@@ -6,8 +6,9 @@
 //! the changes of the layout and the deficit now are together the deficit at first (`KeepsAll`): so neither a stop nor a failure costs a move.
 //!
 //! Inside, a replay holds a session over its device, or the device alone (`specs/Holds.antt`, over every device); that this is what a moment says is the invariant
-//! (`specs/Held.antt`). The device that was handed in stands in one that counts as standing what it counts as written (`specs/Unfailing.antt`), so that the count of writes that
-//! is handed back is known.
+//! (`specs/Held.antt`). The device that was handed in stands in one that counts as standing what it counts as written
+//! (`specs/Unfailing.antt`), so that the count of writes that is handed back is known; and that one in a device that fails to
+//! order, whose state tells that no write has come through since one was ordered to fail (`specs/Orders.antt`).
 #![tactic(auto)]
 
 mod event;
