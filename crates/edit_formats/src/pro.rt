@@ -36,7 +36,7 @@ impl<A: Allocator + Copy> EditableFormat for Prodos<A> {
 
     fn put_lock(&self, volume: &ProVolume<A>, file: u32, unit: &mut [u8], on: bool) {
         let entry = &volume.directory().entries()[file as usize];
-        set_access(unit, entry.slot, locked_access(entry.access(), on));
+        set_access(unit, entry.slot as u32, locked_access(entry.access(), on));
     }
 
     ghost file_free = { λ f. pro_is_file_free f };
@@ -71,7 +71,7 @@ impl<A: Allocator + Copy> EditableFormat for Prodos<A> {
 
     fn put_name(&self, volume: &ProVolume<A>, file: u32, unit: &mut [u8], name: &[u8]) {
         let entry = &volume.directory().entries()[file as usize];
-        set_name(unit, entry.slot, &pro_name(name), name.len() as u8);
+        set_name(unit, entry.slot as u32, &pro_name(name), name.len() as u8);
     }
 
     ghost namable = { λ f. pro_is_namable f };

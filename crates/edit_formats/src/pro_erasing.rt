@@ -48,12 +48,13 @@ pub(crate) fn erase_entry<D: Device, A: Allocator + Copy>(
     ensures erases { IsTrue (D.state device.old).honest → IfOk result (λ writes. map write_of writes.items ≡ pro_erasing entry.now (D.state device.old).store) }
     ensures known { entry.now.directory < (D.state device.old).places → result ≢ Err EditError.Check }
 {
-    if entry.directory >= device.places() {
+    let directory = entry.directory as u32;
+    if directory >= device.places() {
         return Err(EditError::Check);
     }
-    let block = copy_unit(alloc, device, entry.place)?;
-    let unit = without_entry(block, entry.slot);
-    let place = entry.place;
+    let place = entry.place as u32;
+    let block = copy_unit(alloc, device, place)?;
+    let unit = without_entry(block, entry.slot as u32);
     let erased = Prepared { place, unit };
-    counted_writes(alloc, device, FileCount::Less, erased, entry.directory)
+    counted_writes(alloc, device, FileCount::Less, erased, directory)
 }

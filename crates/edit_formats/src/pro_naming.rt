@@ -58,9 +58,7 @@ pub fn pro_name(name: &[u8]) -> [u8; 15]
 pub fn is_name_in(key: u32, name: &[u8], entries: &[Entry]) -> bool
     ensures { result ≡ is_name_in key name.now entries.now }
 {
-    entries
-        .iter()
-        .any(|entry| entry.directory == key && entry.name() == name)
+    entries.iter().any(|entry| entry.directory as u32 == key && entry.name() == name)
 }
 
 // Whether an entry that stands in the directory of this one has a name.
@@ -72,7 +70,7 @@ pub(crate) fn has_name_beside(entries: &[Entry], file: u32, name: &[u8]) -> bool
         return false;
     };
     let stored = pro_name(name);
-    is_name_in(own.directory, &stored[..name.len()], entries)
+    is_name_in(own.directory as u32, &stored[..name.len()], entries)
 }
 
 /// The refusal of a command whose walk over the directories ended early.

@@ -6,8 +6,7 @@ use Rattle.std.specs.List.{Contains}
 use Rattle.std.proofs.lemmas.Grind.{flat_map-append}
 use Rattle.a2_device.specs.Device.{unit_at}
 use Rattle.vol_parts.specs.declared.fault.WalkError.{WalkError}
-use Rattle.pro_dir.specs.declared.entry.Entry.{Entry}
-use Rattle.pro_dir.specs.Entry.{entries_of, entries_in, free_slots_of, free_slots_in}
+use Rattle.pro_dir.specs.Entry.{free_slots_of, free_slots_in}
 use Rattle.pro_dir.specs.Tree.{CanLink, HasBadLink, next_of}
 use Rattle.pro_dir.specs.lemmas.TreeLaws.{leads_on}
 use Rattle.pro_dir.specs.Walk.{IsTable, IsFollowing, IsReadOut, IsVolumeKey, is_met, first_free_of}
@@ -26,34 +25,29 @@ free_on store key blocks next here free first is first_is here_is =
     ∙ ap (λ s. slice_get (free_slots_in store key blocks ++ s) 0) (sym (append-nil (slots next)))
     ∙ ap (λ s. slice_get s 0) (sym (flat_map-append slots blocks (next ∷ [])))
 
-pub followed_on : (store : List (List ℕ)) (key : ℕ) (before blocks longer : List ℕ) (inside taken : List Entry) (free first : Option (ℕ × ℕ)) (holder : ℕ) (unit here : List ℕ) (next : ℕ)
-    → IsFollowing store key before blocks inside free holder unit → CanLink store next → next ≡ next_of unit
-    → longer ≡ blocks ++ next ∷ [] → taken ≡ inside ++ entries_of key next here → first ≡ option_or free (first_free_of key next here) → here ≡ unit_at store next
-    → IsFollowing store key before longer taken first next here
-followed_on store key before blocks longer inside taken free first holder unit here next following can named longer_is taken_is first_is here_is = record {
+pub followed_on : (store : List (List ℕ)) (key : ℕ) (before blocks longer : List ℕ) (free first : Option (ℕ × ℕ)) (holder : ℕ) (unit here : List ℕ) (next : ℕ)
+    → IsFollowing store key before blocks free holder unit → CanLink store next → next ≡ next_of unit
+    → longer ≡ blocks ++ next ∷ [] → first ≡ option_or free (first_free_of key next here) → here ≡ unit_at store next
+    → IsFollowing store key before longer first next here
+followed_on store key before blocks longer free first holder unit here next following can named longer_is first_is here_is = record {
   rest = following.rest ++ next ∷ [];
   is = longer_is ∙ ap (λ bs. bs ++ next ∷ []) following.is ∙ append_assoc before (key ∷ following.rest) (next ∷ []);
   can_link = following.can_link;
   leads = leads_on store key following.rest holder next following.leads can (named ∙ ap next_of following.here);
   here = here_is;
-  taken = taken_is ∙ ap (λ u. inside ++ entries_of key next u) here_is
-      ∙ ap (λ es. es ++ entries_of key next (unit_at store next)) following.taken
-      ∙ ap (λ es. entries_in store key (key ∷ following.rest) ++ es) (sym (append-nil (entries_of key next (unit_at store next))))
-      ∙ sym (flat_map-append (λ block. entries_of key block (unit_at store block)) (key ∷ following.rest) (next ∷ []));
   first = free_on store key (key ∷ following.rest) next here free first following.first first_is here_is;
 }
 
 -- the key block of a directory
-followed_first : (store : List (List ℕ)) (key : ℕ) (before blocks : List ℕ) (inside taken : List Entry) (free first : Option (ℕ × ℕ)) (here : List ℕ)
-    → inside ≡ [] → free ≡ None → blocks ≡ before ++ key ∷ [] → taken ≡ inside ++ entries_of key key here → first ≡ option_or free (first_free_of key key here) → here ≡ unit_at store key → CanLink store key
-    → IsFollowing store key before blocks taken first key here
-followed_first store key before blocks inside taken free first here empty none blocks_is taken_is first_is here_is can = record {
+followed_first : (store : List (List ℕ)) (key : ℕ) (before blocks : List ℕ) (free first : Option (ℕ × ℕ)) (here : List ℕ)
+    → free ≡ None → blocks ≡ before ++ key ∷ [] → first ≡ option_or free (first_free_of key key here) → here ≡ unit_at store key → CanLink store key
+    → IsFollowing store key before blocks first key here
+followed_first store key before blocks free first here none blocks_is first_is here_is can = record {
   rest = [];
   is = blocks_is;
   can_link = can;
   leads = refl;
   here = here_is;
-  taken = taken_is ∙ ap (λ es. es ++ entries_of key key here) empty ∙ ap (entries_of key key) here_is ∙ sym (append-nil (entries_of key key (unit_at store key)));
   first = free_on store key [] key here free first none first_is here_is;
 }
 
@@ -67,10 +61,10 @@ not_new_is store places met blocks next size table not_new = by_met (is_met met 
     by_met false is = inl (λ can. not_new (can.0, omega (arith, can.1, size), is))
 
 -- a bad link
-pub bad_link : (store : List (List ℕ)) (places : ℕ) (met : List Bool) (key : ℕ) (before blocks : List ℕ) (inside : List Entry) (free : Option (ℕ × ℕ)) (holder : ℕ) (unit : List ℕ) (next : ℕ)
-    → length store ≡ places → IsTable places met blocks → IsFollowing store key before blocks inside free holder unit → next ≡ next_of unit → next ≢ 0
+pub bad_link : (store : List (List ℕ)) (places : ℕ) (met : List Bool) (key : ℕ) (before blocks : List ℕ) (free : Option (ℕ × ℕ)) (holder : ℕ) (unit : List ℕ) (next : ℕ)
+    → length store ≡ places → IsTable places met blocks → IsFollowing store key before blocks free holder unit → next ≡ next_of unit → next ≢ 0
     → (¬ ((2 ≤ next) × (next < places) × (is_met met next ≡ false))) → HasBadLink store before key holder
-bad_link store places met key before blocks inside free holder unit next size table following named on not_new =
+bad_link store places met key before blocks free holder unit next size table following named on not_new =
     let is : next ≡ next_of (unit_at store holder) = named ∙ ap next_of following.here in
     record {
       rest = following.rest;
@@ -81,9 +75,9 @@ bad_link store places met key before blocks inside free holder unit next size ta
     }
 
 -- a directory that was read to its end
-pub read_out : (store : List (List ℕ)) (key : ℕ) (before blocks : List ℕ) (inside : List Entry) (free : Option (ℕ × ℕ)) (holder : ℕ) (unit : List ℕ)
-    → IsFollowing store key before blocks inside free holder unit → next_of unit ≡ 0 → IsReadOut store key before blocks inside free
-read_out store key before blocks inside free holder unit following ends = record {
+pub read_out : (store : List (List ℕ)) (key : ℕ) (before blocks : List ℕ) (free : Option (ℕ × ℕ)) (holder : ℕ) (unit : List ℕ)
+    → IsFollowing store key before blocks free holder unit → next_of unit ≡ 0 → IsReadOut store key before blocks free
+read_out store key before blocks free holder unit following ends = record {
   own = key ∷ following.rest;
   run = record {
     rest = following.rest;
@@ -94,26 +88,24 @@ read_out store key before blocks inside free holder unit following ends = record
     ends = subst (λ u. next_of u ≡ 0) following.here ends;
   };
   is = following.is;
-  taken = following.taken;
   first = following.first;
 }
 
 -- the key block of a directory is read
-pub opened : (store : List (List ℕ)) (key named stored : ℕ) (before blocks : List ℕ) (inside taken : List Entry) (free first : Option (ℕ × ℕ)) (here : List ℕ)
-    → named ≡ key → stored ≡ named → inside ≡ [] → free ≡ None → blocks ≡ before ++ key ∷ [] → taken ≡ inside ++ entries_of named key here
+pub opened : (store : List (List ℕ)) (key named stored : ℕ) (before blocks : List ℕ) (free first : Option (ℕ × ℕ)) (here : List ℕ)
+    → named ≡ key → stored ≡ named → free ≡ None → blocks ≡ before ++ key ∷ []
     → first ≡ option_or free (first_free_of named key here) → here ≡ unit_at store key → CanLink store key
-    → IsFollowing store stored before blocks taken first stored here
-opened store key named stored before blocks inside taken free first here is is_stored empty none blocks_is taken_is first_is here_is can =
-    subst (λ n. IsFollowing store n before blocks taken first n here) (sym (is_stored ∙ is))
-    (followed_first store key before blocks inside taken free first here empty none blocks_is
-    (taken_is ∙ ap (λ n. inside ++ entries_of n key here) is) (first_is ∙ ap (λ n. option_or free (first_free_of n key here)) is) here_is can)
+    → IsFollowing store stored before blocks first stored here
+opened store key named stored before blocks free first here is is_stored none blocks_is first_is here_is can =
+    subst (λ n. IsFollowing store n before blocks first n here) (sym (is_stored ∙ is))
+    (followed_first store key before blocks free first here none blocks_is (first_is ∙ ap (λ n. option_or free (first_free_of n key here)) is) here_is can)
 
 -- the key block of the volume's directory is taken, the first of all
-pub volume_opened : (store : List (List ℕ)) (named stored : ℕ) (old blocks : List ℕ) (inside taken : List Entry) (free first : Option (ℕ × ℕ)) (unit : List ℕ)
-    → IsVolumeKey store unit → 2 < length store → named ≡ 2 → stored ≡ named → inside ≡ [] → free ≡ None → old ≡ [] → blocks ≡ old ++ 2 ∷ [] → taken ≡ inside ++ entries_of named 2 unit
-    → first ≡ option_or free (first_free_of named 2 unit) → IsFollowing store stored [] blocks taken first stored unit
-volume_opened store named stored old blocks inside taken free first unit key within is is_stored empty none old_is blocks_is taken_is first_is =
-    opened store 2 named stored [] blocks inside taken free first unit is is_stored empty none (blocks_is ∙ ap (λ bs. bs ++ 2 ∷ []) old_is) taken_is first_is key.here (omega arith, within)
+pub volume_opened : (store : List (List ℕ)) (named stored : ℕ) (old blocks : List ℕ) (free first : Option (ℕ × ℕ)) (unit : List ℕ)
+    → IsVolumeKey store unit → 2 < length store → named ≡ 2 → stored ≡ named → free ≡ None → old ≡ [] → blocks ≡ old ++ 2 ∷ []
+    → first ≡ option_or free (first_free_of named 2 unit) → IsFollowing store stored [] blocks first stored unit
+volume_opened store named stored old blocks free first unit key within is is_stored none old_is blocks_is first_is =
+    opened store 2 named stored [] blocks free first unit is is_stored none (blocks_is ∙ ap (λ bs. bs ++ 2 ∷ []) old_is) first_is key.here (omega arith, within)
 
 -- an error that is handed on
 pub refused_so : {T : Type 0} → (result : Result T WalkError) (error : WalkError) (P : WalkError → Type 0) → IsErrAnd result (λ e. e ≡ error) → P error → IfErr result P

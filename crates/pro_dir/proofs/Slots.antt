@@ -1,29 +1,38 @@
 -- One slot more.
-use Rattle.std.proofs.Common.{◌≡◌, ℕ, suc, ◌+◌, ◌-◌, ◌<◌, ◌≤◌, Bool, true, false, List, [], ◌∷◌, ◌++◌, length, refl, sym, ◌∙◌, ap, subst, arith, cond, append_assoc, append-nil}
+use Rattle.std.proofs.Common.{◌≡◌, ℕ, suc, ◌+◌, ◌-◌, ◌<◌, ◌≤◌, Bool, true, false, List, [], ◌∷◌, ◌++◌, refl, sym, ◌∙◌, ap, arith, cond}
 use Rattle.std.specs.Prelude.{Option, Some, None, option_map, find, filter, map, slice_get}
 use Rattle.std.specs.Option.{option_or}
 use Rattle.std.specs.List.{range_with_len}
-use Rattle.std.proofs.lemmas.List.FromFn.{filter_of_map_range_with_len_more}
 use Rattle.pro_dir.specs.declared.entry.Entry.{Entry}
 use Rattle.pro_dir.specs.Entry.{entry_at, is_listed, is_inactive, entries_of, free_slots_of}
-use Rattle.pro_dir.specs.Walk.{first_free_of}
+use Rattle.pro_dir.specs.Walk.{entries_from, first_free_of}
 
-module _ (p : Entry → Bool) (f : ℕ → Entry) (old before : List Entry) (n : ℕ) (is : before ≡ old ++ filter p (map f (range_with_len 0 n))) where
-  one_more : filter p (map f (range_with_len 0 (n + 1))) ≡ filter p (map f (range_with_len 0 n)) ++ cond (p (f n)) (f n ∷ []) []
-  one_more = filter_of_map_range_with_len_more p f 0 n n (omega arith)
+module _ (directory place : ℕ) (unit : List ℕ) (slot : ℕ) (within : slot < 13) where
+  from_slot : entries_from directory place unit slot
+      ≡ cond (is_listed (entry_at directory place unit slot)) (entry_at directory place unit slot ∷ entries_from directory place unit (slot + 1)) (entries_from directory place unit (slot + 1))
+  unfolding entries_from
+  from_slot =
+      let more : 13 - slot ≡ suc (13 - (slot + 1)) = omega (arith, within) in
+      ap (λ n. filter is_listed (map (entry_at directory place unit) (range_with_len slot n))) more
 
-  with_rest : before ++ cond (p (f n)) (f n ∷ []) [] ≡ old ++ filter p (map f (range_with_len 0 (n + 1)))
-  with_rest = ap (λ b. b ++ cond (p (f n)) (f n ∷ []) []) is ∙ append_assoc old (filter p (map f (range_with_len 0 n))) (cond (p (f n)) (f n ∷ []) []) ∙ ap (λ r. old ++ r) (sym one_more)
+  -- the slot has an entry, or none
+  pub from_listed : (entry : Entry) → entry ≡ entry_at directory place unit slot → is_listed entry ≡ true → entries_from directory place unit slot ≡ entry ∷ entries_from directory place unit (slot + 1)
+  from_listed entry is used =
+      from_slot ∙ ap (λ b. cond b (entry_at directory place unit slot ∷ entries_from directory place unit (slot + 1)) (entries_from directory place unit (slot + 1))) (ap is_listed (sym is) ∙ used)
+      ∙ ap (λ e. e ∷ entries_from directory place unit (slot + 1)) (sym is)
 
-  pub taken : (entry : Entry) → entry ≡ f n → p entry ≡ true → before ++ entry ∷ [] ≡ old ++ filter p (map f (range_with_len 0 (n + 1)))
-  taken entry named used =
-      ap (λ e. before ++ e ∷ []) named
-      ∙ subst (λ b. before ++ cond b (f n ∷ []) [] ≡ old ++ filter p (map f (range_with_len 0 (n + 1)))) (subst (λ e. p e ≡ true) named used) with_rest
+  pub from_passed : (entry : Entry) → entry ≡ entry_at directory place unit slot → is_listed entry ≡ false → entries_from directory place unit slot ≡ entries_from directory place unit (slot + 1)
+  from_passed entry is unused =
+      from_slot ∙ ap (λ b. cond b (entry_at directory place unit slot ∷ entries_from directory place unit (slot + 1)) (entries_from directory place unit (slot + 1))) (ap is_listed (sym is) ∙ unused)
 
-  pub passed : (entry : Entry) → entry ≡ f n → p entry ≡ false → before ≡ old ++ filter p (map f (range_with_len 0 (n + 1)))
-  passed entry named unused =
-      sym (append-nil before)
-      ∙ subst (λ b. before ++ cond b (f n ∷ []) [] ≡ old ++ filter p (map f (range_with_len 0 (n + 1)))) (subst (λ e. p e ≡ false) named unused) with_rest
+-- behind the last slot there is none, and from the first on there are all
+pub from_end : (directory place : ℕ) (unit : List ℕ) → entries_from directory place unit 13 ≡ []
+unfolding entries_from
+from_end directory place unit = refl
+
+pub from_first : (directory place : ℕ) (unit : List ℕ) → entries_from directory place unit 0 ≡ entries_of directory place unit
+unfolding entries_from entries_of
+from_first directory place unit = refl
 
 -- a search by number: it ends here, goes on, or is at its end
 module _ (p : ℕ → Bool) (k n : ℕ) (whole : Option ℕ) (is : whole ≡ find p (range_with_len k (n - k))) where
@@ -55,16 +64,3 @@ first_free_of-is directory place unit = first-filter (λ slot. (place, slot)) (�
 pub first-append : {X : Type 0} (xs ys : List X) → slice_get (xs ++ ys) 0 ≡ option_or (slice_get xs 0) (slice_get ys 0)
 first-append [] ys = refl
 first-append (x ∷ xs) ys = refl
-
-few : (p : Entry → Bool) (xs : List Entry) → length (filter p xs) ≤ length xs
-few p [] = omega arith
-few p (x ∷ xs) = by_test (p x) (few p xs)
-  where
-    by_test : (b : Bool) → length (filter p xs) ≤ length xs → length (cond b (x ∷ filter p xs) (filter p xs)) ≤ length (x ∷ xs)
-    by_test true less = omega (arith, less)
-    by_test false less = omega (arith, less)
-
--- a block has at most thirteen entries
-pub length-entries_of : (directory place : ℕ) (unit : List ℕ) → length (entries_of directory place unit) ≤ 13
-unfolding entries_of
-length-entries_of directory place unit = few is_listed (map (entry_at directory place unit) (range_with_len 0 13))

@@ -8,10 +8,7 @@ use Rattle.std.proofs.lemmas.List.Quantifiers.{all_pairs_push}
 use Rattle.std.proofs.lemmas.List.{get_or-set_same, get_or-set_other, get_or_default, get_or_past, get_or-replicate, length-replicate}
 use Rattle.std.proofs.lemmas.Bool.{cases_lt}
 use Rattle.std.proofs.lemmas.Bool.Decides.{nat_tests}
-use Rattle.pro_dir.specs.declared.entry.Entry.{Entry}
-use Rattle.pro_dir.specs.Entry.{entries_of}
-use Rattle.pro_dir.specs.Walk.{IsTable, is_met, work}
-use Rattle.pro_dir.proofs.Slots.{length-entries_of}
+use Rattle.pro_dir.specs.Walk.{HasMetMore, IsTable, is_met}
 
 pub only : {X : Type 0} (y z : X) → Contains (y ∷ []) z → z ≡ y
 only y z has =
@@ -66,14 +63,22 @@ pub tabled_on : (places : ℕ) (met marks : List Bool) (blocks more : List ℕ) 
 tabled_on places met marks blocks more block low inside unmet table marks_is more_is =
     subst (λ ms. IsTable places ms more) (sym marks_is) (subst (IsTable places (set met block true)) (sym more_is) (tabled places met blocks block low inside unmet table))
 
--- there is less to do with one block more
-pub work-less : (places : ℕ) (met marks : List Bool) (inside more : List Entry) (key block : ℕ) (unit : List ℕ) → length met ≡ places → block < places → is_met met block ≡ false
-    → marks ≡ set met block true → more ≡ inside ++ entries_of key block unit → work marks more < work met inside
-work-less places met marks inside more key block unit size below unmet marks_is more_is =
+-- one block more is met
+pub one_more : (places : ℕ) (met marks : List Bool) (blocks more : List ℕ) (block : ℕ) → length met ≡ places → block < places → is_met met block ≡ false
+    → marks ≡ set met block true → more ≡ blocks ++ block ∷ [] → HasMetMore met marks blocks more
+one_more places met marks blocks more block size below unmet marks_is more_is =
     let within : block < length met = omega (arith, below, size) in
     let fewer : count_by not marks + 1 ≡ count_by not met = ap (λ ms. count_by not ms + 1) marks_is ∙ count_by-set met block within unmet in
-    let longer : length more ≡ length inside + length (entries_of key block unit) = ap length more_is ∙ length-append inside (entries_of key block unit) in
-    omega (arith, fewer, longer, length-entries_of key block unit)
+    record {
+      unmet = omega (arith, fewer, ap length more_is, length-append blocks (block ∷ []));
+      longer = omega (arith, ap length more_is, length-append blocks (block ∷ []));
+    }
+
+pub and_more : (met marks last : List Bool) (blocks more all : List ℕ) → HasMetMore met marks blocks more → HasMetMore marks last more all → HasMetMore met last blocks all
+and_more met marks last blocks more all first then = record { unmet = then.unmet ∙ first.unmet; longer = omega (arith, first.longer, then.longer) }
+
+pub none_more : (met : List Bool) (blocks : List ℕ) → HasMetMore met met blocks blocks
+none_more met blocks = record { unmet = refl; longer = omega arith }
 
 -- no block is met at the beginning
 none_met : (places block : ℕ) → is_met (replicate places false) block ≡ false

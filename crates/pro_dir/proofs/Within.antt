@@ -1,42 +1,32 @@
 -- Entries that stand in slots of blocks within a volume.
-use Rattle.std.proofs.Common.{◌≡◌, ◌≢◌, ◌<◌, ◌≤◌, ◌+◌, ◌*◌, ℕ, Bool, true, false, cond, List, [], ◌∷◌, ◌++◌, length, length-append, refl, sym, ◌∙◌, ap, subst, arith, map, set, replicate, drop}
-use Rattle.std.specs.Prelude.{Option, Some, None, IfSome, ◌==◌, find, not, option_map, reverse}
+use Rattle.std.proofs.Common.{◌≡◌, ◌≢◌, ◌<◌, ◌≤◌, ◌+◌, ◌*◌, ℕ, Bool, true, false, cond, List, [], ◌∷◌, ◌++◌, length, refl, sym, ◌∙◌, ap, subst, arith, get_or, map, replicate, drop}
+use Rattle.std.specs.Prelude.{Option, Some, None, IfSome, ◌==◌, find, not, option_map, reverse, sum_by}
 use Rattle.std.specs.Option.{option_or}
 use Rattle.std.specs.List.{All, range_with_len}
-use Rattle.std.proofs.lemmas.List.{reverse-append, length-take-le, length-drop, length-replicate, length-reverse, get_or_past}
-use Rattle.std.proofs.lemmas.List.Elements.{All-nil, All-cons, All-head, All-tail, All-push, All-append, All-filter}
-use Rattle.std.proofs.lemmas.List.FromFn.{length-range_with_len, get_or-range_with_len, length-map-range_with_len, get_or-map-range_with_len}
-use Rattle.std.proofs.lemmas.List.Sums.{count_by-le-length}
+use Rattle.std.proofs.lemmas.List.{reverse-append, length-take-le, length-drop, length-replicate, get_or_default, get_or_past}
+use Rattle.std.proofs.lemmas.List.Elements.{All-nil, All-cons, All-head, All-tail, All-push, All-append, All-drop, All-map}
+use Rattle.std.proofs.lemmas.List.FromFn.{length-range_with_len, get_or-range_with_len}
+use Rattle.std.proofs.lemmas.List.Sums.{count_by-le-length, sum_by-append, sum_by_push}
 use Rattle.std.proofs.lemmas.Bool.{cases_lt}
 use Rattle.std.proofs.lemmas.Bool.Decides.{nat_tests}
 use Rattle.std.proofs.Common.{⊎_elim}
 use Rattle.pro_dir.specs.declared.entry.Entry.{Entry}
 use Rattle.pro_dir.specs.declared.reading.FreeSlot.{FreeSlot}
-use Rattle.pro_dir.specs.Entry.{entry_at, entries_of, is_inactive, is_listed}
+use Rattle.pro_dir.specs.declared.waiting.Waiting.{Waiting}
+use Rattle.pro_dir.specs.Entry.{entry_at, is_inactive}
 use Rattle.pro_dir.specs.Volume.{map_first, total_blocks}
-use Rattle.pro_dir.specs.Walk.{IsTable, first_free_of, is_met, kept_for, kept_slots, work}
-use Rattle.pro_dir.specs.Within.{IsFreeWithin, IsInSlot, IsKeptWithin, IsReadWithin, IsWithin}
+use Rattle.pro_dir.specs.Walk.{HasMetMore, IsTable, first_free_of, is_met, kept_for, kept_slots, left_in, whole_block, work}
+use Rattle.pro_dir.specs.Within.{IsFreeWithin, IsInSlot, IsKeptWithin, IsReadWithin, IsWaitingWithin, IsWithin}
 use Rattle.pro_dir.proofs.Described.{AreNew}
-use Rattle.pro_dir.proofs.Table.{unmet_none, work-less}
 
 module _ (places directory block : ℕ) (unit : List ℕ) (named : directory < places) (below : block < places) (long : length unit ≡ 512) where
-  in_slot : (slot : ℕ) → slot < 13 → IsInSlot places (entry_at directory block unit slot)
+  pub in_slot : (slot : ℕ) → slot < 13 → IsInSlot places (entry_at directory block unit slot)
   in_slot slot inside = record {
     directory = named;
     place = below;
     slot = inside;
     bytes = length-take-le 39 (drop (4 + 39 * slot) unit) (omega (arith, inside, long, length-drop (4 + 39 * slot) unit));
   }
-
-  each_in_slot : All (IsInSlot places) (entries_of directory block unit)
-  unfolding entries_of
-  each_in_slot = All-filter is_listed (IsInSlot places) (map (entry_at directory block unit) (range_with_len 0 13)) (λ k d within.
-      let inside : k < 13 = omega (arith, within, length-map-range_with_len (entry_at directory block unit) 0 13) in
-      subst (IsInSlot places) (sym (get_or-map-range_with_len (entry_at directory block unit) 0 13 k k d inside (omega arith))) (in_slot k inside))
-
-  -- with the entries of one block more
-  block_within : (old new : List Entry) → new ≡ old ++ entries_of directory block unit → All (IsInSlot places) old → All (IsInSlot places) new
-  block_within old new is before = subst (All (IsInSlot places)) (sym is) (All-append (IsInSlot places) old (entries_of directory block unit) before each_in_slot)
 
 -- what is found in a list has what all of it have, and passes the test
 found_in : {X : Type 0} (P : X → Type 0) (p : X → Bool) (xs : List X) → All P xs → IfSome (find p xs) (λ x. P x × (p x ≡ true))
@@ -72,20 +62,15 @@ free_slot_within places key place unit None first below is before =
     (slot_found places key place unit (find is_free (range_with_len 0 13)) below (found_in (λ slot. slot < 13) is_free (range_with_len 0 13) thirteen))
 
 -- one block more is read
-pub read_within : (places key block : ℕ) (unit : List ℕ) (old new : List Entry) (free first : Option (ℕ × ℕ)) → block < places → length unit ≡ 512
-    → new ≡ old ++ entries_of key block unit → first ≡ option_or free (first_free_of key block unit) → IsReadWithin places key old free → IsReadWithin places key new first
-read_within places key block unit old new free first below long new_is first_is before = record {
+pub read_within : (places key block : ℕ) (unit : List ℕ) (free first : Option (ℕ × ℕ)) → block < places → first ≡ option_or free (first_free_of key block unit)
+    → IsReadWithin places key free → IsReadWithin places key first
+read_within places key block unit free first below first_is before = record {
   named = before.named;
-  entries = block_within places key block unit before.named below long old new new_is before.entries;
   free = free_slot_within places key block unit free first below first_is before.free;
 }
 
-pub none_read : (places key : ℕ) (entries : List Entry) (free : Option (ℕ × ℕ)) → key < places → entries ≡ [] → free ≡ None → IsReadWithin places key entries free
-none_read places key entries free below empty none = record {
-  named = below;
-  entries = subst (All (IsInSlot places)) (sym empty) (All-nil (IsInSlot places));
-  free = subst (λ slot. IfSome slot (IsFreeWithin places key)) (sym none) tt;
-}
+pub none_read : (places key : ℕ) (free : Option (ℕ × ℕ)) → key < places → free ≡ None → IsReadWithin places key free
+none_read places key free below none = record { named = below; free = subst (λ slot. IfSome slot (IsFreeWithin places key)) (sym none) tt }
 
 -- what is kept of a directory
 one_kept : (places key : ℕ) (free : Option (ℕ × ℕ)) → IfSome free (IsFreeWithin places key) → All (IsKeptWithin places) (kept_slots key free)
@@ -111,62 +96,86 @@ kept_for_within places free all key =
     let is_own : FreeSlot → Bool = λ slot. slot.directory == key in
     slot_kept places key (find is_own free) (found_in (IsKeptWithin places) is_own free all)
 
-reversed : (P : Entry → Type 0) (entries : List Entry) → All P entries → All P (reverse entries)
-reversed P [] all = All-nil P
-reversed P (entry ∷ entries) all =
-    subst (All P) (sym (reverse-append (entry ∷ []) entries)) (All-push P (reverse entries) entry (reversed P entries (All-tail P entry entries all)) (All-head P entry entries all))
+inside_table : (places block : ℕ) (met : List Bool) → length met ≡ places → is_met met block ≡ true → block < places
+inside_table places block met size is = ⊎_elim (λ within. omega (arith, within, size))
+    (λ beyond. absurd (let none : is_met met block ≡ false = get_or_past met block false beyond in cc)) (cases_lt block (length met))
 
--- with the entries of a directory that wait
-pub waits_within : (places : ℕ) (pending waiting inside : List Entry) → waiting ≡ pending ++ reverse inside → All (IsInSlot places) pending → All (IsInSlot places) inside
-    → All (IsInSlot places) waiting
-waits_within places pending waiting inside is before more =
-    subst (All (IsInSlot places)) (sym is) (All-append (IsInSlot places) pending (reverse inside) before (reversed (IsInSlot places) inside more))
+reversed : (places : ℕ) (waiting : List Waiting) → All (IsWaitingWithin places) waiting → All (IsWaitingWithin places) (reverse waiting)
+reversed places [] all = All-nil (IsWaitingWithin places)
+reversed places (slots ∷ waiting) all =
+    let Within : Waiting → Type 0 = IsWaitingWithin places in
+    subst (All Within) (sym (reverse-append (slots ∷ []) waiting))
+    (All-push Within (reverse waiting) slots (reversed places waiting (All-tail Within slots waiting all)) (All-head Within slots waiting all))
 
-split : (P : Entry → Type 0) (left : List Entry) (entry : Entry) → All P (left ++ entry ∷ []) → All P left × P entry
-split P [] entry all = (All-nil P, All-head P entry [] all)
-split P (x ∷ left) entry all =
-    let rest = split P left entry (All-tail P x (left ++ entry ∷ []) all) in
-    (All-cons P x left (All-head P x (left ++ entry ∷ []) all) rest.0, rest.1)
+-- the blocks of the table are below the places
+below_places : (places : ℕ) (met : List Bool) (blocks : List ℕ) → IsTable places met blocks → All (λ block. block < places) blocks
+below_places places met blocks table k d within = inside_table places (get_or blocks k d) met table.size (table.all (get_or blocks k d) (k, within, get_or_default blocks k (get_or blocks k d) d within))
 
--- the last that waits, and those before it
-pub last_within : (places : ℕ) (pending left : List Entry) (entry : Entry) → pending ≡ left ++ entry ∷ [] → All (IsInSlot places) pending
-    → All (IsInSlot places) left × IsInSlot places entry
-last_within places pending left entry is all = split (IsInSlot places) left entry (subst (All (IsInSlot places)) is all)
+-- with the blocks of a directory that wait
+pub blocks_within : (places : ℕ) (met : List Bool) (blocks : List ℕ) (key first : ℕ) (pending waiting : List Waiting) → IsTable places met blocks → key < places
+    → waiting ≡ pending ++ reverse (map (whole_block key) (drop first blocks)) → All (IsWaitingWithin places) pending → All (IsWaitingWithin places) waiting
+blocks_within places met blocks key first pending waiting table named is before =
+    let Within : Waiting → Type 0 = IsWaitingWithin places in
+    let below = All-drop (λ block. block < places) first blocks (below_places places met blocks table) in
+    let each = All-map Within (whole_block key) (drop first blocks) (λ k d within. record { directory = named; place = below k d within; slot = omega arith }) in
+    subst (All Within) (sym is) (All-append Within pending (reverse (map (whole_block key) (drop first blocks))) before (reversed places (map (whole_block key) (drop first blocks)) each))
+
+-- slots behind that of an entry wait
+pub behind_within : (places : ℕ) (pending waiting : List Waiting) (slots : Waiting) (slot : ℕ) → slot < 13 → IsWaitingWithin places slots
+    → waiting ≡ pending ++ (record slots { slot = slot + 1 }) ∷ [] → All (IsWaitingWithin places) pending → All (IsWaitingWithin places) waiting
+behind_within places pending waiting slots slot below inside is before =
+    subst (All (IsWaitingWithin places)) (sym is)
+    (All-push (IsWaitingWithin places) pending (record slots { slot = slot + 1 }) before (record { directory = inside.directory; place = inside.place; slot = omega (arith, below) }))
+
+split : (P : Waiting → Type 0) (left : List Waiting) (slots : Waiting) → All P (left ++ slots ∷ []) → All P left × P slots
+split P [] slots all = (All-nil P, All-head P slots [] all)
+split P (x ∷ left) slots all =
+    let rest = split P left slots (All-tail P x (left ++ slots ∷ []) all) in
+    (All-cons P x left (All-head P x (left ++ slots ∷ []) all) rest.0, rest.1)
+
+-- the last that wait, and those before them
+pub last_within : (places : ℕ) (pending left : List Waiting) (slots : Waiting) → pending ≡ left ++ slots ∷ [] → All (IsWaitingWithin places) pending
+    → All (IsWaitingWithin places) left × IsWaitingWithin places slots
+last_within places pending left slots is all = split (IsWaitingWithin places) left slots (subst (All (IsWaitingWithin places)) is all)
 
 pub listed_within : (places : ℕ) (entries longer : List Entry) (entry : Entry) → longer ≡ entries ++ entry ∷ [] → All (IsInSlot places) entries → IsInSlot places entry
     → All (IsInSlot places) longer
 listed_within places entries longer entry is all one = subst (All (IsInSlot places)) (sym is) (All-push (IsInSlot places) entries entry all one)
 
--- an entry that is listed no longer waits
-pub one_listed : (met marks : List Bool) (entries longer pending left waiting : List Entry) (entry : Entry) → longer ≡ entries ++ entry ∷ [] → pending ≡ left ++ entry ∷ []
-    → work marks waiting ≤ work met left → length longer + work marks waiting ≤ length entries + work met pending
-one_listed met marks entries longer pending left waiting entry longer_is pending_is less =
-    omega (arith, less, ap length longer_is, length-append entries (entry ∷ []), ap length pending_is, length-append left (entry ∷ []))
+-- each block that waits whole takes the place of fourteen
+left_in_blocks : (key : ℕ) (blocks : List ℕ) → sum_by left_in (reverse (map (whole_block key) blocks)) ≡ 14 * length blocks
+left_in_blocks key [] = refl
+left_in_blocks key (block ∷ blocks) =
+    ap (sum_by left_in) (reverse-append (whole_block key block ∷ []) (map (whole_block key) blocks))
+    ∙ sum_by_push left_in (reverse (map (whole_block key) blocks)) (whole_block key block)
+    ∙ omega (arith, left_in_blocks key blocks)
+
+-- there is as much to do when blocks that were met wait
+pub same_work : (met marks : List Bool) (blocks more : List ℕ) (key first : ℕ) (pending waiting : List Waiting) → first ≡ length blocks
+    → HasMetMore met marks blocks more → waiting ≡ pending ++ reverse (map (whole_block key) (drop first more)) → work marks waiting ≤ work met pending
+same_work met marks blocks more key first pending waiting first_is met_more is =
+    let left : sum_by left_in waiting ≡ sum_by left_in pending + 14 * length (drop first more) =
+    ap (sum_by left_in) is ∙ sum_by-append left_in pending (reverse (map (whole_block key) (drop first more)))
+    ∙ ap (λ n. sum_by left_in pending + n) (left_in_blocks key (drop first more)) in
+    omega (arith, left, met_more.unmet, met_more.longer, first_is, length-drop first more)
+
+-- slots that are taken up wait no longer
+pub taken_up : (pending left : List Waiting) (slots : Waiting) → pending ≡ left ++ slots ∷ [] → sum_by left_in pending ≡ sum_by left_in left + left_in slots
+taken_up pending left slots is = ap (sum_by left_in) is ∙ sum_by_push left_in left slots
 
 -- at the beginning there is as much to do as slots
-pub first_work : (places : ℕ) (met marks last : List Bool) (none taken inside pending waiting listed : List Entry) (directory : ℕ) (unit : List ℕ) → met ≡ replicate places false → 2 < places
-    → none ≡ [] → marks ≡ set met 2 true → taken ≡ none ++ entries_of directory 2 unit → work last inside ≤ work marks taken → pending ≡ [] → waiting ≡ pending ++ reverse inside
-    → listed ≡ [] → length listed + work last waiting ≤ 14 * places
-first_work places met marks last none taken inside pending waiting listed directory unit met_is within empty marks_is taken_is less no_pending waiting_is no_listed =
-    let size : length met ≡ places = ap length met_is ∙ length-replicate places false in
-    let start = work-less places met marks none taken directory 2 unit size within (unmet_none places met 2 met_is) marks_is taken_is in
+pub first_work : (places : ℕ) (met marks : List Bool) (none blocks : List ℕ) (pending waiting : List Waiting) (listed : List Entry) (key : ℕ) → met ≡ replicate places false → none ≡ []
+    → HasMetMore met marks none blocks → pending ≡ [] → waiting ≡ pending ++ reverse (map (whole_block key) (drop 0 blocks)) → listed ≡ []
+    → length listed + work marks waiting ≤ 14 * places
+first_work places met marks none blocks pending waiting listed key met_is empty met_more no_pending waiting_is no_listed =
     omega (
       arith,
-      start,
-      less,
-      size,
+      same_work met marks none blocks key 0 pending waiting (sym (ap length empty)) met_more waiting_is,
+      ap length met_is ∙ length-replicate places false,
       count_by-le-length not met,
-      ap length empty,
-      ap length no_pending,
-      ap length waiting_is,
-      length-append pending (reverse inside),
-      length-reverse inside,
+      ap (sum_by left_in) no_pending,
       ap length no_listed,
     )
-
-inside_table : (places block : ℕ) (met : List Bool) → length met ≡ places → is_met met block ≡ true → block < places
-inside_table places block met size is = ⊎_elim (λ within. omega (arith, within, size))
-    (λ beyond. absurd (let none : is_met met block ≡ false = get_or_past met block false beyond in cc)) (cases_lt block (length met))
 
 pub volume_within : (places first : ℕ) (header : List ℕ) (met : List Bool) (blocks : List ℕ) (entries : List Entry) → length header ≡ 39 → total_blocks header ≡ places → places < 65536
     → IsTable places met blocks → All (IsInSlot places) entries → length entries ≤ 14 * places → first ≡ map_first header → AreNew first places met

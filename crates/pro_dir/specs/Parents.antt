@@ -1,5 +1,5 @@
 -- Which entry is that of the directory in which an entry stands.
-use Rattle.std.specs.Prelude.{◌≡◌, ◌<◌, ℕ, zero, suc, ◌==◌, ◌&&◌, Bool, if◌then◌else◌, List, [], length, Option, Some, None, option_map, slice_index_or}
+use Rattle.std.specs.Prelude.{◌≡◌, ℕ, zero, suc, ◌==◌, ◌&&◌, Bool, if◌then◌else◌, List, [], length, Option, Some, None, option_map, slice_index_or}
 use Rattle.pro_dir.specs.declared.entry.Entry.{Entry}
 use Rattle.pro_dir.specs.Entry.{is_directory, key_of}
 use Rattle.pro_dir.specs.Paths.{path_of}
@@ -22,10 +22,9 @@ last_directory entries (suc count) key = if leads_to (entry_in entries count) ke
 abbrev pub parent_of : List Entry → ℕ → Option ℕ
 parent_of entries number = last_directory entries number (entry_in entries number).directory
 
--- each entry has its parent in the list, if it has one
-pub record AreParents (entries : List Entry) (parents : List (Option ℕ)) : Type 0 where
-  pub size : length parents ≡ length entries
-  pub each : (number : ℕ) → number < length entries → slice_index_or parents number None ≡ parent_of entries number
+-- for each key block the last entry of a directory that names it is known, if there is one
+abbrev pub KnowsDirectories : List Entry → List (Option ℕ) → Type 0
+KnowsDirectories entries known = (key : ℕ) → slice_index_or known key None ≡ last_directory entries (length entries) key
 
 -- the path of the directory in which an entry stands, if that is not the volume's
 abbrev pub path_above : List Entry → ℕ → Option (List ℕ)

@@ -1,7 +1,8 @@
 -- What holds of the directories that were walked over, whatever the device tells.
-use Rattle.std.specs.Prelude.{◌≡◌, ◌≢◌, ◌<◌, ◌≤◌, ◌+◌, ℕ, List, Option, IfSome, length, All, AllPairs, Contains}
+use Rattle.std.specs.Prelude.{◌≡◌, ◌≢◌, ◌<◌, ◌≤◌, ◌+◌, ℕ, Option, IfSome, length, All, AllPairs, Contains}
 use Rattle.pro_dir.specs.declared.entry.Entry.{Entry}
 use Rattle.pro_dir.specs.declared.reading.FreeSlot.{FreeSlot}
+use Rattle.pro_dir.specs.declared.waiting.Waiting.{Waiting}
 use Rattle.pro_dir.specs.Volume.{Directory, map_blocks, map_first, total_blocks}
 
 -- an entry stands in one of the thirteen slots of a block below the places, as does its directory's key block, and has its 39 bytes
@@ -33,8 +34,13 @@ pub record IsFreeWithin (places key : ℕ) (slot : ℕ × ℕ) : Type 0 where
 abbrev pub IsKeptWithin : ℕ → FreeSlot → Type 0
 IsKeptWithin places slot = IsFreeWithin places slot.directory (slot.place, slot.number)
 
--- what was read of the directory with a key block: its entries, and its first slot without one
-pub record IsReadWithin (places key : ℕ) (inside : List Entry) (slot : Option (ℕ × ℕ)) : Type 0 where
+-- slots that wait are of a block below the places, as is their directory's key block
+pub record IsWaitingWithin (places : ℕ) (slots : Waiting) : Type 0 where
+  pub directory : slots.directory < places
+  pub place : slots.place < places
+  pub slot : slots.slot ≤ 13
+
+-- what was read of the directory with a key block: its first slot without an entry
+pub record IsReadWithin (places key : ℕ) (slot : Option (ℕ × ℕ)) : Type 0 where
   pub named : key < places
-  pub entries : All (IsInSlot places) inside
   pub free : IfSome slot (IsFreeWithin places key)

@@ -9,7 +9,7 @@ use byteorder::{ByteOrder, LittleEndian};
 pub(crate) const BLOCK_BYTES: usize = 512;
 
 /// The entries of a directory block.
-pub(crate) const ENTRIES: u32 = 13;
+pub(crate) const ENTRIES: u8 = 13;
 
 pub(crate) const FIRST: usize = 0x04;
 
@@ -42,14 +42,14 @@ const DIRECTORY: u8 = 0x0d;
 /// slot among them, and its 39 bytes (ProDOS 8 Technical Reference Manual, Appendix B).
 #[derive(Clone, Copy, Debug, PartialEq, Eq)]
 pub struct Entry {
-    pub directory: u32,
-    pub place: u32,
-    pub slot: u32,
+    pub directory: u16,
+    pub place: u16,
+    pub slot: u8,
     pub bytes: [u8; 39],
 }
 
 impl Entry {
-    pub(crate) fn at(directory: u32, place: u32, unit: &[u8; BLOCK_BYTES], slot: u32) -> Entry
+    pub(crate) fn at(directory: u16, place: u16, unit: &[u8; BLOCK_BYTES], slot: u8) -> Entry
         requires { slot < 13 }
         ensures { result ≡ entry_at directory place unit.now slot }
     {
@@ -116,7 +116,13 @@ impl Entry {
     pub fn key(&self) -> u32
         ensures { result ≡ key_of self.now }
     {
-        LittleEndian::read_u16(&self.bytes[KEY..]) as u32
+        self.key_block() as u32
+    }
+
+    pub(crate) fn key_block(&self) -> u16
+        ensures { result ≡ key_of self.now }
+    {
+        LittleEndian::read_u16(&self.bytes[KEY..])
     }
 
     /// The number of blocks used, as it is stored.

@@ -1,7 +1,7 @@
 // The directory in which each entry stands.
-ghost use Rattle.std.specs.Prelude.{◌≡◌, ◌<◌, ℕ, true, None, Some, if◌then◌else◌, length, slice_index_or, IfOk};
+ghost use Rattle.std.specs.Prelude.{◌≡◌, ◌<◌, ◌≤◌, ℕ, true, None, Some, if◌then◌else◌, length, slice_index_or, IfOk};
 ghost use Rattle.pro_dir.specs.Entry.{is_directory, key_of};
-ghost use Rattle.pro_dir.specs.Parents.{AreParents, entry_in, leads_to};
+ghost use Rattle.pro_dir.specs.Parents.{KnowsDirectories, entry_in, last_directory as last_of, leads_to as leads, parent_of as parent_in};
 
 use crate::Entry;
 use std::alloc::{AllocError, Allocator};
@@ -28,8 +28,8 @@ fn keys_end(entries: &[Entry]) -> usize
     end
 }
 
-/// What a table of entries has at a number.
-pub fn known_at(known: &[Option<u32>], key: u32) -> Option<u32>
+// What a table of entries has at a number.
+fn known_at(known: &[Option<u32>], key: u32) -> Option<u32>
     ensures { result ≡ slice_index_or known.now key None }
 {
     match known.get(key as usize) {
@@ -42,7 +42,7 @@ pub fn known_at(known: &[Option<u32>], key: u32) -> Option<u32>
 fn note<A: Allocator>(known: &mut Vec<Option<u32>, A>, entry: &Entry, number: u32)
     requires { is_directory entry.now ≡ true → key_of entry.now < length known.old.items }
     ensures known { (key : ℕ) → slice_index_or known.new.items key None
-        ≡ (if leads_to entry.now key then Some number else slice_index_or known.old.items key None) }
+        ≡ (if leads entry.now key then Some number else slice_index_or known.old.items key None) }
     ensures size { length known.new.items ≡ length known.old.items }
 {
     if entry.is_directory() {
@@ -50,20 +50,52 @@ fn note<A: Allocator>(known: &mut Vec<Option<u32>, A>, entry: &Entry, number: u3
     }
 }
 
-/// For each entry the number of the entry of the directory in which it stands, if that is not the volume's.
-pub fn parents_of<A: Allocator + Copy>(
+/// For each key block the number of the last entry of a directory that names it, if there is one.
+pub fn directories_of<A: Allocator + Copy>(
     alloc: A,
     entries: &[Entry],
 ) -> Result<Vec<Option<u32>, A>, AllocError>
     requires { length entries.now < 4294967296 }
-    ensures { IfOk result (λ parents. AreParents entries.now parents.items) }
+    ensures { IfOk result (λ known. KnowsDirectories entries.now known.items) }
 {
     let mut known = vec![in alloc; None; keys_end(entries)]?;
-    let mut parents = Vec::new(alloc);
     for number in 0..entries.len() {
-        let entry = entry_at(entries, number);
-        parents.push(known_at(known.as_slice(), entry.directory))?;
-        note(&mut known, entry, number as u32);
+        note(&mut known, entry_at(entries, number), number as u32);
     }
-    Ok(parents)
+    Ok(known)
+}
+
+// Whether an entry is of the directory with a key block.
+fn leads_to(entry: &Entry, key: u32) -> bool
+    ensures { result ≡ leads entry.now key }
+{
+    entry.is_directory() && entry.key() == key
+}
+
+// The last of the first entries, so many, that is of the directory with a key block.
+fn last_directory(entries: &[Entry], count: u32, key: u32) -> Option<u32>
+    requires { count ≤ length entries.now }
+    ensures { result ≡ last_of entries.now count key }
+{
+    for number in (0..count).rev() {
+        if leads_to(&entries[number as usize], key) {
+            return Some(number);
+        }
+    }
+    None
+}
+
+/// The entry of the directory in which an entry stands, if that is not the volume's.
+pub fn parent_of(entries: &[Entry], directories: &[Option<u32>], number: u32) -> Option<u32>
+    requires within { number < length entries.now }
+    requires known { KnowsDirectories entries.now directories.now }
+    ensures { result ≡ parent_in entries.now number }
+{
+    let key = entry_at(entries, number as usize).directory as u32;
+    match known_at(directories, key) {
+        None => None,
+        Some(parent) if parent < number => Some(parent),
+        // In a tree an entry comes behind that of its directory. What a device tells that lies is looked through.
+        Some(_) => last_directory(entries, number, key),
+    }
 }

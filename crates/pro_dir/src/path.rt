@@ -3,11 +3,11 @@ ghost use Rattle.std.specs.Prelude.{◌≡◌, ◌≢◌, ◌<◌, ◌↔◌, �
 ghost use Rattle.std.specs.Str.{bytes_eq};
 ghost use Rattle.pro_dir.specs.Entry.{name_of};
 ghost use Rattle.pro_dir.specs.Listed.{directory_of};
-ghost use Rattle.pro_dir.specs.Parents.{entry_in, parent_of};
+ghost use Rattle.pro_dir.specs.Parents.{entry_in, parent_of as parent_in};
 ghost use Rattle.pro_dir.specs.Paths.{folded, path_of};
 
 use crate::VolumeDir;
-use crate::parents::{entry_at, known_at};
+use crate::parents::{entry_at, parent_of};
 use std::alloc::{AllocError, Allocator};
 
 // Puts a name, its last byte first, behind a text.
@@ -60,10 +60,10 @@ impl<A: Allocator> VolumeDir<A> {
     // The entry of the directory in which an entry stands, if that is not the volume's.
     fn parent(&self, entry: u32) -> Option<u32>
         requires { entry < length (directory_of self.now).entries }
-        ensures value { result ≡ parent_of (directory_of self.now).entries entry }
+        ensures value { result ≡ parent_in (directory_of self.now).entries entry }
         ensures before { IfSome result (λ parent. parent < entry) }
     {
-        known_at(self.parents.as_slice(), entry)
+        parent_of(self.entries.as_slice(), self.directories.as_slice(), entry)
     }
 
     // The name of an entry.

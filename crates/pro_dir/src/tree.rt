@@ -1,26 +1,27 @@
 // The walk over the directories of a volume.
-ghost use Rattle.std.specs.Prelude.{◌≡◌, ◌≢◌, ◌≤◌, ◌<◌, ◌++◌, [], ◌∷◌, ◌+◌, ◌*◌, ℕ, List, Option, set, true, false, length, All, OnOk, IfOk, IfErr, IsTrue, ◌↔◌, reverse, replicate};
+ghost use Rattle.std.specs.Prelude.{◌≡◌, ◌≢◌, ◌≤◌, ◌<◌, ◌++◌, [], ◌∷◌, ◌+◌, ◌*◌, ℕ, List, set, true, false, length, drop, map, All, OnOk, IfOk, IfErr, IfSome, IsTrue, ◌↔◌, reverse, replicate};
 ghost use Rattle.std.specs.Option.{option_or};
 ghost use Rattle.a2_device.specs.Device.{OnlyReads, unit_at};
 ghost use Rattle.a2_device.specs.Reading.{met_device};
 ghost use Rattle.vol_parts.specs.declared.fault.Fault.{Fault};
 ghost use Rattle.vol_parts.specs.declared.fault.Fault.TheVariants.{DirLink as ADirLink};
 ghost use Rattle.vol_parts.specs.declared.fault.WalkError.TheVariants.{Fault as AFault};
-ghost use Rattle.pro_dir.specs.declared.reading.Reading.{Reading as AReading};
-ghost use Rattle.pro_dir.specs.Entry.{entries_of, entries_in, free_slots_in, is_directory, key_of};
+ghost use Rattle.pro_dir.specs.declared.entry.Entry.{Entry as AnEntry};
+ghost use Rattle.pro_dir.specs.Entry.{is_directory, key_of};
 ghost use Rattle.pro_dir.specs.Tree.{next_of, CanLink, HasKind, HasSizes, IsDirectory, HasBadLink, SubdirectoryFaultAt, IsCutOff, IsTree, TreeFaultAt};
-ghost use Rattle.pro_dir.specs.Walk.{is_met, first_free_of, kept_slots, IsTable, IsFollowing, IsListing, IsReadOut, IsVolumeKey, work};
-ghost use Rattle.pro_dir.specs.Within.{IsInSlot, IsKeptWithin, IsReadWithin};
+ghost use Rattle.pro_dir.specs.Walk.{is_met, first_free_of, kept_slots, FewListed, HasMetMore, IsTable, IsFollowing, IsListing, IsReadOut, IsStop, IsVolumeKey, all_waiting, entries_from, left_behind, left_in, waiting_in, whole_block, work};
+ghost use Rattle.pro_dir.specs.Within.{IsInSlot, IsKeptWithin, IsReadWithin, IsWaitingWithin};
 
-use crate::entry::{BLOCK_BYTES, Entry};
+use crate::entry::{BLOCK_BYTES, ENTRIES, Entry};
 use crate::reading::{FreeSlot, Reading};
+use crate::waiting::Waiting;
 use a2_device::Device;
 use byteorder::{ByteOrder, LittleEndian};
 use std::alloc::{AllocError, Allocator, Global};
 use vol_parts::{Fault, WalkError};
 
 /// The key block of the volume's directory.
-pub(crate) const VOLUME_KEY: u32 = 2;
+pub(crate) const VOLUME_KEY: u16 = 2;
 
 /// The storage type in a subdirectory's header.
 const SUBDIRECTORY: u8 = 0x0e;
@@ -34,21 +35,21 @@ const ENTRIES_PER_BLOCK: usize = 0x24;
 
 const NEXT: usize = 0x02;
 
-/// The directories of a volume so far: their blocks, their entries in order, the entries that wait with the next of
+/// The directories of a volume so far: their blocks, their entries in order, the slots whose entries wait with the next of
 /// them last, the first slot without an entry of each directory that has one, and which blocks were met.
 #[derive(Drop)]
 pub struct Tree<A: Allocator = Global> {
-    pub blocks: Vec<u32, A>,
+    pub blocks: Vec<u16, A>,
     pub entries: Vec<Entry, A>,
-    pub pending: Vec<Entry, A>,
+    pub pending: Vec<Waiting, A>,
     pub free: Vec<FreeSlot, A>,
     pub met: Vec<bool, A>,
 }
 
-fn next_block(unit: &[u8; BLOCK_BYTES]) -> u32
+fn next_block(unit: &[u8; BLOCK_BYTES]) -> u16
     ensures { result ≡ next_of unit.now }
 {
-    LittleEndian::read_u16(&unit[NEXT..]) as u32
+    LittleEndian::read_u16(&unit[NEXT..])
 }
 
 /// Whether a key block has a header of this type.
@@ -93,32 +94,32 @@ impl<A: Allocator> Tree<A> {
     // Takes one block of a directory.
     fn take(
         &mut self,
-        block: u32,
+        block: u16,
         unit: &[u8; BLOCK_BYTES],
-        reading: &mut Reading<A>,
+        reading: &mut Reading,
     ) -> Result<(), AllocError>
         requires { block < length self.old.met.items }
         ensures blocks { OnOk result (self.new.blocks.items ≡ self.old.blocks.items ++ block ∷ []) }
         ensures met { OnOk result (self.new.met.items ≡ set self.old.met.items block true) }
         ensures key { reading.new.key ≡ reading.old.key }
-        ensures inside { OnOk result (reading.new.entries.items ≡ reading.old.entries.items ++ entries_of reading.old.key block unit.now) }
         ensures first { OnOk result (reading.new.free ≡ option_or reading.old.free (first_free_of reading.old.key block unit.now)) }
-        ensures within { (places : ℕ) → block < places → IsReadWithin places reading.old.key reading.old.entries.items reading.old.free
-            → OnOk result (IsReadWithin places reading.old.key reading.new.entries.items reading.new.free) }
+        ensures within { (places : ℕ) → block < places → IsReadWithin places reading.old.key reading.old.free
+            → OnOk result (IsReadWithin places reading.old.key reading.new.free) }
         ensures same { (self.new.entries ≡ self.old.entries) × (self.new.pending ≡ self.old.pending) × (self.new.free ≡ self.old.free) }
     {
         self.blocks.push(block)?;
         self.met[block as usize] = true;
-        reading.take(block, unit)
+        reading.take(block, unit);
+        Ok(())
     }
 
     // Reads one block of a directory and takes it.
     fn read<D: Device>(
         &mut self,
         device: &mut D,
-        block: u32,
+        block: u16,
         unit: &mut [u8; BLOCK_BYTES],
-        reading: &mut Reading<A>,
+        reading: &mut Reading,
     ) -> Result<(), WalkError>
         requires size { (D.state device.old).unit_size ≡ 512 }
         requires met { length self.old.met.items ≡ (D.state device.old).places }
@@ -129,14 +130,13 @@ impl<A: Allocator> Tree<A> {
         ensures blocks { OnOk result (self.new.blocks.items ≡ self.old.blocks.items ++ block ∷ []) }
         ensures met { OnOk result (self.new.met.items ≡ set self.old.met.items block true) }
         ensures key { reading.new.key ≡ reading.old.key }
-        ensures inside { OnOk result (reading.new.entries.items ≡ reading.old.entries.items ++ entries_of reading.old.key block unit.new) }
         ensures first { OnOk result (reading.new.free ≡ option_or reading.old.free (first_free_of reading.old.key block unit.new)) }
-        ensures within { (places : ℕ) → block < places → IsReadWithin places reading.old.key reading.old.entries.items reading.old.free
-            → OnOk result (IsReadWithin places reading.old.key reading.new.entries.items reading.new.free) }
+        ensures within { (places : ℕ) → block < places → IsReadWithin places reading.old.key reading.old.free
+            → OnOk result (IsReadWithin places reading.old.key reading.new.free) }
         ensures unit { IsTrue (D.state device.old).honest → OnOk result (unit.new ≡ unit_at (D.state device.old).store block) }
         ensures same { (self.new.entries ≡ self.old.entries) × (self.new.pending ≡ self.old.pending) × (self.new.free ≡ self.old.free) }
     {
-        if device.read(block, unit).is_err() {
+        if device.read(block as u32, unit).is_err() {
             return Err(WalkError::Device);
         }
         self.take(block, unit, reading)?;
@@ -148,30 +148,30 @@ impl<A: Allocator> Tree<A> {
         &mut self,
         device: &mut D,
         unit: &mut [u8; BLOCK_BYTES],
-        reading: &mut Reading<A>,
+        reading: &mut Reading,
     ) -> Result<(), WalkError>
         requires size { (D.state device.old).unit_size ≡ 512 }
         requires table { IsTable (D.state device.old).places self.old.met.items self.old.blocks.items }
 
         ensures device { OnlyReads (met_device result) (D.state device.old) (D.state device.new) }
         ensures table { OnOk result (IsTable (D.state device.old).places self.new.met.items self.new.blocks.items) }
-        ensures work { OnOk result (work self.new.met.items reading.new.entries.items ≤ work self.old.met.items reading.old.entries.items) }
-        ensures within { IsReadWithin (D.state device.old).places reading.old.key reading.old.entries.items reading.old.free
-            → OnOk result (IsReadWithin (D.state device.old).places reading.old.key reading.new.entries.items reading.new.free) }
+        ensures more { OnOk result (HasMetMore self.old.met.items self.new.met.items self.old.blocks.items self.new.blocks.items) }
+        ensures within { IsReadWithin (D.state device.old).places reading.old.key reading.old.free
+            → OnOk result (IsReadWithin (D.state device.old).places reading.old.key reading.new.free) }
         ensures key { reading.new.key ≡ reading.old.key }
         ensures found { IsTrue (D.state device.old).honest → (before : List ℕ)
-            → IsFollowing (D.state device.old).store reading.old.key before self.old.blocks.items reading.old.entries.items reading.old.free reading.old.key unit.old
-            → OnOk result (IsReadOut (D.state device.old).store reading.old.key before self.new.blocks.items reading.new.entries.items reading.new.free) }
+            → IsFollowing (D.state device.old).store reading.old.key before self.old.blocks.items reading.old.free reading.old.key unit.old
+            → OnOk result (IsReadOut (D.state device.old).store reading.old.key before self.new.blocks.items reading.new.free) }
         ensures refused { IsTrue (D.state device.old).honest → (before : List ℕ)
-            → IsFollowing (D.state device.old).store reading.old.key before self.old.blocks.items reading.old.entries.items reading.old.free reading.old.key unit.old
+            → IsFollowing (D.state device.old).store reading.old.key before self.old.blocks.items reading.old.free reading.old.key unit.old
             → IfErr result (λ e. (fault : Fault) → e ≡ AFault fault → (holder : ℕ) × (fault ≡ ADirLink holder) × HasBadLink (D.state device.old).store before reading.old.key holder) }
         ensures same { (self.new.entries ≡ self.old.entries) × (self.new.pending ≡ self.old.pending) × (self.new.free ≡ self.old.free) }
     {
         let mut holder = reading.key;
         let mut next = next_block(unit);
         while next != 0 {
-            if !self.is_new(device.places(), next) {
-                return Err(WalkError::Fault(Fault::DirLink(holder)));
+            if !self.is_new(device.places(), next as u32) {
+                return Err(WalkError::Fault(Fault::DirLink(holder as u32)));
             }
             self.read(device, next, unit, reading)?;
             holder = next;
@@ -181,64 +181,82 @@ impl<A: Allocator> Tree<A> {
     }
 
     // Reads the subdirectory that an entry names.
-    fn open<D: Device>(
-        &mut self,
-        alloc: A,
-        device: &mut D,
-        entry: &Entry,
-    ) -> Result<Reading<A>, WalkError>
+    fn open<D: Device>(&mut self, device: &mut D, entry: &Entry) -> Result<Reading, WalkError>
         requires size { (D.state device.old).unit_size ≡ 512 }
         requires table { IsTable (D.state device.old).places self.old.met.items self.old.blocks.items }
 
         ensures device { OnlyReads (met_device result) (D.state device.old) (D.state device.new) }
         ensures table { IfOk result (λ reading. IsTable (D.state device.old).places self.new.met.items self.new.blocks.items) }
-        ensures work { IfOk result (λ reading. work self.new.met.items reading.entries.items < work self.old.met.items []) }
-        ensures within { IfOk result (λ reading. IsReadWithin (D.state device.old).places reading.key reading.entries.items reading.free) }
+        ensures more { IfOk result (λ reading. HasMetMore self.old.met.items self.new.met.items self.old.blocks.items self.new.blocks.items) }
+        ensures within { IfOk result (λ reading. IsReadWithin (D.state device.old).places reading.key reading.free) }
         ensures key { IfOk result (λ reading. reading.key ≡ key_of entry.now) }
         ensures found { IsTrue (D.state device.old).honest → IfOk result (λ reading.
-            IsReadOut (D.state device.old).store (key_of entry.now) self.old.blocks.items self.new.blocks.items reading.entries.items reading.free
+            IsReadOut (D.state device.old).store (key_of entry.now) self.old.blocks.items self.new.blocks.items reading.free
             × HasKind 14 (unit_at (D.state device.old).store (key_of entry.now)) × HasSizes (unit_at (D.state device.old).store (key_of entry.now))) }
         ensures refused { IsTrue (D.state device.old).honest → IfErr result (λ e. (fault : Fault) → e ≡ AFault fault
             → SubdirectoryFaultAt (D.state device.old).store self.old.blocks.items entry.now.place (key_of entry.now) fault) }
         ensures same { (self.new.entries ≡ self.old.entries) × (self.new.pending ≡ self.old.pending) × (self.new.free ≡ self.old.free) }
     {
-        let key = entry.key();
-        if !self.is_new(device.places(), key) {
-            return Err(WalkError::Fault(Fault::DirLink(entry.place)));
+        let key = entry.key_block();
+        if !self.is_new(device.places(), key as u32) {
+            return Err(WalkError::Fault(Fault::DirLink(entry.place as u32)));
         }
         let mut unit = [0; BLOCK_BYTES];
-        let mut reading = Reading::new(alloc, key);
+        let mut reading = Reading::new(key);
         self.read(device, key, &mut unit, &mut reading)?;
         if !has_kind(&unit, SUBDIRECTORY) {
-            return Err(WalkError::Fault(Fault::DirLink(entry.place)));
+            return Err(WalkError::Fault(Fault::DirLink(entry.place as u32)));
         }
         if !has_sizes(&unit) {
-            return Err(WalkError::Fault(Fault::Geometry(key)));
+            return Err(WalkError::Fault(Fault::Geometry(key as u32)));
         }
         self.follow(device, &mut unit, &mut reading)?;
         Ok(reading)
     }
 
-    // Keeps the first slot without an entry of a directory that was read; its entries wait from then on.
-    fn wait(&mut self, reading: Reading<A>) -> Result<(), AllocError>
-        ensures pending { OnOk result (self.new.pending.items ≡ self.old.pending.items ++ reverse reading.entries.items) }
+    // Lets the blocks of a directory wait, those from a number on, the first of them last.
+    fn wait_from(&mut self, key: u16, first: usize) -> Result<(), AllocError>
+        requires { first ≤ length self.old.blocks.items }
+        ensures pending { OnOk result (self.new.pending.items ≡ self.old.pending.items ++ reverse (map (whole_block key) (drop first self.old.blocks.items))) }
+        ensures same { (self.new.blocks ≡ self.old.blocks) × (self.new.met ≡ self.old.met) × (self.new.entries ≡ self.old.entries) × (self.new.free ≡ self.old.free) }
+    {
+        for number in (first..self.blocks.len()).rev() {
+            self.pending.push(Waiting {
+                directory: key,
+                place: self.blocks[number],
+                slot: 0,
+            })?;
+        }
+        Ok(())
+    }
+
+    // Keeps the first slot without an entry of a directory that was read; its blocks, from a number on, wait from then on.
+    fn wait(&mut self, first: usize, reading: Reading) -> Result<(), AllocError>
+        requires { first ≤ length self.old.blocks.items }
+        ensures pending { OnOk result (self.new.pending.items ≡ self.old.pending.items ++ reverse (map (whole_block reading.key) (drop first self.old.blocks.items))) }
         ensures free { OnOk result (self.new.free.items ≡ self.old.free.items ++ kept_slots reading.key reading.free) }
         ensures same { (self.new.blocks ≡ self.old.blocks) × (self.new.met ≡ self.old.met) × (self.new.entries ≡ self.old.entries) }
     {
-        let Reading {
-            key,
-            mut entries,
-            free,
-        } = reading;
-        if let Some((place, number)) = free {
+        if let Some((place, number)) = reading.free {
             self.free.push(FreeSlot {
-                directory: key,
+                directory: reading.key,
                 place,
                 number,
             })?;
         }
-        entries.reverse();
-        self.pending.append(&mut entries)?;
+        self.wait_from(reading.key, first)
+    }
+
+    // Lets the slots behind that of an entry wait.
+    fn wait_behind(&mut self, slots: Waiting, entry: &Entry) -> Result<(), AllocError>
+        requires { entry.now.slot < 13 }
+        ensures pending { OnOk result (self.new.pending.items ≡ self.old.pending.items ++ record slots { slot = entry.now.slot + 1 } ∷ []) }
+        ensures same { (self.new.blocks ≡ self.old.blocks) × (self.new.met ≡ self.old.met) × (self.new.entries ≡ self.old.entries) × (self.new.free ≡ self.old.free) }
+    {
+        self.pending.push(Waiting {
+            slot: entry.slot + 1,
+            ..slots
+        })?;
         Ok(())
     }
 
@@ -251,60 +269,117 @@ impl<A: Allocator> Tree<A> {
         Ok(())
     }
 
-    // Lists one entry; those inside it wait from then on.
-    fn list<D: Device>(&mut self, alloc: A, device: &mut D, entry: Entry) -> Result<(), WalkError>
+    // Lists the entry of a subdirectory; what is inside it waits from then on.
+    fn list_directory<D: Device>(&mut self, device: &mut D, entry: Entry) -> Result<(), WalkError>
         requires size { (D.state device.old).unit_size ≡ 512 }
         requires table { IsTable (D.state device.old).places self.old.met.items self.old.blocks.items }
+        requires directory { is_directory entry ≡ true }
 
         ensures device { OnlyReads (met_device result) (D.state device.old) (D.state device.new) }
         ensures table { OnOk result (IsTable (D.state device.old).places self.new.met.items self.new.blocks.items) }
         ensures work { OnOk result (work self.new.met.items self.new.pending.items ≤ work self.old.met.items self.old.pending.items) }
         ensures entries { OnOk result (self.new.entries.items ≡ self.old.entries.items ++ entry ∷ []) }
-        ensures within { All (IsInSlot (D.state device.old).places) self.old.pending.items → OnOk result (All (IsInSlot (D.state device.old).places) self.new.pending.items) }
+        ensures waiting { All (IsWaitingWithin (D.state device.old).places) self.old.pending.items → OnOk result (All (IsWaitingWithin (D.state device.old).places) self.new.pending.items) }
         ensures kept { All (IsKeptWithin (D.state device.old).places) self.old.free.items → OnOk result (All (IsKeptWithin (D.state device.old).places) self.new.free.items) }
         ensures listed { IsTrue (D.state device.old).honest
-            → IsListing (D.state device.old).store self.old.blocks.items self.old.entries.items (entry ∷ reverse self.old.pending.items) self.old.free.items
-            → OnOk result (IsListing (D.state device.old).store self.new.blocks.items self.new.entries.items (reverse self.new.pending.items) self.new.free.items) }
+            → IsListing (D.state device.old).store self.old.blocks.items self.old.entries.items (entry ∷ all_waiting (D.state device.old).store self.old.pending.items) self.old.free.items
+            → OnOk result (IsListing (D.state device.old).store self.new.blocks.items self.new.entries.items (all_waiting (D.state device.old).store self.new.pending.items) self.new.free.items) }
         ensures refused { IsTrue (D.state device.old).honest
-            → IsListing (D.state device.old).store self.old.blocks.items self.old.entries.items (entry ∷ reverse self.old.pending.items) self.old.free.items
+            → IsListing (D.state device.old).store self.old.blocks.items self.old.entries.items (entry ∷ all_waiting (D.state device.old).store self.old.pending.items) self.old.free.items
             → IfErr result (λ e. (fault : Fault) → e ≡ AFault fault → IsCutOff (D.state device.old).store fault) }
     {
         self.add(entry)?;
-        if !entry.is_directory() {
-            return Ok(());
-        }
-        let reading = self.open(alloc, device, &entry)?;
-        self.wait(reading)?;
+        let first = self.blocks.len();
+        let reading = self.open(device, &entry)?;
+        self.wait(first, reading)?;
         Ok(())
     }
 
-    // Lists the entries that wait, and all that is inside them.
-    fn list_all<D: Device>(&mut self, alloc: A, device: &mut D) -> Result<(), WalkError>
-    where
-        A: Copy,
+    // Lists the entries of files in slots that wait, up to the first entry of a subdirectory.
+    fn list_files(
+        &mut self,
+        slots: Waiting,
+        unit: &[u8; BLOCK_BYTES],
+    ) -> Result<Option<Entry>, AllocError>
+        requires { slots.slot ≤ 13 }
+        ensures stopped { IfOk result (λ found. IfSome found (IsStop slots unit.now)) }
+        ensures inside { (places : ℕ) → IsWaitingWithin places slots → IfOk result (λ found. IfSome found (IsInSlot places)) }
+        ensures few { IfOk result (FewListed slots self.old.entries.items self.new.entries.items) }
+        ensures within { (places : ℕ) → IsWaitingWithin places slots → All (IsInSlot places) self.old.entries.items → OnOk result (All (IsInSlot places) self.new.entries.items) }
+        ensures listed { (store : List (List ℕ)) (others : List AnEntry)
+            → IsListing store self.old.blocks.items self.old.entries.items (entries_from slots.directory slots.place unit.now slots.slot ++ others) self.old.free.items
+            → IfOk result (λ found. IsListing store self.old.blocks.items self.new.entries.items (left_behind slots unit.now found ++ others) self.old.free.items) }
+        ensures same { (self.new.blocks ≡ self.old.blocks) × (self.new.met ≡ self.old.met) × (self.new.pending ≡ self.old.pending) × (self.new.free ≡ self.old.free) }
+    {
+        for slot in slots.slot..ENTRIES {
+            let entry = Entry::at(slots.directory, slots.place, unit, slot);
+            if entry.is_listed() {
+                if entry.is_directory() {
+                    return Ok(Some(entry));
+                }
+                self.add(entry)?;
+            }
+        }
+        Ok(None)
+    }
+
+    // Lists the entries of slots that wait; where one is of a subdirectory, the slots behind it wait behind what is inside it.
+    fn list<D: Device>(&mut self, device: &mut D, slots: Waiting) -> Result<(), WalkError>
         requires size { (D.state device.old).unit_size ≡ 512 }
         requires table { IsTable (D.state device.old).places self.old.met.items self.old.blocks.items }
+        requires waiting { IsWaitingWithin (D.state device.old).places slots }
 
         ensures device { OnlyReads (met_device result) (D.state device.old) (D.state device.new) }
         ensures table { OnOk result (IsTable (D.state device.old).places self.new.met.items self.new.blocks.items) }
-        ensures within { All (IsInSlot (D.state device.old).places) self.old.entries.items → All (IsInSlot (D.state device.old).places) self.old.pending.items
-            → OnOk result (All (IsInSlot (D.state device.old).places) self.new.entries.items) }
+        ensures work { OnOk result (work self.new.met.items self.new.pending.items < work self.old.met.items self.old.pending.items + left_in slots) }
+        ensures few { OnOk result (length self.new.entries.items + work self.new.met.items self.new.pending.items
+            ≤ length self.old.entries.items + work self.old.met.items self.old.pending.items + left_in slots) }
+        ensures within { All (IsInSlot (D.state device.old).places) self.old.entries.items → OnOk result (All (IsInSlot (D.state device.old).places) self.new.entries.items) }
+        ensures waiting { All (IsWaitingWithin (D.state device.old).places) self.old.pending.items → OnOk result (All (IsWaitingWithin (D.state device.old).places) self.new.pending.items) }
+        ensures kept { All (IsKeptWithin (D.state device.old).places) self.old.free.items → OnOk result (All (IsKeptWithin (D.state device.old).places) self.new.free.items) }
+        ensures listed { IsTrue (D.state device.old).honest
+            → IsListing (D.state device.old).store self.old.blocks.items self.old.entries.items (waiting_in (D.state device.old).store slots ++ all_waiting (D.state device.old).store self.old.pending.items) self.old.free.items
+            → OnOk result (IsListing (D.state device.old).store self.new.blocks.items self.new.entries.items (all_waiting (D.state device.old).store self.new.pending.items) self.new.free.items) }
+        ensures refused { IsTrue (D.state device.old).honest
+            → IsListing (D.state device.old).store self.old.blocks.items self.old.entries.items (waiting_in (D.state device.old).store slots ++ all_waiting (D.state device.old).store self.old.pending.items) self.old.free.items
+            → IfErr result (λ e. (fault : Fault) → e ≡ AFault fault → IsCutOff (D.state device.old).store fault) }
+    {
+        let mut unit = [0; BLOCK_BYTES];
+        if device.read(slots.place as u32, &mut unit).is_err() {
+            return Err(WalkError::Device);
+        }
+        let Some(entry) = self.list_files(slots, &unit)? else {
+            return Ok(());
+        };
+        self.wait_behind(slots, &entry)?;
+        self.list_directory(device, entry)
+    }
+
+    // Lists the entries that wait, and all that is inside them.
+    fn list_all<D: Device>(&mut self, device: &mut D) -> Result<(), WalkError>
+        requires size { (D.state device.old).unit_size ≡ 512 }
+        requires table { IsTable (D.state device.old).places self.old.met.items self.old.blocks.items }
+        requires waiting { All (IsWaitingWithin (D.state device.old).places) self.old.pending.items }
+
+        ensures device { OnlyReads (met_device result) (D.state device.old) (D.state device.new) }
+        ensures table { OnOk result (IsTable (D.state device.old).places self.new.met.items self.new.blocks.items) }
+        ensures within { All (IsInSlot (D.state device.old).places) self.old.entries.items → OnOk result (All (IsInSlot (D.state device.old).places) self.new.entries.items) }
         ensures kept { All (IsKeptWithin (D.state device.old).places) self.old.free.items → OnOk result (All (IsKeptWithin (D.state device.old).places) self.new.free.items) }
         ensures few { OnOk result (length self.new.entries.items ≤ length self.old.entries.items + work self.old.met.items self.old.pending.items) }
         ensures listed { IsTrue (D.state device.old).honest
-            → IsListing (D.state device.old).store self.old.blocks.items self.old.entries.items (reverse self.old.pending.items) self.old.free.items
+            → IsListing (D.state device.old).store self.old.blocks.items self.old.entries.items (all_waiting (D.state device.old).store self.old.pending.items) self.old.free.items
             → OnOk result (IsListing (D.state device.old).store self.new.blocks.items self.new.entries.items [] self.new.free.items) }
         ensures refused { IsTrue (D.state device.old).honest
-            → IsListing (D.state device.old).store self.old.blocks.items self.old.entries.items (reverse self.old.pending.items) self.old.free.items
+            → IsListing (D.state device.old).store self.old.blocks.items self.old.entries.items (all_waiting (D.state device.old).store self.old.pending.items) self.old.free.items
             → IfErr result (λ e. (fault : Fault) → e ≡ AFault fault → IsCutOff (D.state device.old).store fault) }
     {
-        while let Some(entry) = self.pending.pop() {
-            self.list(alloc, device, entry)?;
+        while let Some(slots) = self.pending.pop() {
+            self.list(device, slots)?;
         }
         Ok(())
     }
 
-    // Reads the volume's directory, whose key block is at hand; its entries wait.
+    // Reads the volume's directory, whose key block is at hand; its blocks wait.
     fn open_volume<D: Device>(
         alloc: A,
         device: &mut D,
@@ -317,19 +392,20 @@ impl<A: Allocator> Tree<A> {
 
         ensures device { OnlyReads (met_device result) (D.state device.old) (D.state device.new) }
         ensures table { IfOk result (λ tree. IsTable (D.state device.old).places tree.met.items tree.blocks.items) }
-        ensures within { IfOk result (λ tree. All (IsInSlot (D.state device.old).places) tree.entries.items × All (IsInSlot (D.state device.old).places) tree.pending.items) }
+        ensures within { IfOk result (λ tree. All (IsInSlot (D.state device.old).places) tree.entries.items) }
+        ensures waiting { IfOk result (λ tree. All (IsWaitingWithin (D.state device.old).places) tree.pending.items) }
         ensures kept { IfOk result (λ tree. All (IsKeptWithin (D.state device.old).places) tree.free.items) }
         ensures few { IfOk result (λ tree. length tree.entries.items + work tree.met.items tree.pending.items ≤ 14 * (D.state device.old).places) }
         ensures listed { IsTrue (D.state device.old).honest → IsVolumeKey (D.state device.old).store unit.old
-            → IfOk result (λ tree. IsListing (D.state device.old).store tree.blocks.items tree.entries.items (reverse tree.pending.items) tree.free.items) }
+            → IfOk result (λ tree. IsListing (D.state device.old).store tree.blocks.items tree.entries.items (all_waiting (D.state device.old).store tree.pending.items) tree.free.items) }
         ensures refused { IsTrue (D.state device.old).honest → IsVolumeKey (D.state device.old).store unit.old
             → IfErr result (λ e. (fault : Fault) → e ≡ AFault fault → (holder : ℕ) × (fault ≡ ADirLink holder) × HasBadLink (D.state device.old).store [] 2 holder) }
     {
         let mut tree = Tree::start(alloc, device.places())?;
-        let mut reading = Reading::new(alloc, VOLUME_KEY);
+        let mut reading = Reading::new(VOLUME_KEY);
         tree.take(VOLUME_KEY, unit, &mut reading)?;
         tree.follow(device, unit, &mut reading)?;
-        tree.wait(reading)?;
+        tree.wait(0, reading)?;
         Ok(tree)
     }
 
@@ -358,7 +434,7 @@ impl<A: Allocator> Tree<A> {
             → IfErr result (λ e. (fault : Fault) → e ≡ AFault fault → TreeFaultAt (D.state device.old).store fault) }
     {
         let mut tree = Tree::open_volume(alloc, device, unit)?;
-        tree.list_all(alloc, device)?;
+        tree.list_all(device)?;
         Ok(tree)
     }
 }

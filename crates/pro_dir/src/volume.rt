@@ -5,13 +5,13 @@ ghost use Rattle.a2_device.specs.Reading.{met_device};
 ghost use Rattle.vol_parts.specs.declared.fault.Fault.{Fault};
 ghost use Rattle.vol_parts.specs.declared.fault.WalkError.TheVariants.{Fault as AFault};
 ghost use Rattle.pro_dir.specs.Entry.{name_of, slot_bytes, free_slots_in};
-ghost use Rattle.pro_dir.specs.Parents.{AreParents};
+ghost use Rattle.pro_dir.specs.Parents.{KnowsDirectories};
 ghost use Rattle.pro_dir.specs.Tree.{HasKind, HasSizes, IsRun};
 ghost use Rattle.pro_dir.specs.Volume.{Directory, Describes, VolumeFaultAt, map_blocks, map_first, total_blocks};
 ghost use Rattle.pro_dir.specs.Walk.{IsKeyOf, IsTable, is_met};
 
 use crate::entry::{BLOCK_BYTES, ENTRY_BYTES, Entry, NAME};
-use crate::parents::parents_of;
+use crate::parents::directories_of;
 use crate::reading::FreeSlot;
 use crate::tree::{Tree, VOLUME_KEY, has_kind, has_sizes};
 use a2_device::Device;
@@ -64,16 +64,16 @@ impl Header {
 }
 
 /// The header of a volume, its directory blocks, all entries in directory order, those inside a subdirectory after its
-/// own entry, for each the entry of the directory in which it stands, and the first slot without an entry of each
-/// directory that has one.
+/// own entry, for each key block the entry of its directory, and the first slot without an entry of each directory that has
+/// one.
 #[derive(Debug, Drop)]
 pub struct VolumeDir<A: Allocator = Global> {
     header: Header,
-    blocks: Vec<u32, A>,
+    blocks: Vec<u16, A>,
     pub(crate) entries: Vec<Entry, A>,
-    pub(crate) parents: Vec<Option<u32>, A>,
+    pub(crate) directories: Vec<Option<u32>, A>,
     free: Vec<FreeSlot, A>,
-    ghost related: { AreParents entries.items parents.items },
+    ghost related: { KnowsDirectories entries.items directories.items },
     ghost few: { length entries.items < 4294967296 },
 }
 
@@ -127,17 +127,17 @@ impl<A: Allocator> VolumeDir<A> {
             → VolumeFaultAt (D.state device.old).store fault × ((directory : Directory) → ¬ Describes (D.state device.old).store directory)) }
     {
         let mut unit = [0; BLOCK_BYTES];
-        if device.read(VOLUME_KEY, &mut unit).is_err() {
+        if device.read(VOLUME_KEY as u32, &mut unit).is_err() {
             return Err(WalkError::Device);
         }
         let places = device.places();
         let header = Header::of(&unit);
         if !has_geometry(&unit, &header, places) {
-            return Err(WalkError::Fault(Fault::Geometry(VOLUME_KEY)));
+            return Err(WalkError::Fault(Fault::Geometry(VOLUME_KEY as u32)));
         }
         let tree = Tree::walk(alloc, device, &mut unit)?;
         if !has_map(&tree, header.bitmap(), places) {
-            return Err(WalkError::Fault(Fault::MapPointer(VOLUME_KEY)));
+            return Err(WalkError::Fault(Fault::MapPointer(VOLUME_KEY as u32)));
         }
         let Tree {
             blocks,
@@ -145,12 +145,12 @@ impl<A: Allocator> VolumeDir<A> {
             free,
             ..
         } = tree;
-        let parents = parents_of(alloc, entries.as_slice())?;
+        let directories = directories_of(alloc, entries.as_slice())?;
         Ok(VolumeDir {
             header,
             blocks,
             entries,
-            parents,
+            directories,
             free,
         })
     }
@@ -178,7 +178,7 @@ impl<A: Allocator> VolumeDir<A> {
     }
 
     /// All directory blocks, in the order in which the walk met them.
-    pub fn blocks(&self) -> &[u32]
+    pub fn blocks(&self) -> &[u16]
         ensures { result.now ≡ (directory_of self.now).blocks }
     {
         self.blocks.as_slice()
@@ -195,7 +195,7 @@ impl<A: Allocator> VolumeDir<A> {
     pub fn free_slot(&self, dir: u32) -> Option<(u32, u32)>
         ensures { result ≡ free_slot_of self.now dir }
     {
-        let slot = self.free.iter().find(|slot| slot.directory == dir)?;
-        Some((slot.place, slot.number))
+        let slot = self.free.iter().find(|slot| slot.directory as u32 == dir)?;
+        Some((slot.place as u32, slot.number as u32))
     }
 }

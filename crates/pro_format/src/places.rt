@@ -40,7 +40,7 @@ pub(crate) fn fixed_places<A: Allocator, B: Allocator>(
 }
 
 /// The table with some blocks given to the system.
-pub(crate) fn with_blocks<A: Allocator>(mut table: Vec<bool, A>, blocks: &[u32]) -> Vec<bool, A>
+pub(crate) fn with_blocks<A: Allocator>(mut table: Vec<bool, A>, blocks: &[u16]) -> Vec<bool, A>
     requires { All (λ block. block < length table.items) blocks.now }
     ensures { IsMarked blocks.now table.items result.items }
 {

@@ -93,8 +93,8 @@ impl<A: Allocator + Copy> Format for Prodos<A> {
         let entry = &volume.directory.entries()[file as usize];
         Holder {
             entry: true,
-            place: entry.place,
-            slot: entry.slot,
+            place: entry.place as u32,
+            slot: entry.slot as u32,
         }
     }
 

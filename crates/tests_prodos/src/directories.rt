@@ -19,7 +19,7 @@ pub fn volume_of<A: Allocator + Copy>(alloc: A, image: Vec<u8>) -> Result<Volume
 }
 
 // Where an entry stands: its directory, its block and its slot there.
-fn stands_at(entry: &Entry, directory: u32, place: u32, slot: u32) -> bool {
+fn stands_at(entry: &Entry, directory: u16, place: u16, slot: u8) -> bool {
     entry.directory == directory && entry.place == place && entry.slot == slot
 }
 

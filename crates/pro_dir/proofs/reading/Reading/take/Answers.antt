@@ -4,6 +4,6 @@ use Rattle.pro_dir.proofs.Within.{read_within}
 use Rattle.pro_dir.proofs.reading.Reading.take.Goals as goal
 
 pub returns-clause-within : goal.returns-clause-within
-returns-clause-within g c = λ places below before.
-    read_within places c.args.self.now.key c.args.place c.args.unit.now c.args.self.now.entries.items c.take_entries.new.entries.items c.args.self.now.free c.or-self.result below c.told-unit
-    c.in_ok-take_entries.ensures (c.or-self.ensures ∙ ap (option_or c.args.self.now.free) c.first_free.ensures) before
+returns-clause-within c = λ places below before.
+    read_within places c.args.self.now.key c.args.place c.args.unit.now c.args.self.now.free c.or-self.result below
+    (c.or-self.ensures ∙ ap (option_or c.args.self.now.free) c.first_free.ensures) before

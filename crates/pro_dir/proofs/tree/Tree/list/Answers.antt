@@ -1,73 +1,115 @@
-use Rattle.std.proofs.Common.{◌≡◌, ◌++◌, [], ◌∷◌, ℕ, sym, ◌∙◌, ap, subst, true, false, Vec}
-use Rattle.std.specs.Prelude.{All, reverse}
+use Rattle.std.proofs.Common.{◌≡◌, ◌++◌, ◌∷◌, [], ◌+◌, ℕ, sym, ◌∙◌, ap, subst, Vec, false}
+use Rattle.std.specs.Prelude.{All, IfErr, IfSome, IsTrue, None, OnOk, is_err}
+use Rattle.a2_device.specs.Device.{DeviceState, OnlyReads}
+use Rattle.a2_device.specs.Reading.{then_reads}
+use Rattle.a2_device.proofs.Results.{at_ok, on_ok_both}
+use Rattle.vol_parts.specs.declared.fault.Fault.{Fault}
+use Rattle.vol_parts.specs.declared.fault.WalkError.TheVariants.{Fault as AFault}
 use Rattle.pro_dir.specs.declared.entry.Entry.{Entry}
 use Rattle.pro_dir.specs.declared.reading.FreeSlot.{FreeSlot}
-use Rattle.pro_dir.specs.Entry.{is_directory, key_of}
-use Rattle.pro_dir.specs.Walk.{IsReadOut, IsTable, kept_slots}
-use Rattle.pro_dir.specs.Within.{IsInSlot, IsKeptWithin}
-use Rattle.pro_dir.proofs.Within.{kept_within, waits_within}
-use Rattle.pro_dir.proofs.Listing.{file_listed, directory_listed}
+use Rattle.pro_dir.specs.declared.waiting.Waiting.{Waiting}
+use Rattle.pro_dir.specs.Tree.{IsCutOff}
+use Rattle.pro_dir.specs.Walk.{IsListing, IsStop, all_waiting}
+use Rattle.pro_dir.specs.Within.{IsInSlot, IsWaitingWithin}
+use Rattle.pro_dir.proofs.Within.{behind_within, listed_within}
+use Rattle.pro_dir.proofs.Listing.{all_listed, listed_until, same_listing}
 use Rattle.pro_dir.proofs.tree.Tree.list.Goals as goal
 
-pub returns-then-not-is_directory-clause-listed : goal.returns-then-not-is_directory-clause-listed
-returns-then-not-is_directory-clause-listed g c = λ honest so.
+pub returns-in_default-clause-within : goal.returns-in_default-clause-within
+returns-in_default-clause-within g c = λ first. c.in_ok-entry.ensures.within (g.D.Device.state c.args.device.now).places c.requires.waiting first
+
+pub returns-in_default-clause-listed : goal.returns-in_default-clause-listed
+returns-in_default-clause-listed g c = λ honest so.
     let store = (g.D.Device.state c.args.device.now).store in
     let old = c.args.self.now in
-    let new = c.add.new.self in
-    let add = c.in_ok-add.ensures in
-    let file : is_directory c.args.entry ≡ false = sym c.is_directory.ensures ∙ c.if-not-is_directory.true in
-    file_listed store old.blocks.items new.blocks.items old.entries.items new.entries.items old.pending.items new.pending.items c.args.entry old.free.items new.free.items so file add.entries
-    (ap (λ (v : Vec ℕ _). v.items) add.same.0) (ap (λ (v : Vec Entry _). v.items) add.same.2) (ap (λ (v : Vec FreeSlot _). v.items) add.same.3)
+    let new = c.list_files.new.self in
+    let files = c.in_ok-entry.ensures in
+    let went : is_err c.read.result ≡ false = sym c.is_err.ensures.value ∙ c.if-is_err.false in
+    let none : c.in_ok-entry.field-0 ≡ None = c.in_default.is in
+    let done = all_listed store old.blocks.items old.entries.items new.entries.items old.pending.items old.free.items c.args.slots c.read.new.unit c.in_ok-entry.field-0
+    (at_ok c.read.result went (c.read.ensures.read honest)) (files.listed store) so none in
+    subst (λ (v : Vec ℕ _). IsListing store v.items new.entries.items (all_waiting store new.pending.items) new.free.items) (sym files.same.0)
+    (subst (λ (v : Vec Waiting _). IsListing store old.blocks.items new.entries.items (all_waiting store v.items) new.free.items) (sym files.same.2)
+    (subst (λ (v : Vec FreeSlot _). IsListing store old.blocks.items new.entries.items (all_waiting store old.pending.items) v.items) (sym files.same.3) done))
+
+pub returns-clause-device : goal.returns-clause-device
+returns-clause-device g c =
+    let went : is_err c.read.result ≡ false = sym c.is_err.ensures.value ∙ c.if-is_err.false in
+    let start = g.D.Device.state c.args.device.now in
+    let mid = g.D.Device.state c.read.new.self in
+    then_reads _ start mid (g.D.Device.state c.list_directory.new.device) (subst (λ failed. OnlyReads failed start mid) went c.read.ensures.device) c.list_directory.ensures.device
+
+pub returns-clause-within : goal.returns-clause-within
+returns-clause-within g c = λ all.
+    let places = (g.D.Device.state c.args.device.now).places in
+    let files = c.in_ok-entry.ensures in
+    let waits = c.wait_behind.new.self in
+    let new = c.list_directory.new.self in
+    let entry = c.in-Some.entry in
+    let inside = subst (λ found. IfSome found (IsInSlot places)) c.in-Some.is (files.inside places c.requires.waiting) in
+    let before = subst (λ (v : Vec Entry _). All (IsInSlot places) v.items) (sym c.in_ok-wait_behind.ensures.same.2) (files.within places c.requires.waiting all) in
+    on_ok_both c.list_directory.result c.list_directory.ensures.entries c.list_directory.ensures.entries
+    (λ listed again. listed_within places waits.entries.items new.entries.items entry listed before inside)
+
+pub returns-clause-waiting : goal.returns-clause-waiting
+returns-clause-waiting g c = λ all.
+    let start = g.D.Device.state c.args.device.now in
+    let old = c.args.self.now in
+    let waits = c.wait_behind.new.self in
+    let entry = c.in-Some.entry in
+    let same = c.read.ensures.device.same.places in
+    let slots : Waiting = record c.args.slots { slot = entry.slot + 1 } in
+    let waiting = c.in_ok-wait_behind.ensures.pending ∙ ap (λ (v : Vec Waiting _). v.items ++ slots ∷ []) c.in_ok-entry.ensures.same.2 in
+    let stop = subst (λ found. IfSome found (IsStop c.args.slots c.read.new.unit)) c.in-Some.is c.in_ok-entry.ensures.stopped in
+    let before = behind_within start.places old.pending.items waits.pending.items c.args.slots entry.slot stop.slot c.requires.waiting waiting all in
+    subst (λ n. OnOk c.list_directory.result (All (IsWaitingWithin n) c.list_directory.new.self.pending.items)) same
+    (c.list_directory.ensures.waiting (subst (λ n. All (IsWaitingWithin n) waits.pending.items) (sym same) before))
 
 pub returns-clause-listed : goal.returns-clause-listed
 returns-clause-listed g c = λ honest so.
     let start = g.D.Device.state c.args.device.now in
+    let mid = g.D.Device.state c.read.new.self in
     let old = c.args.self.now in
-    let new = c.wait.new.self in
-    let reading = c.in_ok-reading.reading in
-    let add = c.in_ok-add.ensures in
-    let opened = c.in_ok-reading.ensures in
-    let wait = c.in_ok-wait.ensures in
-    let directory : is_directory c.args.entry ≡ true = sym c.is_directory.ensures ∙ c.if-not-is_directory.false in
-    let found = opened.found honest in
-    let blocks : new.blocks.items ≡ c.open.new.self.blocks.items = ap (λ (v : Vec ℕ _). v.items) wait.same.0 in
-    let table = subst (λ bs. IsTable start.places c.open.new.self.met.items bs) (sym blocks) opened.table in
-    let out = subst (λ bs. IsReadOut start.store (key_of c.args.entry) bs new.blocks.items reading.entries.items reading.free) (ap (λ (v : Vec ℕ _). v.items) add.same.0)
-    (subst (λ bs. IsReadOut start.store (key_of c.args.entry) c.add.new.self.blocks.items bs reading.entries.items reading.free) (sym blocks) found.0) in
-    let entries : new.entries.items ≡ old.entries.items ++ c.args.entry ∷ [] =
-    ap (λ (v : Vec Entry _). v.items) wait.same.2 ∙ ap (λ (v : Vec Entry _). v.items) opened.same.0 ∙ add.entries in
-    let pending : new.pending.items ≡ old.pending.items ++ reverse reading.entries.items =
-    wait.pending ∙ ap (λ (v : Vec Entry _). v.items ++ reverse reading.entries.items) (opened.same.1 ∙ add.same.2) in
-    let free : new.free.items ≡ old.free.items ++ kept_slots (key_of c.args.entry) reading.free =
-    wait.free ∙ ap (λ (v : Vec FreeSlot _). v.items ++ kept_slots reading.key reading.free) (opened.same.2 ∙ add.same.3)
-    ∙ ap (λ (key : ℕ). old.free.items ++ kept_slots key reading.free) opened.key in
-    directory_listed start.store start.places c.open.new.self.met.items old.blocks.items new.blocks.items old.entries.items new.entries.items old.pending.items new.pending.items reading.entries.items
-    c.args.entry old.free.items new.free.items reading.free so directory table out found.1 found.2 entries pending free
+    let longer = c.list_files.new.self in
+    let waits = c.wait_behind.new.self in
+    let files = c.in_ok-entry.ensures in
+    let behind = c.in_ok-wait_behind.ensures in
+    let entry = c.in-Some.entry in
+    let went : is_err c.read.result ≡ false = sym c.is_err.ensures.value ∙ c.if-is_err.false in
+    let same : mid ≡ start = c.read.ensures.device.kept honest went in
+    let still : IsTrue mid.honest = subst IsTrue (sym c.read.ensures.device.same.honest) honest in
+    let slots : Waiting = record c.args.slots { slot = entry.slot + 1 } in
+    let waiting = behind.pending ∙ ap (λ (v : Vec Waiting _). v.items ++ slots ∷ []) files.same.2 in
+    let until = listed_until start.store old.blocks.items old.entries.items longer.entries.items old.pending.items old.free.items c.args.slots c.read.new.unit c.in_ok-entry.field-0
+    (at_ok c.read.result went (c.read.ensures.read honest)) (files.listed start.store) so entry waits.pending.items c.in-Some.is waiting in
+    let next = same_listing start.store old.blocks.items waits.blocks.items longer.entries.items waits.entries.items (entry ∷ all_waiting start.store waits.pending.items)
+    old.free.items waits.free.items (ap (λ (v : Vec ℕ _). v.items) (behind.same.0 ∙ files.same.0)) (ap (λ (v : Vec Entry _). v.items) behind.same.2)
+    (ap (λ (v : Vec FreeSlot _). v.items) (behind.same.3 ∙ files.same.3)) until in
+    let given = subst (λ (d : DeviceState). IsListing d.store waits.blocks.items waits.entries.items (entry ∷ all_waiting d.store waits.pending.items) waits.free.items) (sym same) next in
+    let new = c.list_directory.new.self in
+    subst (λ (d : DeviceState). OnOk c.list_directory.result (IsListing d.store new.blocks.items new.entries.items (all_waiting d.store new.pending.items) new.free.items)) same
+    (c.list_directory.ensures.listed still given)
 
-pub returns-clause-entries : goal.returns-clause-entries
-returns-clause-entries g c =
-    ap (λ (v : Vec Entry _). v.items) c.in_ok-wait.ensures.same.2 ∙ ap (λ (v : Vec Entry _). v.items) c.in_ok-reading.ensures.same.0 ∙ c.in_ok-add.ensures.entries
-
-pub returns-then-not-is_directory-clause-within : goal.returns-then-not-is_directory-clause-within
-returns-then-not-is_directory-clause-within g c = λ old.
-    subst (λ (v : Vec Entry _). All (IsInSlot (g.D.Device.state c.args.device.now).places) v.items) (sym c.in_ok-add.ensures.same.2) old
-
-pub returns-clause-within : goal.returns-clause-within
-returns-clause-within g c = λ old.
-    let reading = c.in_ok-reading.reading in
-    let opened = c.in_ok-reading.ensures in
-    let pending : c.wait.new.self.pending.items ≡ c.args.self.now.pending.items ++ reverse reading.entries.items =
-    c.in_ok-wait.ensures.pending ∙ ap (λ (v : Vec Entry _). v.items ++ reverse reading.entries.items) (opened.same.1 ∙ c.in_ok-add.ensures.same.2) in
-    waits_within (g.D.Device.state c.args.device.now).places c.args.self.now.pending.items c.wait.new.self.pending.items reading.entries.items pending old opened.within.entries
-
-pub returns-then-not-is_directory-clause-kept : goal.returns-then-not-is_directory-clause-kept
-returns-then-not-is_directory-clause-kept g c = λ old.
-    subst (λ (v : Vec FreeSlot _). All (IsKeptWithin (g.D.Device.state c.args.device.now).places) v.items) (sym c.in_ok-add.ensures.same.3) old
-
-pub returns-clause-kept : goal.returns-clause-kept
-returns-clause-kept g c = λ old.
-    let reading = c.in_ok-reading.reading in
-    let opened = c.in_ok-reading.ensures in
-    let free : c.wait.new.self.free.items ≡ c.args.self.now.free.items ++ kept_slots reading.key reading.free =
-    c.in_ok-wait.ensures.free ∙ ap (λ (v : Vec FreeSlot _). v.items ++ kept_slots reading.key reading.free) (opened.same.2 ∙ c.in_ok-add.ensures.same.3) in
-    kept_within (g.D.Device.state c.args.device.now).places reading.key c.args.self.now.free.items c.wait.new.self.free.items reading.free free opened.within.free old
+pub returns-clause-refused : goal.returns-clause-refused
+returns-clause-refused g c = λ honest so.
+    let start = g.D.Device.state c.args.device.now in
+    let mid = g.D.Device.state c.read.new.self in
+    let old = c.args.self.now in
+    let longer = c.list_files.new.self in
+    let waits = c.wait_behind.new.self in
+    let files = c.in_ok-entry.ensures in
+    let behind = c.in_ok-wait_behind.ensures in
+    let entry = c.in-Some.entry in
+    let went : is_err c.read.result ≡ false = sym c.is_err.ensures.value ∙ c.if-is_err.false in
+    let same : mid ≡ start = c.read.ensures.device.kept honest went in
+    let still : IsTrue mid.honest = subst IsTrue (sym c.read.ensures.device.same.honest) honest in
+    let slots : Waiting = record c.args.slots { slot = entry.slot + 1 } in
+    let waiting = behind.pending ∙ ap (λ (v : Vec Waiting _). v.items ++ slots ∷ []) files.same.2 in
+    let until = listed_until start.store old.blocks.items old.entries.items longer.entries.items old.pending.items old.free.items c.args.slots c.read.new.unit c.in_ok-entry.field-0
+    (at_ok c.read.result went (c.read.ensures.read honest)) (files.listed start.store) so entry waits.pending.items c.in-Some.is waiting in
+    let next = same_listing start.store old.blocks.items waits.blocks.items longer.entries.items waits.entries.items (entry ∷ all_waiting start.store waits.pending.items)
+    old.free.items waits.free.items (ap (λ (v : Vec ℕ _). v.items) (behind.same.0 ∙ files.same.0)) (ap (λ (v : Vec Entry _). v.items) behind.same.2)
+    (ap (λ (v : Vec FreeSlot _). v.items) (behind.same.3 ∙ files.same.3)) until in
+    let given = subst (λ (d : DeviceState). IsListing d.store waits.blocks.items waits.entries.items (entry ∷ all_waiting d.store waits.pending.items) waits.free.items) (sym same) next in
+    subst (λ (d : DeviceState). IfErr c.list_directory.result (λ e. (fault : Fault) → e ≡ AFault fault → IsCutOff d.store fault)) same
+    (c.list_directory.ensures.refused still given)

@@ -1,4 +1,4 @@
-use Rattle.std.proofs.Common.{◌≡◌, ◌<◌, List, ℕ, refl, sym, ◌∙◌, ap, subst, arith, length, inr}
+use Rattle.std.proofs.Common.{◌≡◌, ◌<◌, List, ℕ, refl, sym, ◌∙◌, subst, arith, inr}
 use Rattle.std.specs.Prelude.{IsTrue}
 use Rattle.a2_device.specs.Reading.{then_reads}
 use Rattle.std.proofs.lemmas.Result.{err_from_is_err_and}
@@ -9,7 +9,7 @@ use Rattle.pro_dir.specs.Entry.{key_of}
 use Rattle.pro_dir.specs.Tree.{CanLink, HasBadLink, HasKind, HasSizes, SubdirectoryFaultAt}
 use Rattle.pro_dir.specs.Walk.{IsTable, IsFollowing, IsReadOut}
 use Rattle.pro_dir.specs.Within.{IsReadWithin}
-use Rattle.pro_dir.proofs.Table.{tabled_on, work-less}
+use Rattle.pro_dir.proofs.Table.{and_more, one_more, tabled_on}
 use Rattle.pro_dir.proofs.Within.{none_read}
 use Rattle.pro_dir.proofs.Following.{opened, refused_so}
 use Rattle.pro_dir.proofs.tree.Tree.open.Goals as goal
@@ -21,35 +21,36 @@ follow-requires-clause-table g c =
     let read = c.in_ok-read.ensures in
     let new = c.if-not-is_new.ensures.0 refl in
     subst (λ n. IsTable n c.read.new.self.met.items c.read.new.self.blocks.items) (sym read.device.same.places)
-    (tabled_on start.places c.args.self.now.met.items c.read.new.self.met.items c.args.self.now.blocks.items c.read.new.self.blocks.items c.key-key.result
+    (tabled_on start.places c.args.self.now.met.items c.read.new.self.met.items c.args.self.now.blocks.items c.read.new.self.blocks.items c.key_block-key.result
     new.0 (omega (arith, new.1, c.places.ensures)) new.2 c.requires.table read.met read.blocks)
 
-pub returns-clause-work : goal.returns-clause-work
-returns-clause-work g c =
+pub returns-clause-more : goal.returns-clause-more
+returns-clause-more g c =
     let start = g.D.Device.state c.args.device.now in
+    let old = c.args.self.now in
+    let keyed = c.read.new.self in
     let read = c.in_ok-read.ensures in
     let new = c.if-not-is_new.ensures.0 refl in
-    let less = work-less start.places c.args.self.now.met.items c.read.new.self.met.items c.new-reading.result.entries.items c.read.new.reading.entries.items c.new-reading.result.key c.key-key.result
-    c.read.new.unit c.requires.table.size (omega (arith, new.1, c.places.ensures)) new.2 read.met read.inside in
-    let empty : length c.new-reading.result.entries.items ≡ 0 = ap length c.new-reading.ensures.entries in
-    omega (arith, less, empty, c.in_ok-follow.ensures.work)
+    and_more old.met.items keyed.met.items c.follow.new.self.met.items old.blocks.items keyed.blocks.items c.follow.new.self.blocks.items
+    (one_more start.places old.met.items keyed.met.items old.blocks.items keyed.blocks.items c.key_block-key.result c.requires.table.size (omega (arith, new.1, c.places.ensures)) new.2 read.met read.blocks)
+    c.in_ok-follow.ensures.more
 
 -- the key block is read, and has the header of a subdirectory
 key_read : (g : _) (c : Else-not-has_sizes g) → IsTrue (g.D.Device.state c.args.device.now).honest
     → let store = (g.D.Device.state c.args.device.now).store in
     CanLink store (key_of c.args.entry.now) × HasKind 14 (unit_at store (key_of c.args.entry.now)) × HasSizes (unit_at store (key_of c.args.entry.now))
-    × IsFollowing store c.read.new.reading.key c.args.self.now.blocks.items c.read.new.self.blocks.items c.read.new.reading.entries.items c.read.new.reading.free c.read.new.reading.key c.read.new.unit
+    × IsFollowing store c.read.new.reading.key c.args.self.now.blocks.items c.read.new.self.blocks.items c.read.new.reading.free c.read.new.reading.key c.read.new.unit
 key_read g c = λ honest.
     let start = g.D.Device.state c.args.device.now in
     let read = c.in_ok-read.ensures in
     let new = c.if-not-is_new.ensures.0 refl in
     let whole = g.met.D.Device.whole c.args.device.now honest in
-    let key : c.key-key.result ≡ key_of c.args.entry.now = c.key-key.ensures in
-    let can : CanLink start.store c.key-key.result = (new.0, omega (arith, new.1, c.places.ensures, whole.all)) in
+    let key : c.key_block-key.result ≡ key_of c.args.entry.now = c.key_block-key.ensures in
+    let can : CanLink start.store c.key_block-key.result = (new.0, omega (arith, new.1, c.places.ensures, whole.all)) in
     let here = read.unit honest in
-    let first = opened start.store c.key-key.result c.new-reading.result.key c.read.new.reading.key c.args.self.now.blocks.items c.read.new.self.blocks.items c.new-reading.result.entries.items
-    c.read.new.reading.entries.items c.new-reading.result.free c.read.new.reading.free c.read.new.unit c.new-reading.ensures.key read.key c.new-reading.ensures.entries c.new-reading.ensures.free
-    read.blocks read.inside read.first here can in
+    let first = opened start.store c.key_block-key.result c.new-reading.result.key c.read.new.reading.key c.args.self.now.blocks.items c.read.new.self.blocks.items
+    c.new-reading.result.free c.read.new.reading.free c.read.new.unit c.new-reading.ensures.key read.key c.new-reading.ensures.free
+    read.blocks read.first here can in
     let there : (P : List ℕ → Type 0) → P c.read.new.unit → P (unit_at start.store (key_of c.args.entry.now)) =
     λ P p. subst (λ (k : ℕ). P (unit_at start.store k)) key (subst P here p) in
     (subst (CanLink start.store) key can, there (HasKind 14) (c.if-not-has_kind.ensures.0 refl), there HasSizes (c.if-not-has_sizes.ensures.0 refl), first)
@@ -63,10 +64,10 @@ returns-in_err-follow-clause-refused g c = λ honest.
     let still : IsTrue mid.honest = subst IsTrue (sym read.device.same.honest) honest in
     let before = c.args.self.now.blocks.items in
     let stored = c.read.new.reading.key in
-    let key : stored ≡ key_of c.args.entry.now = read.key ∙ c.new-reading.ensures.key ∙ c.key-key.ensures in
-    let first = key_read g c.before.before.before.before.before.before.before.before.before honest in
+    let key : stored ≡ key_of c.args.entry.now = read.key ∙ c.new-reading.ensures.key ∙ c.key_block-key.ensures in
+    let first = key_read g c.before.before.before.before.before.before.before.before honest in
     let refused = c.in_err-follow.ensures.refused still before
-    (subst (λ (d : DeviceState). IsFollowing d.store stored before c.read.new.self.blocks.items c.read.new.reading.entries.items c.read.new.reading.free stored c.read.new.unit) (sym same) first.3) in
+    (subst (λ (d : DeviceState). IsFollowing d.store stored before c.read.new.self.blocks.items c.read.new.reading.free stored c.read.new.unit) (sym same) first.3) in
     let told : (fault : Fault) → c.in_err-follow.field-0.0 ≡ AFault fault → SubdirectoryFaultAt start.store before c.args.entry.now.place (key_of c.args.entry.now) fault = λ fault is.
     let bad = refused fault is in
     let link = subst (λ k. HasBadLink start.store before k bad.0) key (subst (λ (d : DeviceState). HasBadLink d.store before stored bad.0) same bad.2) in
@@ -83,12 +84,12 @@ returns-clause-found g c = λ honest.
     let still : IsTrue mid.honest = subst IsTrue (sym read.device.same.honest) honest in
     let before = c.args.self.now.blocks.items in
     let stored = c.read.new.reading.key in
-    let key : stored ≡ key_of c.args.entry.now = read.key ∙ c.new-reading.ensures.key ∙ c.key-key.ensures in
+    let key : stored ≡ key_of c.args.entry.now = read.key ∙ c.new-reading.ensures.key ∙ c.key_block-key.ensures in
     let first = key_read g c.before.before.before.before.before.before.before honest in
     let found = c.in_ok-follow.ensures.found still before
-    (subst (λ (d : DeviceState). IsFollowing d.store stored before c.read.new.self.blocks.items c.read.new.reading.entries.items c.read.new.reading.free stored c.read.new.unit) (sym same) first.3) in (
-      subst (λ k. IsReadOut start.store k before c.follow.new.self.blocks.items c.follow.new.reading.entries.items c.follow.new.reading.free) key
-          (subst (λ (d : DeviceState). IsReadOut d.store stored before c.follow.new.self.blocks.items c.follow.new.reading.entries.items c.follow.new.reading.free) same found),
+    (subst (λ (d : DeviceState). IsFollowing d.store stored before c.read.new.self.blocks.items c.read.new.reading.free stored c.read.new.unit) (sym same) first.3) in (
+      subst (λ k. IsReadOut start.store k before c.follow.new.self.blocks.items c.follow.new.reading.free) key
+          (subst (λ (d : DeviceState). IsReadOut d.store stored before c.follow.new.self.blocks.items c.follow.new.reading.free) same found),
       first.1,
       first.2,
     )
@@ -105,9 +106,9 @@ returns-clause-within g c =
     let follow = c.in_ok-follow.ensures in
     let fresh = c.new-reading.ensures in
     let new = c.if-not-is_new.ensures.0 refl in
-    let below : c.key-key.result < start.places = omega (arith, new.1, c.places.ensures) in
-    let none = none_read start.places c.new-reading.result.key c.new-reading.result.entries.items c.new-reading.result.free (omega (arith, below, fresh.key)) fresh.entries fresh.free in
-    let first = subst (λ key. IsReadWithin start.places key c.read.new.reading.entries.items c.read.new.reading.free) (sym read.key) (read.within start.places below none) in
-    let rest = follow.within (subst (λ n. IsReadWithin n c.read.new.reading.key c.read.new.reading.entries.items c.read.new.reading.free) (sym read.device.same.places) first) in
-    subst (λ n. IsReadWithin n c.follow.new.reading.key c.follow.new.reading.entries.items c.follow.new.reading.free) read.device.same.places
-    (subst (λ key. IsReadWithin (g.D.Device.state c.read.new.device).places key c.follow.new.reading.entries.items c.follow.new.reading.free) (sym follow.key) rest)
+    let below : c.key_block-key.result < start.places = omega (arith, new.1, c.places.ensures) in
+    let none = none_read start.places c.new-reading.result.key c.new-reading.result.free (omega (arith, below, fresh.key)) fresh.free in
+    let first = subst (λ key. IsReadWithin start.places key c.read.new.reading.free) (sym read.key) (read.within start.places below none) in
+    let rest = follow.within (subst (λ n. IsReadWithin n c.read.new.reading.key c.read.new.reading.free) (sym read.device.same.places) first) in
+    subst (λ n. IsReadWithin n c.follow.new.reading.key c.follow.new.reading.free) read.device.same.places
+    (subst (λ key. IsReadWithin (g.D.Device.state c.read.new.device).places key c.follow.new.reading.free) (sym follow.key) rest)
