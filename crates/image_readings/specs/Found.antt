@@ -3,17 +3,10 @@ use Rattle.a2_device.specs.Device.{DeviceState}
 use Rattle.vol_format.specs.Meaning.{Meaning}
 use Rattle.vol_parts.specs.declared.fault.WalkError.{WalkError}
 use Rattle.vol_parts.specs.declared.fault.WalkError.TheVariants as walks
-use Rattle.image_readings.specs.declared.reading.Finding.TheVariants.{Unreadable}
-use Rattle.image_readings.specs.declared.stop.ReadStop.{ReadStop}
-use Rattle.image_readings.specs.declared.stop.ReadStop.TheVariants.{NoVolume, Memory}
-use Rattle.image_readings.specs.Readings.{IsNoVolume, finding_of}
+use Rattle.image_volume.specs.Volume.{LacksUnit}
 
--- what a walk over a directory stops for
-abbrev pub stop_of : WalkError → ReadStop
-stop_of (walks.Fault fault) = NoVolume (finding_of fault)
-stop_of walks.Device = NoVolume Unreadable
-stop_of walks.Memory = Memory
-
-abbrev pub Stops : Meaning → DeviceState → ReadStop → Type 0
-Stops format device (NoVolume finding) = IsNoVolume format device finding
-Stops format device Memory = Unit {0}
+-- what a walk over a directory stops for: a fault that is there, or a unit that can't be read
+abbrev pub Stops : Meaning → DeviceState → WalkError → Type 0
+Stops format device (walks.Fault fault) = format.HeaderFaultAt device.store fault
+Stops format device walks.Device = LacksUnit device
+Stops format device walks.Memory = Unit {0}

@@ -1,5 +1,5 @@
 -- What is found of an image in one way to read it.
-use Rattle.std.specs.Prelude.{◌≡◌, ◌⊎◌, ℕ, false, List, [], length}
+use Rattle.std.specs.Prelude.{◌≡◌, ◌⊎◌, ◌==◌, ℕ, false, if◌then◌else◌, List, [], length}
 use Rattle.a2_device.specs.Device.{DeviceState}
 use Rattle.dos_catalog.specs.Catalog.{IsCatalog}
 use Rattle.pro_dir.specs.Volume.{Directory as Tree, Describes}
@@ -48,15 +48,22 @@ abbrev pub Stands : Meaning → DeviceState → Standing → Type 0
 Stands format device (Accepted file_count lost_count) = IsSound format device.store file_count lost_count
 Stands format device Refused = ((directory : Directory) → ¬ IsAccepted format directory device.store) ⊎ LacksUnit device
 
--- what is found where the header, the directory or the map's pointer has a fault: a header of another geometry is none
-abbrev pub finding_of : Fault → Finding
-finding_of (Geometry place) = Unreadable
-finding_of fault = Broken
+-- where the header of a volume stands: the VTOC of DOS 3.3, or the key block of the ProDOS volume's directory
+abbrev pub header_place : FileSystem → ℕ
+header_place Dos = 272
+header_place Prodos = 2
+
+-- What is found where the header, the directory or the map's pointer has a fault: a volume whose own header has another
+-- geometry is none, and with any other fault it is broken.
+abbrev pub finding_of : FileSystem → Fault → Finding
+finding_of file_system (Geometry place) = if place == header_place file_system then Unreadable else Broken
+finding_of file_system fault = Broken
 
 -- nothing is found but a fault, or a unit can't be read
-abbrev pub IsNoVolume : Meaning → DeviceState → Finding → Type 0
-IsNoVolume format device finding =
-    ((fault : Fault) × format.HeaderFaultAt device.store fault × (finding ≡ finding_of fault)) ⊎ (LacksUnit device × (finding ≡ Unreadable))
+abbrev pub IsNoVolume : FileSystem → DeviceState → Finding → Type 0
+IsNoVolume file_system device finding =
+    ((fault : Fault) × (plain_meaning file_system).HeaderFaultAt device.store fault × (finding ≡ finding_of file_system fault))
+    ⊎ (LacksUnit device × (finding ≡ Unreadable))
 
 -- what is found of a volume
 pub record IsFound (file_system : FileSystem) (device : DeviceState) (found : Found) : Type 0 where
@@ -66,7 +73,7 @@ pub record IsFound (file_system : FileSystem) (device : DeviceState) (found : Fo
 
 abbrev pub IsToldOf : FileSystem → DeviceState → Finding → Type 0
 IsToldOf file_system device (Volume found) = IsFound file_system device found
-IsToldOf file_system device finding = IsNoVolume (plain_meaning file_system) device finding
+IsToldOf file_system device finding = IsNoVolume file_system device finding
 
 -- what is found in an image that is read in this way
 abbrev pub IsReadingOf : List ℕ → Reading → Type 0

@@ -96,7 +96,8 @@ pub fn best_reading(
     ensures { IfOk result (IsChoice file_system order image.now) }
 {
     let ways = ways_given(alloc, file_system, order)?;
-    let readings = readings_of(alloc, image, ways.as_slice())?;
+    let copy = Vec::from_slice(alloc, image)?;
+    let readings = readings_of(alloc, copy, ways.as_slice())?;
     let verdict = rank(readings.as_slice());
     Ok(choice_of(readings.as_slice(), verdict))
 }

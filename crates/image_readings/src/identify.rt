@@ -1,5 +1,5 @@
 // The job that tells how an image can be read.
-ghost use Rattle.std.specs.Prelude.{◌≡◌, OnOk, IfOk};
+ghost use Rattle.std.specs.Prelude.{◌≡◌, OnOk, IfOk, filter, length, true};
 ghost use Rattle.image_readings.specs.Adding.{Adds};
 ghost use Rattle.image_readings.specs.IdentifyReply.{AreReadingsIn, IsIdentifyReply, TellsRanked, allows};
 
@@ -28,10 +28,10 @@ pub const WAYS: [(FileSystem, Order); 6] = [
 ];
 
 // Whether an image of so many bytes may be read in this way.
-fn is_allowed(bytes: usize, file_system: FileSystem, order: Order) -> bool
-    ensures { result ≡ allows bytes (file_system, order) }
+fn is_allowed(bytes: usize, way: (FileSystem, Order)) -> bool
+    ensures { result ≡ allows bytes way }
 {
-    match (file_system, order) {
+    match way {
         (FileSystem::Prodos, Order::Prodos) => {
             bytes % BLOCK_BYTES == 0
                 && bytes >= FEWEST_BLOCKS * BLOCK_BYTES
@@ -42,39 +42,57 @@ fn is_allowed(bytes: usize, file_system: FileSystem, order: Order) -> bool
     }
 }
 
-// Reads an image in one more way, if its length allows it.
+// The ways of these in which an image of so many bytes may be read.
+fn allowed_ways(
+    alloc: Global,
+    bytes: usize,
+    ways: &[(FileSystem, Order)],
+) -> Result<Vec<(FileSystem, Order)>, AllocError>
+    ensures { IfOk result (λ allowed. allowed.items ≡ filter (allows bytes) ways.now) }
+{
+    ways.iter()
+        .copied()
+        .filter(|way| is_allowed(bytes, *way))
+        .collect(alloc)
+}
+
+// Reads an image in one more way.
 fn add_reading(
     alloc: Global,
-    image: &[u8],
-    file_system: FileSystem,
-    order: Order,
+    image: Vec<u8>,
+    way: (FileSystem, Order),
     readings: &mut Vec<Reading>,
 ) -> Result<(), AllocError>
-    ensures { OnOk result (Adds image.now file_system order readings.old.items readings.new.items) }
+    requires { allows (length image.items) way ≡ true }
+    ensures { OnOk result (Adds image.items way readings.old.items readings.new.items) }
 {
-    if !is_allowed(image.len(), file_system, order) {
-        return Ok(());
-    }
-    let reading = reading_of(alloc, image, file_system, order)?;
+    let reading = reading_of(alloc, image, way.0, way.1)?;
     readings.push(reading)?;
     Ok(())
 }
 
-/// The readings of an image, one in each of these ways that its length allows.
+/// The readings of an image, one in each of these ways that its length allows. The last of them takes the image itself: a long
+/// image, which can be read in one way alone, is not copied.
 ///
 /// # Errors
 /// Want of memory.
 pub fn readings_of(
     alloc: Global,
-    image: &[u8],
+    image: Vec<u8>,
     ways: &[(FileSystem, Order)],
 ) -> Result<Vec<Reading>, AllocError>
-    ensures { IfOk result (λ readings. AreReadingsIn ways.now image.now readings.items) }
+    ensures { IfOk result (λ readings. AreReadingsIn ways.now image.items readings.items) }
 {
+    let mut others = allowed_ways(alloc, image.len(), ways)?;
     let mut readings = Vec::new(alloc);
-    for &(file_system, order) in ways {
-        add_reading(alloc, image, file_system, order, &mut readings)?;
+    let Some(last) = others.pop() else {
+        return Ok(readings);
+    };
+    for &way in others.as_slice() {
+        let copy = Vec::from_slice(alloc, image.as_slice())?;
+        add_reading(alloc, copy, way, &mut readings)?;
     }
+    add_reading(alloc, image, last, &mut readings)?;
     Ok(readings)
 }
 
@@ -93,8 +111,8 @@ fn ranked_reply(alloc: Global, readings: &[Reading]) -> Reply
 /// The readings of an image in each way that its length allows, and which of them is best.
 ///
 /// `Done` where one is, else `Faulty`; `Refused` with `Length` where the length allows none; `Failed` for want of memory.
-pub fn identify_reply(alloc: Global, image: &[u8]) -> Reply
-    ensures { IsIdentifyReply image.now result }
+pub fn identify_reply(alloc: Global, image: Vec<u8>) -> Reply
+    ensures { IsIdentifyReply image.items result }
 {
     match readings_of(alloc, image, &WAYS) {
         Ok(readings) if readings.is_empty() => Reply::refused(Refusal::Length),

@@ -8,7 +8,7 @@ ghost use Rattle.image_readings.specs.Found.{Stops};
 ghost use Rattle.image_readings.specs.Readings.{HasEntries, HasUnits, IsFound, IsReadingOf, IsToldOf, Stands, plain_meaning};
 
 use crate::reading::{Finding, Found, Reading, Standing};
-use crate::stop::{ReadStop, finding_of};
+use crate::stop::finding_at;
 use a2_device::Device;
 use a2_image::{Image, ImageError};
 use dos_catalog::Catalog;
@@ -24,9 +24,10 @@ use shop_jobs::FileSystem;
 use std::alloc::{AllocError, Global};
 use vol_check::{CheckError, check};
 use vol_format::Format;
+use vol_parts::WalkError;
 
 // The VTOC of a DOS 3.3 volume.
-fn read_vtoc<D: Device>(device: &mut D) -> Result<Vtoc, ReadStop>
+fn read_vtoc<D: Device>(device: &mut D) -> Result<Vtoc, WalkError>
     requires unit { (D.state device.old).unit_size ≡ 256 }
     requires places { (D.state device.old).places ≡ 560 }
     requires honest { IsTrue (D.state device.old).honest }
@@ -37,16 +38,13 @@ fn read_vtoc<D: Device>(device: &mut D) -> Result<Vtoc, ReadStop>
 {
     let mut unit = [0; 256];
     if device.read(VTOC_PLACE, &mut unit).is_err() {
-        return Err(ReadStop::NoVolume(Finding::Unreadable));
+        return Err(WalkError::Device);
     }
-    match Vtoc::read(&unit) {
-        Ok(vtoc) => Ok(vtoc),
-        Err(fault) => Err(ReadStop::NoVolume(finding_of(fault))),
-    }
+    Vtoc::read(&unit).map_err(WalkError::Fault)
 }
 
 // How many sectors the catalog of a DOS 3.3 volume has.
-fn count_sectors<D: Device>(alloc: Global, device: &mut D) -> Result<usize, ReadStop>
+fn count_sectors<D: Device>(alloc: Global, device: &mut D) -> Result<usize, WalkError>
     requires unit { (D.state device.old).unit_size ≡ 256 }
     requires places { (D.state device.old).places ≡ 560 }
     requires honest { IsTrue (D.state device.old).honest }
@@ -56,14 +54,12 @@ fn count_sectors<D: Device>(alloc: Global, device: &mut D) -> Result<usize, Read
     ensures refused { IfErr result (Stops (plain_meaning OfDos) (D.state device.old)) }
 {
     let vtoc = read_vtoc(device)?;
-    match Catalog::walk(alloc, device, &vtoc) {
-        Ok(catalog) => Ok(catalog.sectors().len()),
-        Err(error) => Err(ReadStop::from(error)),
-    }
+    let catalog = Catalog::walk(alloc, device, &vtoc)?;
+    Ok(catalog.sectors().len())
 }
 
 // How many blocks the directories of a ProDOS volume have.
-fn count_blocks<D: Device>(alloc: Global, device: &mut D) -> Result<usize, ReadStop>
+fn count_blocks<D: Device>(alloc: Global, device: &mut D) -> Result<usize, WalkError>
     requires unit { (D.state device.old).unit_size ≡ 512 }
     requires places { 16 ≤ (D.state device.old).places }
     requires honest { IsTrue (D.state device.old).honest }
@@ -72,14 +68,12 @@ fn count_blocks<D: Device>(alloc: Global, device: &mut D) -> Result<usize, ReadS
     ensures count { IfOk result (HasUnits OfProdos (D.state device.old).store) }
     ensures refused { IfErr result (Stops (plain_meaning OfProdos) (D.state device.old)) }
 {
-    match VolumeDir::walk(alloc, device) {
-        Ok(directory) => Ok(directory.blocks().len()),
-        Err(error) => Err(ReadStop::from(error)),
-    }
+    let directory = VolumeDir::walk(alloc, device)?;
+    Ok(directory.blocks().len())
 }
 
 // How many entries of a volume's directory are in use.
-fn count_entries<D: Device, F: Format>(device: &mut D, format: &F) -> Result<u32, ReadStop>
+fn count_entries<D: Device, F: Format>(device: &mut D, format: &F) -> Result<u32, WalkError>
     requires unit { (D.state device.old).unit_size ≡ (F.meaning format.now).unit_size }
     requires places { (F.meaning format.now).Takes (D.state device.old).places }
     requires honest { IsTrue (D.state device.old).honest }
@@ -88,10 +82,8 @@ fn count_entries<D: Device, F: Format>(device: &mut D, format: &F) -> Result<u32
     ensures count { IfOk result (HasEntries (F.meaning format.now) (D.state device.old).store) }
     ensures refused { IfErr result (Stops (F.meaning format.now) (D.state device.old)) }
 {
-    match format.volume(device) {
-        Ok(volume) => Ok(format.entries(&volume)),
-        Err(error) => Err(ReadStop::from(error)),
-    }
+    let volume = format.volume(device)?;
+    Ok(format.entries(&volume))
 }
 
 // What the checker says of a volume.
@@ -99,26 +91,26 @@ fn standing_of<D: Device, F: Format>(
     alloc: Global,
     device: &mut D,
     format: &F,
-) -> Result<Standing, ReadStop>
+) -> Result<Standing, WalkError>
     requires unit { (D.state device.old).unit_size ≡ (F.meaning format.now).unit_size }
     requires places { (F.meaning format.now).Takes (D.state device.old).places }
     requires honest { IsTrue (D.state device.old).honest }
     requires never { (D.state device.old).read_failures ≡ Some 0 }
     ensures standing { IfOk result (Stands (F.meaning format.now) (D.state device.old)) }
-    ensures memory { IfErr result (λ stop. stop ≡ ReadStop.Memory) }
+    ensures memory { IfErr result (λ stop. stop ≡ WalkError.Memory) }
 {
     match check(alloc, device, format) {
         Ok(checked) => Ok(Standing::Accepted {
             files: checked.files(),
             lost: checked.lost().len(),
         }),
-        Err(CheckError::Memory) => Err(ReadStop::Memory),
+        Err(CheckError::Memory) => Err(WalkError::Memory),
         Err(_) => Ok(Standing::Refused),
     }
 }
 
 // What is found on a disk that is read as DOS 3.3.
-fn dos_found(alloc: Global, disk: Image) -> Result<Found, ReadStop>
+fn dos_found(alloc: Global, disk: Image) -> Result<Found, WalkError>
     requires { IsOfDisk disk }
     ensures found { IfOk result (IsFound OfDos (device_of OfDos disk)) }
     ensures refused { IfErr result (Stops (plain_meaning OfDos) (device_of OfDos disk)) }
@@ -136,7 +128,7 @@ fn dos_found(alloc: Global, disk: Image) -> Result<Found, ReadStop>
 }
 
 // What is found in an image that is read as ProDOS.
-fn prodos_found(alloc: Global, image: Image) -> Result<Found, ReadStop>
+fn prodos_found(alloc: Global, image: Image) -> Result<Found, WalkError>
     ensures found { IfOk result (IsFound OfProdos (device_of OfProdos image)) }
     ensures refused { IfErr result (Stops (plain_meaning OfProdos) (device_of OfProdos image)) }
 {
@@ -161,8 +153,7 @@ fn dos_finding(alloc: Global, disk: Image) -> Result<Finding, AllocError>
 {
     match dos_found(alloc, disk) {
         Ok(found) => Ok(Finding::Volume(found)),
-        Err(ReadStop::NoVolume(finding)) => Ok(finding),
-        Err(ReadStop::Memory) => Err(AllocError),
+        Err(stop) => finding_at(FileSystem::Dos, stop),
     }
 }
 
@@ -172,8 +163,7 @@ fn prodos_finding(alloc: Global, image: Image) -> Result<Finding, AllocError>
 {
     match prodos_found(alloc, image) {
         Ok(found) => Ok(Finding::Volume(found)),
-        Err(ReadStop::NoVolume(finding)) => Ok(finding),
-        Err(ReadStop::Memory) => Err(AllocError),
+        Err(stop) => finding_at(FileSystem::Prodos, stop),
     }
 }
 
@@ -197,17 +187,16 @@ fn image_of(bytes: Vec<u8>, order: Order, file_system: FileSystem) -> Result<Ima
 /// Want of memory alone.
 pub fn reading_of(
     alloc: Global,
-    image: &[u8],
+    image: Vec<u8>,
     file_system: FileSystem,
     order: Order,
 ) -> Result<Reading, AllocError>
-    requires { TakesBytes file_system order (length image.now) }
+    requires { TakesBytes file_system order (length image.items) }
     ensures file_system { IfOk result (λ reading. reading.file_system ≡ file_system) }
     ensures order { IfOk result (λ reading. reading.order ≡ order) }
-    ensures found { IfOk result (IsReadingOf image.now) }
+    ensures found { IfOk result (IsReadingOf image.items) }
 {
-    let bytes = Vec::from_slice(alloc, image)?;
-    let image = image_of(bytes, order, file_system)?;
+    let image = image_of(image, order, file_system)?;
     let finding = match file_system {
         FileSystem::Dos => dos_finding(alloc, image)?,
         FileSystem::Prodos => prodos_finding(alloc, image)?,

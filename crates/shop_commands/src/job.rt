@@ -261,7 +261,7 @@ fn reply_to(alloc: Global, job: &Job, image: Vec<u8>, extra: &[u8]) -> Reply
             volume_reply(alloc, work, image, order, *volume, None)
         }
         Job::Convert { to, volume, .. } => convert_reply(image, order, order_of(*to), *volume),
-        Job::Identify { .. } => identify_reply(alloc, image.as_slice()),
+        Job::Identify { .. } => identify_reply(alloc, image),
         Job::Plan { .. } | Job::Verify { .. } => plan_job_reply(alloc, job, image, extra),
         Job::Optimize { .. } | Job::Edit { .. } | Job::Save { .. } => {
             change_reply(alloc, job, image, extra)

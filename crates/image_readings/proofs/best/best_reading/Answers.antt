@@ -15,7 +15,7 @@ returns c =
     let chosen : c.choice_of.result ≡ choice_of items c.rank-verdict.result = rw c.as_slice-3.ensures.value at c.choice_of.ensures in
     record {
       readings = items;
-      are = rw ways at are;
+      are = rw (ways, c.in_ok-copy.ensures.items) at are;
       verdict = c.rank-verdict.result;
       is = verdict;
       chosen = chosen;

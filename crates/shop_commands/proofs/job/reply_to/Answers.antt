@@ -1,4 +1,4 @@
-use Rattle.std.proofs.Common.{◌∙◌, ap, sym, subst, ℕ, List, Some, None}
+use Rattle.std.proofs.Common.{◌∙◌, ap, sym, subst, Some, None}
 use Rattle.sector_order.specs.declared.order.Order.{Order}
 use Rattle.shop_jobs.specs.Job.{job_view}
 use Rattle.shop_jobs.specs.declared.job.Job.{Job}
@@ -7,7 +7,6 @@ use Rattle.image_volume.specs.Volume.{form_of}
 use Rattle.volume_jobs.specs.FileSystems.{edits_of, files_of}
 use Rattle.volume_jobs.specs.VolumeReply.{IsVolumeReply}
 use Rattle.volume_jobs.specs.Work.{IsWorkReply, Catalog}
-use Rattle.image_readings.specs.IdentifyReply.{IsIdentifyReply}
 use Rattle.shop_commands.proofs.job.reply_to.Goals as goal
 
 pub returns-in-Catalog : goal.returns-in-Catalog
@@ -20,5 +19,4 @@ returns-in-Catalog c =
 
 pub returns-in-Identify : goal.returns-in-Identify
 returns-in-Identify c =
-    subst (λ (job : Job). IsReplyToBytes (job_view job) c.args.image.items (Some c.args.extra.now) c.identify_reply.result) (sym c.in-Identify.is)
-    (subst (λ (bytes : List ℕ). IsIdentifyReply bytes c.identify_reply.result) c.as_slice.ensures.value c.identify_reply.ensures)
+    subst (λ (job : Job). IsReplyToBytes (job_view job) c.args.image.items (Some c.args.extra.now) c.identify_reply.result) (sym c.in-Identify.is) c.identify_reply.ensures

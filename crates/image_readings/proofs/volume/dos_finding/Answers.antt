@@ -1,0 +1,9 @@
+use Rattle.shop_jobs.specs.declared.job.FileSystem.TheVariants.{Dos}
+use Rattle.image_volume.specs.Volume.{device_of}
+use Rattle.image_readings.proofs.Stopped.{told_if}
+use Rattle.image_readings.proofs.volume.dos_finding.Goals as goal
+
+pub returns-in-Err : goal.returns-in-Err
+returns-in-Err c =
+    let device = device_of Dos c.args.disk in
+    told_if Dos device c.finding_at.result (c.finding_at.ensures device c.in-Err.ensures.refused)
