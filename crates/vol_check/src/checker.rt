@@ -68,8 +68,8 @@ fn checked<F: Format, A: Allocator + Copy>(
     })
 }
 
-/// Accepts a volume, or tells what is wrong with it. It makes no write, reads the header, the directory and the unit of each part that
-/// has pointers, and each of them once.
+/// Accepts a volume, or tells what is wrong with it. It makes no write, and reads the header, the directory and, once each, the unit of
+/// each part that has pointers.
 ///
 /// # Errors
 /// `Faults` with every fault that was met, in the order of the parts; `Device` where a read fails; `Memory`.
