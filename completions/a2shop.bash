@@ -3,56 +3,56 @@ _a2shop() {
   local word=${COMP_WORDS[COMP_CWORD]} before=${COMP_WORDS[COMP_CWORD-1]}
   COMPREPLY=()
   if [ "$COMP_CWORD" -eq 1 ]; then
-    mapfile -t COMPREPLY < <(compgen -W "catalog check read convert plan optimize lock unlock delete rename save verify identify help" -- "$word")
+    mapfile -t COMPREPLY < <(compgen -W "catalog check read convert plan optimize lock unlock delete rename save verify identify help --help --version" -- "$word")
     return
   fi
   case "${COMP_WORDS[1]} $before" in
-    'catalog --fs') mapfile -t COMPREPLY < <(compgen -W "dos prodos auto" -- "$word"); return ;;
-    'catalog --order') mapfile -t COMPREPLY < <(compgen -W "dos prodos nibble auto" -- "$word"); return ;;
-    'check --fs') mapfile -t COMPREPLY < <(compgen -W "dos prodos auto" -- "$word"); return ;;
-    'check --order') mapfile -t COMPREPLY < <(compgen -W "dos prodos nibble auto" -- "$word"); return ;;
+    'catalog --fs') mapfile -t COMPREPLY < <(compgen -W "auto dos prodos" -- "$word"); return ;;
+    'catalog --order') mapfile -t COMPREPLY < <(compgen -W "auto dos prodos nibble" -- "$word"); return ;;
+    'check --fs') mapfile -t COMPREPLY < <(compgen -W "auto dos prodos" -- "$word"); return ;;
+    'check --order') mapfile -t COMPREPLY < <(compgen -W "auto dos prodos nibble" -- "$word"); return ;;
     'check --reserve') return ;;
-    'read --fs') mapfile -t COMPREPLY < <(compgen -W "dos prodos auto" -- "$word"); return ;;
-    'read --order') mapfile -t COMPREPLY < <(compgen -W "dos prodos nibble auto" -- "$word"); return ;;
-    'convert --order') mapfile -t COMPREPLY < <(compgen -W "dos prodos nibble auto" -- "$word"); return ;;
+    'read --fs') mapfile -t COMPREPLY < <(compgen -W "auto dos prodos" -- "$word"); return ;;
+    'read --order') mapfile -t COMPREPLY < <(compgen -W "auto dos prodos nibble" -- "$word"); return ;;
+    'convert --order') mapfile -t COMPREPLY < <(compgen -W "auto dos prodos nibble" -- "$word"); return ;;
     'convert --to') mapfile -t COMPREPLY < <(compgen -W "dos prodos nibble" -- "$word"); return ;;
     'convert --out') mapfile -t COMPREPLY < <(compgen -f -- "$word"); return ;;
     'convert --volume') return ;;
-    'plan --fs') mapfile -t COMPREPLY < <(compgen -W "dos prodos auto" -- "$word"); return ;;
-    'plan --order') mapfile -t COMPREPLY < <(compgen -W "dos prodos nibble auto" -- "$word"); return ;;
+    'plan --fs') mapfile -t COMPREPLY < <(compgen -W "auto dos prodos" -- "$word"); return ;;
+    'plan --order') mapfile -t COMPREPLY < <(compgen -W "auto dos prodos nibble" -- "$word"); return ;;
     'plan --reserve') return ;;
-    'optimize --fs') mapfile -t COMPREPLY < <(compgen -W "dos prodos auto" -- "$word"); return ;;
-    'optimize --order') mapfile -t COMPREPLY < <(compgen -W "dos prodos nibble auto" -- "$word"); return ;;
+    'optimize --fs') mapfile -t COMPREPLY < <(compgen -W "auto dos prodos" -- "$word"); return ;;
+    'optimize --order') mapfile -t COMPREPLY < <(compgen -W "auto dos prodos nibble" -- "$word"); return ;;
     'optimize --out') mapfile -t COMPREPLY < <(compgen -f -- "$word"); return ;;
     'optimize --reserve') return ;;
     'optimize --stop-after') return ;;
     'optimize --cert') mapfile -t COMPREPLY < <(compgen -f -- "$word"); return ;;
-    'lock --fs') mapfile -t COMPREPLY < <(compgen -W "dos prodos auto" -- "$word"); return ;;
-    'lock --order') mapfile -t COMPREPLY < <(compgen -W "dos prodos nibble auto" -- "$word"); return ;;
+    'lock --fs') mapfile -t COMPREPLY < <(compgen -W "auto dos prodos" -- "$word"); return ;;
+    'lock --order') mapfile -t COMPREPLY < <(compgen -W "auto dos prodos nibble" -- "$word"); return ;;
     'lock --out') mapfile -t COMPREPLY < <(compgen -f -- "$word"); return ;;
     'lock --reserve') return ;;
-    'unlock --fs') mapfile -t COMPREPLY < <(compgen -W "dos prodos auto" -- "$word"); return ;;
-    'unlock --order') mapfile -t COMPREPLY < <(compgen -W "dos prodos nibble auto" -- "$word"); return ;;
+    'unlock --fs') mapfile -t COMPREPLY < <(compgen -W "auto dos prodos" -- "$word"); return ;;
+    'unlock --order') mapfile -t COMPREPLY < <(compgen -W "auto dos prodos nibble" -- "$word"); return ;;
     'unlock --out') mapfile -t COMPREPLY < <(compgen -f -- "$word"); return ;;
     'unlock --reserve') return ;;
-    'delete --fs') mapfile -t COMPREPLY < <(compgen -W "dos prodos auto" -- "$word"); return ;;
-    'delete --order') mapfile -t COMPREPLY < <(compgen -W "dos prodos nibble auto" -- "$word"); return ;;
+    'delete --fs') mapfile -t COMPREPLY < <(compgen -W "auto dos prodos" -- "$word"); return ;;
+    'delete --order') mapfile -t COMPREPLY < <(compgen -W "auto dos prodos nibble" -- "$word"); return ;;
     'delete --out') mapfile -t COMPREPLY < <(compgen -f -- "$word"); return ;;
     'delete --reserve') return ;;
-    'rename --fs') mapfile -t COMPREPLY < <(compgen -W "dos prodos auto" -- "$word"); return ;;
-    'rename --order') mapfile -t COMPREPLY < <(compgen -W "dos prodos nibble auto" -- "$word"); return ;;
+    'rename --fs') mapfile -t COMPREPLY < <(compgen -W "auto dos prodos" -- "$word"); return ;;
+    'rename --order') mapfile -t COMPREPLY < <(compgen -W "auto dos prodos nibble" -- "$word"); return ;;
     'rename --out') mapfile -t COMPREPLY < <(compgen -f -- "$word"); return ;;
     'rename --reserve') return ;;
-    'save --fs') mapfile -t COMPREPLY < <(compgen -W "dos prodos auto" -- "$word"); return ;;
-    'save --order') mapfile -t COMPREPLY < <(compgen -W "dos prodos nibble auto" -- "$word"); return ;;
+    'save --fs') mapfile -t COMPREPLY < <(compgen -W "auto dos prodos" -- "$word"); return ;;
+    'save --order') mapfile -t COMPREPLY < <(compgen -W "auto dos prodos nibble" -- "$word"); return ;;
     'save --from') mapfile -t COMPREPLY < <(compgen -f -- "$word"); return ;;
     'save --out') mapfile -t COMPREPLY < <(compgen -f -- "$word"); return ;;
     'save --type') return ;;
     'save --aux') return ;;
     'save --date') return ;;
     'save --reserve') return ;;
-    'verify --fs') mapfile -t COMPREPLY < <(compgen -W "dos prodos auto" -- "$word"); return ;;
-    'verify --order') mapfile -t COMPREPLY < <(compgen -W "dos prodos nibble auto" -- "$word"); return ;;
+    'verify --fs') mapfile -t COMPREPLY < <(compgen -W "auto dos prodos" -- "$word"); return ;;
+    'verify --order') mapfile -t COMPREPLY < <(compgen -W "auto dos prodos nibble" -- "$word"); return ;;
     'verify --from') mapfile -t COMPREPLY < <(compgen -f -- "$word"); return ;;
     'verify --reserve') return ;;
   esac
@@ -61,19 +61,19 @@ _a2shop() {
     return
   fi
   case "${COMP_WORDS[1]}" in
-    catalog) mapfile -t COMPREPLY < <(compgen -W "--fs --order --data-disk --help" -- "$word") ;;
-    check) mapfile -t COMPREPLY < <(compgen -W "--fs --order --data-disk --reserve --help" -- "$word") ;;
-    read) mapfile -t COMPREPLY < <(compgen -W "--fs --order --whole --data-disk --help" -- "$word") ;;
-    convert) mapfile -t COMPREPLY < <(compgen -W "--order --to --out --volume --data-disk --help" -- "$word") ;;
-    plan) mapfile -t COMPREPLY < <(compgen -W "--fs --order --data-disk --reserve --reclaim --words --help" -- "$word") ;;
-    optimize) mapfile -t COMPREPLY < <(compgen -W "--fs --order --out --in-place --data-disk --reserve --reclaim --stop-after --cert --help" -- "$word") ;;
-    lock) mapfile -t COMPREPLY < <(compgen -W "--fs --order --out --in-place --data-disk --reserve --help" -- "$word") ;;
-    unlock) mapfile -t COMPREPLY < <(compgen -W "--fs --order --out --in-place --data-disk --reserve --help" -- "$word") ;;
-    delete) mapfile -t COMPREPLY < <(compgen -W "--fs --order --out --in-place --data-disk --reserve --help" -- "$word") ;;
-    rename) mapfile -t COMPREPLY < <(compgen -W "--fs --order --out --in-place --data-disk --reserve --help" -- "$word") ;;
-    save) mapfile -t COMPREPLY < <(compgen -W "--fs --order --from --out --in-place --type --aux --date --data-disk --reserve --help" -- "$word") ;;
-    verify) mapfile -t COMPREPLY < <(compgen -W "--fs --order --from --data-disk --reserve --reclaim --help" -- "$word") ;;
-    identify) mapfile -t COMPREPLY < <(compgen -W " --help" -- "$word") ;;
+    catalog) mapfile -t COMPREPLY < <(compgen -W "--fs --order --data-disk --explain --help" -- "$word") ;;
+    check) mapfile -t COMPREPLY < <(compgen -W "--fs --order --data-disk --reserve --explain --help" -- "$word") ;;
+    read) mapfile -t COMPREPLY < <(compgen -W "--fs --order --whole --data-disk --explain --help" -- "$word") ;;
+    convert) mapfile -t COMPREPLY < <(compgen -W "--order --to --out --volume --data-disk --explain --help" -- "$word") ;;
+    plan) mapfile -t COMPREPLY < <(compgen -W "--fs --order --data-disk --reserve --reclaim --words --explain --help" -- "$word") ;;
+    optimize) mapfile -t COMPREPLY < <(compgen -W "--fs --order --out --in-place --data-disk --reserve --reclaim --stop-after --cert --explain --help" -- "$word") ;;
+    lock) mapfile -t COMPREPLY < <(compgen -W "--fs --order --out --in-place --data-disk --reserve --explain --help" -- "$word") ;;
+    unlock) mapfile -t COMPREPLY < <(compgen -W "--fs --order --out --in-place --data-disk --reserve --explain --help" -- "$word") ;;
+    delete) mapfile -t COMPREPLY < <(compgen -W "--fs --order --out --in-place --data-disk --reserve --explain --help" -- "$word") ;;
+    rename) mapfile -t COMPREPLY < <(compgen -W "--fs --order --out --in-place --data-disk --reserve --explain --help" -- "$word") ;;
+    save) mapfile -t COMPREPLY < <(compgen -W "--fs --order --from --out --in-place --type --aux --date --data-disk --reserve --explain --help" -- "$word") ;;
+    verify) mapfile -t COMPREPLY < <(compgen -W "--fs --order --from --data-disk --reserve --reclaim --explain --help" -- "$word") ;;
+    identify) mapfile -t COMPREPLY < <(compgen -W " --explain --help" -- "$word") ;;
   esac
 }
 complete -o filenames -F _a2shop a2shop

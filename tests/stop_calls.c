@@ -1,5 +1,6 @@
 /* Stops the program at one call of the file system: the call that comes after A2SHOP_CALLS others fails with an input/output
-   error, or, where A2SHOP_KILL is set, the program is killed before it. Loaded before the C library, for tests alone. */
+   error, or, where A2SHOP_KILL is set, the program is killed before it. Where A2SHOP_UNFLUSHED is set, nothing can be put onto the
+   disk, and where A2SHOP_UNLOCKED is set, the file system knows no locks. Loaded before the C library, for tests alone. */
 #define _GNU_SOURCE
 #include <dlfcn.h>
 #include <errno.h>
@@ -50,8 +51,8 @@ STOPPED(ssize_t, pread, (int file, void *bytes, size_t count, off_t at), file, b
 STOPPED(ssize_t, pread64, (int file, void *bytes, size_t count, off_t at), file, bytes, count, at)
 STOPPED(ssize_t, pwrite, (int file, const void *bytes, size_t count, off_t at), file, bytes, count, at)
 STOPPED(ssize_t, pwrite64, (int file, const void *bytes, size_t count, off_t at), file, bytes, count, at)
-STOPPED(int, flock, (int file, int lock), file, lock)
-STOPPED(int, fsync, (int file), file)
+STOPPED(int, lchown, (const char *path, uid_t owner, gid_t group), path, owner, group)
+STOPPED(ssize_t, readlink, (const char *path, char *to, size_t count), path, to, count)
 STOPPED(int, rename, (const char *from, const char *to), from, to)
 STOPPED(int, unlink, (const char *path), path)
 STOPPED(int, fchmod, (int file, mode_t mode), file, mode)
@@ -62,4 +63,22 @@ STOPPED(int, fstat, (int file, struct stat *found), file, found)
 char *realpath(const char *path, char *resolved) {
   NEXT(char *, "realpath");
   return stops() ? NULL : next(path, resolved);
+}
+
+int flock(int file, int lock) {
+  NEXT(int, "flock");
+  if (getenv("A2SHOP_UNLOCKED")) {
+    errno = ENOTSUP;
+    return -1;
+  }
+  return stops() ? -1 : next(file, lock);
+}
+
+int fsync(int file) {
+  NEXT(int, "fsync");
+  if (getenv("A2SHOP_UNFLUSHED")) {
+    errno = EIO;
+    return -1;
+  }
+  return stops() ? -1 : next(file);
 }

@@ -46,6 +46,9 @@ STATUSES = [
     ("4", "A file, the image or memory failed."),
 ]
 
+EXPLAIN = "Say on standard error what is told, and what to do next"
+VERSION = "Tell the version"
+
 NOTES = [
     "Sectors 0 and 15 of a track are the same in DOS order and in ProDOS order, so a volume may seem sound in the wrong order."
     " Where the listing lacks files, or places are lost without a reason, try the other order before anything is written.",
@@ -53,7 +56,13 @@ NOTES = [
     " the wrong order, or of a disk whose first tracks hold what is no file.  \\fB\\-\\-reclaim\\fR gives them to files.",
     "\\fB\\-\\-data\\-disk\\fR says that tracks 1 and 2 hold files.  Together with \\fB\\-\\-reclaim\\fR on a disk that starts a machine it"
     " gives the tracks of the system to files.",
-    "What \\fB\\-\\-out\\fR names is at every moment what stood there before or the whole new image.",
+    "What \\fB\\-\\-out\\fR names is at every moment what stood there before or the whole new image.  It is first written to a file"
+    " beside it, whose name has a number and \\fB.new\\fR behind it, and that file then takes its place.  Where the program is killed,"
+    " such a file may stay behind: it is part of an image, or the whole of one that was never told, and may be deleted.",
+    "While an image is read, its file has a shared lock; while it is changed, with \\fB\\-\\-in\\-place\\fR or by an \\fB\\-\\-out\\fR that"
+    " names the image itself, it has a lock that nobody else gets.  Where another program holds such a lock, the answer is"
+    " \\fBFAILED Input\\fR and nothing is written.",
+    "\\fBcheck\\fR looks at the directory, the map and the pointers of a volume.  It does not read what stands in the files.",
     "A captured track may hold one sector twice.  The first field that counts is read and written, and the other stays as it was;"
     " \\fBa2shop convert \\-\\-order nibble \\-\\-to nibble\\fR makes every track anew.",
 ]
@@ -151,7 +160,7 @@ def bash(commands):
         "  local word=${COMP_WORDS[COMP_CWORD]} before=${COMP_WORDS[COMP_CWORD-1]}",
         "  COMPREPLY=()",
         '  if [ "$COMP_CWORD" -eq 1 ]; then',
-        f'    mapfile -t COMPREPLY < <(compgen -W "{names} help" -- "$word")',
+        f'    mapfile -t COMPREPLY < <(compgen -W "{names} help --help --version" -- "$word")',
         "    return",
         "  fi",
         '  case "${COMP_WORDS[1]} $before" in',
@@ -168,7 +177,7 @@ def bash(commands):
     lines += ["  esac", '  if [[ $word != -* ]]; then', '    mapfile -t COMPREPLY < <(compgen -f -- "$word")', "    return", "  fi", '  case "${COMP_WORDS[1]}" in']
     for command in commands:
         flags = " ".join(flag_of(words) for words, _ in command.options)
-        lines.append(f"""    {command.name}) mapfile -t COMPREPLY < <(compgen -W "{flags} --help" -- "$word") ;;""")
+        lines.append(f"""    {command.name}) mapfile -t COMPREPLY < <(compgen -W "{flags} --explain --help" -- "$word") ;;""")
     lines += ["  esac", "}", "complete -o filenames -F _a2shop a2shop"]
     return "\n".join(lines) + "\n"
 
@@ -180,20 +189,25 @@ def quoted(text):
 def zsh(commands):
     lines = ["#compdef a2shop", "# The completion of a2shop for zsh.", "_a2shop() {", "  local -a commands", "  commands=("]
     lines += [f"    '{command.name}:{quoted(command.text)}'" for command in commands]
-    lines += ["  )", "  if (( CURRENT == 2 )); then", "    _describe command commands", "    return", "  fi", "  local command=$words[2]", "  shift words", "  (( CURRENT -= 1 ))", "  case $command in"]
+    lines += ["  )", "  if (( CURRENT == 2 )); then", "    _describe command commands", f"    _arguments '--version[{VERSION}]'", "    return", "  fi", "  local command=$words[2]", "  shift words", "  (( CURRENT -= 1 ))", "  case $command in"]
     for command in commands:
         lines.append(f"    {command.name}) _arguments \\")
         for words, text in command.options:
             flag, choices = flag_of(words), choices_of(text)
             value = f":value:({' '.join(choices)})" if choices else ":file:_files" if takes_file(text) else ":value: " if "<" in words else ""
             lines.append(f"      '{flag}[{quoted(text)}]{value}' \\")
+        lines.append(f"      '--explain[{EXPLAIN}]' \\")
         lines.append("      '*:file:_files' ;;")
     lines += ["  esac", "}", '_a2shop "$@"']
     return "\n".join(lines) + "\n"
 
 
 def fish(commands):
-    lines = ["# The completion of a2shop for fish."]
+    lines = [
+        "# The completion of a2shop for fish.",
+        f"complete -c a2shop -n __fish_use_subcommand -l version -d '{VERSION}'",
+        f"complete -c a2shop -n 'not __fish_use_subcommand' -l explain -d '{EXPLAIN}'",
+    ]
     for command in commands:
         text = command.text.replace("'", "\\'")
         lines.append(f"complete -c a2shop -n __fish_use_subcommand -f -a {command.name} -d '{text}'")

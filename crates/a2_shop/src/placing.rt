@@ -1,27 +1,21 @@
 // Jobs that change the file of their image where it stands.
 ghost use Rattle.std.specs.Prelude.{◌≡◌, true};
+ghost use Rattle.a2_device.specs.Device.{DeviceState};
 ghost use Rattle.shop_jobs.specs.Job.{job_view};
-ghost use Rattle.image_volume.specs.Volume.{HasUnitsOf};
 ghost use Rattle.shop_commands.specs.Answer.{is_in_place as in_place};
+ghost use Rattle.shop_commands.specs.OnDevice.{HasUnitsFor};
 
-use crate::running::WORDS_REFUSED;
 use a2_device::Device;
-use device_jobs::run_in_place;
+use device_jobs::Outcome;
 use file_device::{FileDevice, FileError, SystemFile};
-use job_endings::{Beside, settle_beside};
-use job_files::{
-    ImageFile, certificate_output, certificate_target, extra_bytes, is_same_file, open_to_change,
-};
-use job_reply::{Failure, Refusal, Reply, written};
-use shop_commands::volume_work;
-use shop_jobs::{Job, VolumeOptions, certificate_path, image_path, reserve_of};
+use job_endings::{Ending, Output, Unwritten};
+use job_files::{ImageDevice, JobFiles, OpenImage, extra_bytes};
+use job_reply::{Failure, Refusal, Reply};
+use shop_commands::run_job_in_place;
+use shop_jobs::{Job, certificate_path, volume_of};
 use std::io::Write;
-use whole_file::target_of;
 
-/// What is told where the certificate would be written over the image.
-const ONE_FILE: &[u8] = b"error: --in-place and --cert name the same file\n";
-
-// Why the file of an image is not opened.
+// Why the file of an image has no units to be changed.
 fn unopened_reply(error: FileError) -> Reply {
     match error {
         FileError::InPlace => Reply::refused(Refusal::InPlace),
@@ -30,49 +24,96 @@ fn unopened_reply(error: FileError) -> Reply {
     }
 }
 
-// Does a job on the file of its image, which is open.
-fn run_on_units<T: Write>(
+// What became of the work once the file is on the disk: what can't be put there has failed.
+fn kept_outcome(outcome: Outcome, device: &ImageDevice) -> Outcome {
+    if device.writes() > 0 && device.file().flush_to_disk().is_err() {
+        return Outcome::Unfinished(Reply::failed(Failure::Device));
+    }
+    outcome
+}
+
+// Puts a certificate onto the disk, and answers whether that was done.
+fn is_put_onto_disk(certificate: &mut Output<'_>, bytes: &[u8]) -> bool {
+    certificate.write_all(bytes).is_ok() && certificate.flush_to_disk().is_ok()
+}
+
+// Tells that a volume is in order, and puts its certificate into its place. What is told is true of the image, so it is told
+// where the certificate can't be written too.
+fn end_in_order<T: Write>(
+    outcome: Outcome,
+    is_on_disk: bool,
+    certificate: Output<'_>,
+    text: &mut T,
+) -> Ending {
+    if outcome.tell(text) != 0 {
+        certificate.discard();
+        return Ending::stopped(Unwritten::TextAfterImage);
+    }
+    if !is_on_disk {
+        certificate.discard();
+        return Ending::stopped(Unwritten::CertificateAfterImage);
+    }
+    match certificate.take_place() {
+        Ok(()) => Ending::written(0),
+        Err(_) => Ending::stopped(Unwritten::CertificateAfterImage),
+    }
+}
+
+// Ends a job in place, which leaves this outcome.
+fn end<T: Write>(outcome: Outcome, mut certificate: Output<'_>, text: &mut T) -> Ending {
+    if let Outcome::Optimized(report) = &outcome {
+        let is_on_disk = is_put_onto_disk(&mut certificate, report.cert.as_slice());
+        return end_in_order(outcome, is_on_disk, certificate, text);
+    }
+    certificate.discard();
+    let is_changed = matches!(outcome, Outcome::Changed);
+    let status = outcome.tell(text);
+    if is_changed && status != 0 {
+        return Ending::stopped(Unwritten::TextAfterImage);
+    }
+    Ending::written(status)
+}
+
+// Does a job on the units of its image's file.
+fn run_on_device<T: Write>(
     rt: &HostRuntime,
     job: &Job,
-    volume: VolumeOptions,
-    device: ImageFile,
+    files: &JobFiles,
+    device: ImageDevice,
     text: &mut T,
-) -> u8
+) -> Ending
     requires job { in_place (job_view job.now) ≡ true }
-    requires units { HasUnitsOf volume.file_system (⟦<FileDevice<SystemFile> as Device>⟧.state device) }
+    requires units { HasUnitsFor (job_view job.now) (⟦<FileDevice<SystemFile> as Device>⟧.state device) }
 {
     let extra = match extra_bytes(rt, job) {
         Ok(extra) => extra,
-        Err(failure) => return Reply::failed(failure).tell(text),
+        Err(failure) => return Ending::written(Reply::failed(failure).tell(text)),
     };
-    let work = match volume_work(job, extra.as_slice()) {
-        Ok(work) => work,
-        Err(refusal) => return Reply::refused(refusal).tell(text),
-    };
-    let Ok(place) = certificate_target(rt, job) else {
-        return Reply::failed(Failure::Memory).tell(text);
-    };
-    let Ok(target) = target_of(rt, rt.alloc(), image_path(job)) else {
-        return Reply::failed(Failure::Memory).tell(text);
-    };
-    if is_same_file(&target, &place) {
-        return written(ONE_FILE, WORDS_REFUSED, text);
+    let mut certificate = files.certificate_output(rt, certificate_path(job));
+    if certificate.open().is_err() {
+        certificate.discard();
+        return Ending::stopped(Unwritten::CertificateBeforeImage);
     }
-    let certificate = certificate_output(rt, certificate_path(job), &place);
-    let Ok(image) = device.handle() else {
-        return Reply::failed(Failure::Input).tell(text);
-    };
-    let mut told = Beside::new(image, text, certificate);
-    let (status, _) = run_in_place(rt.alloc(), work, device, volume, reserve_of(job), &mut told);
-    settle_beside(told, status)
+    let (outcome, device) = run_job_in_place(rt.alloc(), job, extra.as_slice(), device);
+    let outcome = kept_outcome(outcome, &device);
+    end(outcome, certificate, text)
 }
 
-/// Does a job on the file of its image where it stands, and tells it once the file is on the disk. Answers the status.
-pub fn run_placed<T: Write>(rt: &HostRuntime, job: &Job, volume: VolumeOptions, text: &mut T) -> u8
+/// Does a job on the file of its image where it stands, and tells it once the file is on the disk.
+pub fn run_in_its_file<T: Write>(
+    rt: &HostRuntime,
+    job: &Job,
+    files: &JobFiles,
+    image: &OpenImage,
+    text: &mut T,
+) -> Ending
     requires job { in_place (job_view job.now) ≡ true }
 {
-    match open_to_change(rt, job, volume) {
-        Ok(device) => run_on_units(rt, job, volume, device, text),
-        Err(error) => unopened_reply(error).tell(text),
+    let Some(volume) = volume_of(job) else {
+        return Ending::written(Reply::refused(Refusal::InPlace).tell(text));
+    };
+    match image.device(volume) {
+        Ok(device) => run_on_device(rt, job, files, device, text),
+        Err(error) => Ending::written(unopened_reply(error).tell(text)),
     }
 }

@@ -1,14 +1,21 @@
 // What the program's words ask for.
 use crate::auto::{is_asked, settled_job, standing_job};
-use crate::running::{run_in_its_place, run_opened, run_with};
+use crate::jobs::{files_of, is_out_of_place, open_image, run_on_bytes, run_opened};
+use crate::placing::run_in_its_file;
 use crate::stop::Stop;
+use crate::streams::take_closed_streams;
 use explanations::Overheard;
 use front_words::{asks_explain, asks_version, without_explain};
-use job_endings::{Found, explain};
-use job_files::image_bytes;
-use job_reply::{Failure, Reply, written};
-use shop_commands::job_of_words;
-use shop_jobs::{Job, image_order, image_path, is_on_standard_input};
+use image_readings::{Choice, best_reading, file_system_word, order_word};
+use image_volume::order_of;
+use job_endings::{Found, explain, warn_of_order};
+use job_files::{JobFiles, OpenImage};
+use job_reply::{Failure, Refusal, Reply, most_bytes, written};
+use sector_order::Order;
+use shop_commands::{is_in_place, job_of_words};
+use shop_jobs::{
+    Job, certificate_path, image_order, image_path, is_on_standard_input, out_path, volume_of,
+};
 use std::alloc::Global;
 use std::io::{self, BufWriter, ErrorKind, IsTerminal, Write};
 
@@ -20,26 +27,72 @@ fn words_of(rt: &HostRuntime, alloc: Global) -> io::Result<Vec<String>> {
     Ok(std::env::args(rt)?.skip(1).collect(alloc)?)
 }
 
-// Whether a job in place needs no look at its image first: it names its file system and order, or has no file.
-fn is_placed_as_said(words: &[String], standing: &Job) -> bool {
-    !is_asked(words) || is_on_standard_input(standing)
+// Notes the paths that a job names.
+fn note_paths(rt: &HostRuntime, job: &Job, found: &mut Found) {
+    found.path = image_path(job).to_string(rt.alloc()).ok();
+    found.out = copy_of(rt, out_path(job));
+    found.certificate = copy_of(rt, certificate_path(job));
 }
 
-// Does a job on the bytes of its image, and notes what becomes known of it.
+// A path that may be left out, as a text of its own, if there is memory for it.
+fn copy_of(rt: &HostRuntime, path: Option<&str>) -> Option<String> {
+    path?.to_string(rt.alloc()).ok()
+}
+
+// Warns where another way to read the image is better than that of a job that changes a volume.
+fn warn(rt: &HostRuntime, job: &Job, image: &[u8]) {
+    let Some(volume) = volume_of(job) else {
+        return;
+    };
+    let said = (volume.file_system, order_of(volume.order));
+    if let Ok(Choice::Way { file_system, order }) = best_reading(rt.alloc(), image, None, None)
+        && (file_system, order) != said
+    {
+        warn_of_order(rt, file_system_word(file_system), order_word(order));
+    }
+}
+
+// Whether a job changes a volume.
+fn is_change(job: &Job) -> bool {
+    matches!(
+        job,
+        Job::Optimize { .. } | Job::Edit { .. } | Job::Save { .. }
+    )
+}
+
+// An image that was read, and where the files of its job lead.
+#[derive(Drop)]
+struct Read {
+    files: JobFiles,
+    image: OpenImage,
+    bytes: Vec<u8>,
+}
+
+// Does a job on an image that was read, and notes what becomes known of it.
 fn run_noted<T: Write>(
     rt: &HostRuntime,
     job: &Job,
-    mut image: &[u8],
+    read: Read,
     found: &mut Found,
     text: &mut T,
 ) -> u8 {
+    let Read {
+        files,
+        image,
+        bytes,
+    } = read;
     found.order = image_order(job);
-    if let Some(status) = run_in_its_place(rt, job, text) {
-        return status;
+    if found.is_wanted && is_change(job) {
+        warn(rt, job, bytes.as_slice());
     }
-    let status = run_with(rt, job, &mut image, text);
-    found.is_content = status == 0 && matches!(job, Job::Read { .. });
-    status
+    let ending = if is_in_place(job) {
+        run_in_its_file(rt, job, &files, &image, text)
+    } else {
+        run_on_bytes(rt, job, &files, bytes, text)
+    };
+    found.is_content = ending.status == 0 && matches!(job, Job::Read { .. });
+    found.unwritten = ending.unwritten;
+    ending.status
 }
 
 // Settles each `auto` of the words by the bytes of the image, and does their job.
@@ -47,18 +100,23 @@ fn run_settled<T: Write>(
     rt: &HostRuntime,
     words: &[String],
     standing: &Job,
-    image: &[u8],
+    read: Read,
     found: &mut Found,
     text: &mut T,
 ) -> Result<u8, Stop> {
     if !is_asked(words) {
-        return Ok(run_noted(rt, standing, image, found, text));
+        return Ok(run_noted(rt, standing, read, found, text));
     }
-    let job = settled_job(rt.alloc(), words, standing, image)?;
-    Ok(run_noted(rt, &job, image, found, text))
+    let job = settled_job(rt.alloc(), words, standing, read.bytes.as_slice())?;
+    Ok(run_noted(rt, &job, read, found, text))
 }
 
-// Reads the image of a job, if it needs to, and does the job that the words then ask for.
+// Whether a job in place is none by its words, which may leave its file system and order open.
+fn is_refused_in_place(words: &[String], standing: &Job) -> bool {
+    is_out_of_place(standing) && (!is_asked(words) || is_on_standard_input(standing))
+}
+
+// Reads the image of a job and does the job that the words then ask for.
 fn run_standing<T: Write>(
     rt: &HostRuntime,
     words: &[String],
@@ -66,15 +124,20 @@ fn run_standing<T: Write>(
     found: &mut Found,
     text: &mut T,
 ) -> Result<u8, Stop> {
-    found.path = image_path(standing).to_string(rt.alloc()).ok();
-    if is_placed_as_said(words, standing)
-        && let Some(status) = run_in_its_place(rt, standing, text)
-    {
-        return Ok(status);
+    note_paths(rt, standing, found);
+    let files = files_of(rt, standing)?;
+    if is_refused_in_place(words, standing) {
+        return Ok(Reply::refused(Refusal::InPlace).tell(text));
     }
-    let image = image_bytes(rt, standing)?;
-    found.bytes = Some(image.len());
-    run_settled(rt, words, standing, image.as_slice(), found, text)
+    let mut image = open_image(rt, standing, &files, found)?;
+    let bytes = image.bytes(rt, most_bytes(Order::Prodos) as u32)?;
+    found.bytes = Some(bytes.len());
+    let read = Read {
+        files,
+        image,
+        bytes,
+    };
+    run_settled(rt, words, standing, read, found, text)
 }
 
 // Does what words ask for on the image in memory, so that `auto` can be settled by it, and notes what becomes known of it. A job is
@@ -97,10 +160,18 @@ fn run_noting<T: Write>(rt: &HostRuntime, words: &[String], found: &mut Found, t
     }
 }
 
+// Does a job that names its file system and order.
+fn run_job<T: Write>(rt: &HostRuntime, job: &Job, text: &mut T) -> u8 {
+    match run_opened(rt, job, text) {
+        Ok(ending) => ending.status,
+        Err(stop) => stop.tell(text),
+    }
+}
+
 // Does what words ask for that name their file system and order.
 fn run_plain<T: Write>(rt: &HostRuntime, words: &[String], text: &mut T) -> u8 {
     match job_of_words(rt.alloc(), words, text) {
-        Ok(job) => run_opened(rt, &job, text),
+        Ok(job) => run_job(rt, &job, text),
         Err(status) => status,
     }
 }
@@ -108,6 +179,7 @@ fn run_plain<T: Write>(rt: &HostRuntime, words: &[String], text: &mut T) -> u8 {
 // Does what words ask for, and explains on standard error what was told.
 fn run_explained<T: Write>(rt: &HostRuntime, words: &[String], text: &mut T) -> u8 {
     let mut found = Found::new();
+    found.is_wanted = true;
     let mut text = Overheard::new(rt.alloc(), text);
     let status = run_noting(rt, words, &mut found, &mut text);
     let told = match &text.told {
@@ -152,10 +224,14 @@ fn run_telling<T: Write>(rt: &HostRuntime, text: &mut T) -> u8 {
 /// Does what the program's words ask for, and answers its status. Standard output is written through a buffer, so that a listing is
 /// not written a line at a time. What a write that failed has left in the buffer is not written again.
 pub fn run(rt: &HostRuntime) -> u8 {
+    let Ok(streams) = take_closed_streams(rt) else {
+        return Reply::failed(Failure::Input).tell(&mut rt.stdout());
+    };
     let Ok(mut text) = BufWriter::new(rt.alloc(), rt.stdout()) else {
         return Reply::failed(Failure::Memory).tell(&mut rt.stdout());
     };
     let status = run_telling(rt, &mut text);
     let _ = text.into_parts();
+    drop(streams);
     status
 }

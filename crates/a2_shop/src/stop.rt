@@ -1,9 +1,13 @@
 // Why there is no job to be done.
+use job_files::Clash;
 use job_reply::{Failure, Reply, written};
 use shop_commands::tell_words_fault;
 use shop_words::WordsFault;
 use std::alloc::AllocError;
 use std::io::Write;
+
+/// The status of refused words.
+const WORDS_REFUSED: u8 = 2;
 
 /// The status of a refused job.
 const REFUSED: u8 = 3;
@@ -13,6 +17,8 @@ const REFUSED: u8 = 3;
 pub enum Stop {
     /// The words are no job.
     Words(WordsFault),
+    /// Two roles of the job have one file, and one of them is written.
+    Clash(Clash),
     /// The image could not be read, or there was no memory for it.
     Failed(Failure),
     /// No way to read the image is better than all others.
@@ -26,6 +32,7 @@ impl Stop {
     pub fn tell<T: Write>(&self, text: &mut T) -> u8 {
         match self {
             Stop::Words(fault) => tell_words_fault(fault, text),
+            Stop::Clash(clash) => written(clash.line(), WORDS_REFUSED, text),
             Stop::Failed(failure) => Reply::failed(*failure).tell(text),
             Stop::Ambiguous => written(b"REFUSED Ambiguous\n", REFUSED, text),
             Stop::Unknown => written(b"REFUSED Unknown\n", REFUSED, text),

@@ -2,15 +2,13 @@
 ghost use Rattle.std.specs.Prelude.{◌≡◌, ◌⊎◌, ◌<◌, false, option_map};
 ghost use Rattle.shop_jobs.specs.declared.job.FileSystem.TheVariants.{Dos as OfDos, Prodos as OfProdos};
 ghost use Rattle.job_reply.specs.declared.refusal.Failure.TheVariants.{Memory as OfMemory};
-ghost use Rattle.job_reply.specs.Reply.{IsWritten, failed};
+ghost use Rattle.job_reply.specs.Reply.{failed};
 ghost use Rattle.volume_jobs.specs.EditRules.{edit_rules};
 ghost use Rattle.image_volume.specs.Volume.{HasUnitsOf, meaning_of};
 ghost use Rattle.volume_jobs.specs.FileSystems.{edits_of, files_of};
 ghost use Rattle.volume_jobs.specs.Work.{work_view};
 ghost use Rattle.device_jobs.specs.declared.outcome.Outcome.TheVariants.{Unfinished as AnUnfinished};
-ghost use Rattle.device_jobs.specs.declared.outcome.Outcome.{Outcome as AnOutcome};
 ghost use Rattle.device_jobs.specs.Changing.{IsChange, IsChangeOutcome, IsWorkOutcome};
-ghost use Rattle.device_jobs.specs.Outcome.{outcome_status, outcome_text};
 
 use crate::editing::edit_in_place;
 use crate::optimizing::optimize_in_place;
@@ -25,7 +23,6 @@ use reserved_places::Reserved;
 use save_formats::SavableFormat;
 use shop_jobs::{FileSystem, VolumeOptions};
 use std::alloc::Global;
-use std::io::Write;
 use volume_jobs::{Work, reserve_reply, reserved_by};
 
 // Does work on the volume of a device.
@@ -116,24 +113,4 @@ pub fn change_in_place<D: Device>(
         FileSystem::Dos => change_dos(alloc, work, device, options.data_disk, reserved),
         FileSystem::Prodos => change_prodos(alloc, work, device, reserved),
     }
-}
-
-/// Does work that changes a volume on the device that has it, tells what became of it, and answers the status, 4 where the text can't be written, with the
-/// device as the work left it.
-pub fn run_in_place<D: Device, T: Write>(
-    alloc: Global,
-    work: Work<'_>,
-    device: D,
-    options: VolumeOptions,
-    reserve: Option<&str>,
-    text: &mut T,
-) -> (u8, D)
-    requires changes { IsChange (work_view work) }
-    requires units { HasUnitsOf options.file_system (D.state device) }
-    ensures { (outcome : AnOutcome) × IsChangeOutcome options.file_system options.data_disk (option_map (λ s. s.now) reserve.entry)
-        (IsWorkOutcome (work_view work.entry) (files_of options.file_system) (edits_of options.file_system)) (D.state device) (D.state result.1) outcome
-        × IsWritten (outcome_status outcome) (outcome_text outcome) result.0 (T.contents text.old) (T.contents text.new) }
-{
-    let (outcome, device) = change_in_place(alloc, work, device, options, reserve);
-    (outcome.tell(text), device)
 }

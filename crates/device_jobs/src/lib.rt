@@ -1,5 +1,5 @@
-//! Jobs on the volume of any device, where it stands: `read_on_device` answers what is asked of it by one `Reply`, and `run_in_place`
-//! changes it and tells what became of it.
+//! Jobs on the volume of any device, where it stands: `read_on_device` answers what is asked of it by one `Reply`, and `change_in_place`
+//! changes it and answers what became of it, which `Outcome::tell` tells.
 //!
 //! The model. What is told of a volume that is read are the relations of `volume_jobs`, over the state of the device (`specs/Reading.antt`). What
 //! becomes of one that is changed is an `Outcome` (`specs/Outcome.antt`): `OptimizeOutcome`, `EditOutcome` and `SaveOutcome` say it of each work by what the optimizer
@@ -15,6 +15,6 @@ mod reading;
 mod report_line;
 mod saving;
 
-pub use changing::{change_in_place, run_in_place};
+pub use changing::change_in_place;
 pub use outcome::Outcome;
 pub use reading::read_on_device;

@@ -35,7 +35,8 @@ pub static FINDINGS: [Explanation; 23] = [
     Explanation {
         front: "FAULT OutOfRange",
         meaning: "This sector or block names a place that the disk does not have.",
-        advice: "The file to which it belongs is damaged. Copy what can be read of it, and delete it on a copy of the disk.",
+        advice: "The file to which it belongs is damaged. Copy the other files to another disk: `a2shop read` still reads them, \
+            but no command changes a volume that has a fault.",
     },
     Explanation {
         front: "FAULT InSystem",
@@ -46,7 +47,7 @@ pub static FINDINGS: [Explanation; 23] = [
     Explanation {
         front: "FAULT Shared",
         meaning: "Two files, or two parts of one file, name the same place: only one of them can be right about what stands there.",
-        advice: "Copy both files to another disk and look which of them is whole. Do not write to this one: a change of one changes both.",
+        advice: "Copy both files to another disk and look which of them is whole. No command changes a volume that has a fault.",
     },
     Explanation {
         front: "FAULT MarkedFree",
@@ -103,8 +104,9 @@ pub static FINDINGS: [Explanation; 23] = [
     },
     Explanation {
         front: "ACCEPTED",
-        meaning: "The volume is sound: each part of each file stands alone, at a place that is marked as used. Lost places, if there are \
-            any, are marked as used and belong to no file; that is no fault.",
+        meaning: "The volume is sound: each part of each file stands alone, at a place that is marked as used. What stands in the \
+            files was not read, so a file may be damaged all the same. Lost places, if there are any, are marked as used and belong to \
+            no file; that is no fault.",
         advice: "Nothing is to be done. Where places are lost, `a2shop plan` and `optimize` want `--reclaim`, to mark them as free, or \
             `--reserve`, to keep them.",
     },

@@ -128,13 +128,17 @@ pub static REFUSALS: [Explanation; 22] = [
     },
     Explanation {
         front: "FAILED Input",
-        meaning: "A file that the words name could not be opened or read.",
-        advice: "Look whether the name is spelled right, the file is there, it is no folder, and you may read it.",
+        meaning: "A file that the words name could not be opened or read; or another program works on the image and holds its lock; or \
+            it is to be changed, and is write-protected or was replaced meanwhile. Nothing was written.",
+        advice: "Look whether the name is spelled right, the file is there, it is no folder, and you may read it, and with `--in-place` \
+            write it. Where another program works on it, wait until that has ended.",
     },
     Explanation {
         front: "FAILED Device",
-        meaning: "A sector that the job needs can't be read from the tracks of the image.",
-        advice: "Read the disk again, if you can. A file that does not need the sector can still be read by `a2shop read`.",
+        meaning: "A sector that the job needs can't be read from the tracks of the image; or, with `--in-place`, the image's file could \
+            not be read or written, or what was written could not be put onto the disk.",
+        advice: "Read the disk again, if you can. A file that does not need the sector can still be read by `a2shop read`. With \
+            `--in-place` look whether the disk has room and is sound, and run `a2shop check` on the image.",
     },
     Explanation {
         front: "FAILED Memory",

@@ -15,5 +15,5 @@ mod system;
 pub use device::FileDevice;
 pub use file::{FileFailure, PositionedFile};
 pub use memory::MemoryFile;
-pub use opening::FileError;
+pub use opening::{FileError, is_in_place};
 pub use system::SystemFile;

@@ -23,12 +23,12 @@ impl SystemFile {
         SystemFile { file, size }
     }
 
-    /// A second handle of the file: what was written through the first is put onto the disk by it.
+    /// Puts what was written onto the disk.
     ///
     /// # Errors
-    /// `FileFailure` where the system gives none.
-    pub fn handle(&self) -> Result<File, FileFailure> {
-        self.file.try_clone().map_err(|_| FileFailure)
+    /// `FileFailure` where the system can't.
+    pub fn flush_to_disk(&self) -> Result<(), FileFailure> {
+        self.file.sync_all().map_err(|_| FileFailure)
     }
 }
 

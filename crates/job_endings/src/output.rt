@@ -37,6 +37,17 @@ impl<'a> Output<'a> {
         }
     }
 
+    /// Makes the file, if it is one that is written aside, before anything is written to it.
+    ///
+    /// # Errors
+    /// What the file system answers.
+    pub fn open(&mut self) -> io::Result<()> {
+        match self {
+            Output::Aside(file) => file.open(),
+            Output::Nothing | Output::Held(_) => Ok(()),
+        }
+    }
+
     /// Whether nothing was to be written.
     pub fn is_empty(&self) -> bool {
         match self {

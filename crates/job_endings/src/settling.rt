@@ -1,4 +1,5 @@
 // How a job with output files ends.
+use crate::ending::{Ending, Unwritten};
 use crate::output::Output;
 use job_reply::{FAILED, Failure, Reply, written};
 use std::io::{ErrorKind, Write};
@@ -13,7 +14,7 @@ fn certificate_in(told: &[u8]) -> &[u8] {
 
 /// Ends a job that has told its text to memory and handed its image to a file: the certificate of a job that is done is written
 /// to its own file, both are put onto the disk, then the text is told, and then they take their places. Where one of these
-/// fails, what stood at the places stands, and the answer is 4; of an image that is not on the disk, nothing is told.
+/// fails, what stood at the places stands, and the status is 4; of an image that is not on the disk, nothing is told.
 ///
 /// The certificate takes its place first. It tells the layout of the image that stood there before, so where the image can't
 /// take its own place then, it is good for the one that stands.
@@ -23,7 +24,7 @@ pub fn settle<T: Write>(
     status: u8,
     told: &[u8],
     text: &mut T,
-) -> u8 {
+) -> Ending {
     if out.is_empty() {
         return tell(status, told, text);
     }
@@ -31,35 +32,54 @@ pub fn settle<T: Write>(
         // A failure stays with the file, which then can't be put onto the disk.
         let _ = certificate.write_all(certificate_in(told));
     }
-    let flushed = flush_both(&mut out, &mut certificate);
-    if flushed == Err(ErrorKind::OutOfMemory) {
+    let unflushed = match flush_both(&mut out, &mut certificate) {
+        Ok(()) => None,
+        Err((ErrorKind::OutOfMemory, _)) => {
+            discard_both(out, certificate);
+            return Ending::written(Reply::failed(Failure::Memory).tell(text));
+        }
+        Err((_, unwritten)) => Some(unwritten),
+    };
+    if let Some(unwritten) = unflushed {
         discard_both(out, certificate);
-        return Reply::failed(Failure::Memory).tell(text);
+        return Ending::stopped(unwritten);
     }
-    if flushed.is_err() || written(told, status, text) != status {
+    if written(told, status, text) != status {
         discard_both(out, certificate);
-        return FAILED;
+        return Ending::stopped(Unwritten::Text);
     }
-    if take_both_places(out, certificate) {
-        status
-    } else {
-        FAILED
+    match take_both_places(out, certificate) {
+        Ok(()) => Ending::written(status),
+        Err(unwritten) => Ending::stopped(unwritten),
     }
 }
 
-// Puts both files onto the disk.
-fn flush_both(out: &mut Output<'_>, certificate: &mut Output<'_>) -> Result<(), ErrorKind> {
-    out.flush_to_disk().map_err(|error| error.kind())?;
-    certificate.flush_to_disk().map_err(|error| error.kind())
+// Puts both files onto the disk, or answers which of them can't be, and why.
+fn flush_both(
+    out: &mut Output<'_>,
+    certificate: &mut Output<'_>,
+) -> Result<(), (ErrorKind, Unwritten)> {
+    if let Err(error) = out.flush_to_disk() {
+        return Err((error.kind(), Unwritten::Image));
+    }
+    match certificate.flush_to_disk() {
+        Ok(()) => Ok(()),
+        Err(error) => Err((error.kind(), Unwritten::Certificate)),
+    }
 }
 
-// Puts both files into their places, and answers whether that was done.
-fn take_both_places(out: Output<'_>, certificate: Output<'_>) -> bool {
+// Puts both files into their places, or answers which of them can't be.
+fn take_both_places(out: Output<'_>, certificate: Output<'_>) -> Result<(), Unwritten> {
+    let is_alone = certificate.is_empty();
     if certificate.take_place().is_err() {
         out.discard();
-        return false;
+        return Err(Unwritten::Certificate);
     }
-    out.take_place().is_ok()
+    match out.take_place() {
+        Ok(()) => Ok(()),
+        Err(_) if is_alone => Err(Unwritten::Image),
+        Err(_) => Err(Unwritten::ImageAfterCertificate),
+    }
 }
 
 fn discard_both(out: Output<'_>, certificate: Output<'_>) {
@@ -68,9 +88,13 @@ fn discard_both(out: Output<'_>, certificate: Output<'_>) {
 }
 
 // Tells the text of a job that handed no image out. A text that found no room in memory is told as that.
-fn tell<T: Write>(status: u8, told: &[u8], text: &mut T) -> u8 {
+fn tell<T: Write>(status: u8, told: &[u8], text: &mut T) -> Ending {
     if status == FAILED && told.is_empty() {
-        return Reply::failed(Failure::Memory).tell(text);
+        return Ending::written(Reply::failed(Failure::Memory).tell(text));
     }
-    written(told, status, text)
+    if written(told, status, text) == status {
+        Ending::written(status)
+    } else {
+        Ending::stopped(Unwritten::Text)
+    }
 }

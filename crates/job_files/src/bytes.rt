@@ -5,38 +5,23 @@ ghost use Rattle.shop_jobs.specs.Job.{job_view};
 ghost use Rattle.shop_jobs.specs.Paths.{from_of};
 
 use given_file::MOST_INPUT;
-use job_reply::{Failure, most_bytes};
-use sector_order::Order;
-use shop_jobs::{Job, from_path, image_path, is_on_standard_input};
+use job_reply::Failure;
+use shop_jobs::{Job, from_path};
 use std::alloc::Global;
 use std::fs::File;
 use std::io::{ErrorKind, Read};
 
-// Reads up to one byte past so many.
-fn front_of<R: Read>(alloc: Global, reader: &mut R, most: u32) -> Result<Vec<u8>, Failure>
+/// Reads up to one byte past so many.
+///
+/// # Errors
+/// `Input` where the reader fails, `Memory` where there is no room for the bytes.
+pub fn front_of<R: Read>(alloc: Global, reader: &mut R, most: u32) -> Result<Vec<u8>, Failure>
     ensures { IfErr result (λ failure. (failure ≡ Input) ⊎ (failure ≡ Memory)) }
 {
     let mut bytes = Vec::new(alloc);
     match reader.take(u64::from(most) + 1).read_to_end(&mut bytes) {
         Ok(_) => Ok(bytes),
         Err(error) if error.kind() == ErrorKind::OutOfMemory => Err(Failure::Memory),
-        Err(_) => Err(Failure::Input),
-    }
-}
-
-/// The bytes of the image that a job names, up to one past the most that any image has.
-///
-/// # Errors
-/// `Input` where it can't be opened or read, `Memory` where there is no room for it.
-pub fn image_bytes(rt: &HostRuntime, job: &Job) -> Result<Vec<u8>, Failure>
-    ensures { IfErr result (λ failure. (failure ≡ Input) ⊎ (failure ≡ Memory)) }
-{
-    let most = most_bytes(Order::Prodos) as u32;
-    if is_on_standard_input(job) {
-        return front_of(rt.alloc(), &mut rt.stdin(), most);
-    }
-    match File::open(rt, image_path(job)) {
-        Ok(mut image) => front_of(rt.alloc(), &mut image, most),
         Err(_) => Err(Failure::Input),
     }
 }

@@ -1,17 +1,21 @@
-//! The files that a job names, opened and read.
+//! The files that a job names: where their paths lead, and the image and the file beside it, opened and read.
 //!
-//! `image_bytes` and `extra_bytes` read the image and the file beside it into memory, up to one byte past the most that any has;
-//! `open_to_read` and `open_to_change` open the image as a device of its units (`FileDevice`), where they stand in the file; and
-//! `certificate_target` says what the path of a certificate leads to, and `is_same_file` whether that is the place of another file of the job.
+//! `JobFiles` says where the paths of a job lead, before anything is read, and `clash` whether two roles of the job have one file of
+//! which one is written. `OpenImage` is the image, open: its file, locked for as long as it is held, or standard input; it gives the
+//! bytes, or a device of the units where they stand in the file (`FileDevice`). `extra_bytes` reads the file beside the image.
 //!
-//! What always holds: a device that is opened has the units of the job's file system, all those of a disk or of a volume of blocks. Two
-//! targets are one file exactly where they are the place of one path (`specs/Outputs.antt`).
+//! What always holds: a device that is opened has the units of the job's file system, all those of a disk or of a volume of blocks.
+//! A clash is told exactly where there is one (`specs/Roles.antt`).
 #![tactic(auto)]
 
 mod bytes;
-mod outputs;
-mod units;
+mod clash;
+mod files;
+mod identity;
+mod image;
 
-pub use bytes::{extra_bytes, image_bytes};
-pub use outputs::{certificate_output, certificate_target, is_same_file};
-pub use units::{ImageFile, open_to_change, open_to_read};
+pub use bytes::extra_bytes;
+pub use clash::{Clash, Roles};
+pub use files::JobFiles;
+pub use identity::{FileIdentity, is_same_file};
+pub use image::{ImageDevice, ImageUse, OpenImage, is_in_its_file};

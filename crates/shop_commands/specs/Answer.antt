@@ -120,6 +120,19 @@ AsksFor (edit path name volume change target reserve) bytes work = work ≡ Chan
 AsksFor (save words reserve) bytes work = (given : GivenView) × IsGiven words.volume.file_system (attributes_of words) bytes given × (work ≡ Save words.name given)
 AsksFor job bytes work = ⊥
 
+-- what a job that only reads its volume asks of it, with the bytes of a file beside the image; none of any other job
+abbrev pub reading_of : JobView → List ℕ → Option WorkView
+reading_of (catalog path volume) bytes = Some Catalog
+reading_of (check path volume reserve) bytes = Some Check
+reading_of (read path name volume whole) bytes = Some (Read name whole)
+reading_of (plan path volume reserve reclaim in_words) bytes = Some (Plan reclaim in_words)
+reading_of (verify path volume from reserve reclaim) bytes = Some (Verify reclaim bytes)
+reading_of (optimize words reserve reclaim cert) bytes = None
+reading_of (edit path name volume change target reserve) bytes = None
+reading_of (save words reserve) bytes = None
+reading_of (convert words) bytes = None
+reading_of (identify path) bytes = None
+
 -- the words of a job that changes its volume are refused: those of a saving alone
 abbrev pub RefusesWords : JobView → Refusal → Type 0
 RefusesWords (save words reserve) refusal = RefusesAttributes words.volume.file_system (attributes_of words) refusal
@@ -160,11 +173,14 @@ ReadsExtra (save words reserve) = goes_in_place words.target ≡ false
 ReadsExtra (verify path volume from reserve reclaim) = Unit {0}
 ReadsExtra job = ⊥
 
--- the job asks for the fewest moves, or whether they are the fewest
-abbrev pub AsksForPlan : JobView → Type 0
-AsksForPlan (plan path volume reserve reclaim in_words) = Unit {0}
-AsksForPlan (verify path volume from reserve reclaim) = Unit {0}
-AsksForPlan job = ⊥
+-- the job only reads its volume
+abbrev pub ReadsVolume : JobView → Type 0
+ReadsVolume (catalog path volume) = Unit {0}
+ReadsVolume (check path volume reserve) = Unit {0}
+ReadsVolume (read path name volume whole) = Unit {0}
+ReadsVolume (plan path volume reserve reclaim in_words) = Unit {0}
+ReadsVolume (verify path volume from reserve reclaim) = Unit {0}
+ReadsVolume job = ⊥
 
 -- the job changes a volume
 abbrev pub ChangesVolume : JobView → Type 0

@@ -1,11 +1,11 @@
 // Jobs, from an image's reader to the text and the output file.
-ghost use Rattle.std.specs.Prelude.{◌≡◌, ◌⊎◌, ◌+◌, Some, false, take, IfOk, IfErr, IfSome, option_map};
+ghost use Rattle.std.specs.Prelude.{◌≡◌, ◌⊎◌, ◌↔◌, ◌+◌, Some, false, take, IfOk, IfErr, IfSome, IsTrue, option_map};
 ghost use Rattle.shop_jobs.specs.Job.{job_view};
 ghost use Rattle.job_reply.specs.Reply.{held};
 ghost use Rattle.given_file.specs.Content.{given_view};
 ghost use Rattle.reading_jobs.specs.VerifyReply.{most_certificate};
 ghost use Rattle.volume_jobs.specs.Work.{work_view};
-ghost use Rattle.shop_commands.specs.Answer.{AsksFor, AsksForPlan, ChangesVolume, HandsOutFor, IsAnswer, IsDosCatalogAnswer, IsGiven, IsInPlaceAnswer, IsOnVolume, IsReadFailure, IsReplyToBytes, IsStatus, MakesImage, ReadsExtra, ReadsImage, RefusesAttributes, RefusesWords, attributes_view, head_of as first_of, image_order_of, is_in_place as in_place, kind_of as type_of, limit_of as of_limit};
+ghost use Rattle.shop_commands.specs.Answer.{AsksFor, ChangesVolume, HandsOutFor, IsAnswer, IsDosCatalogAnswer, IsGiven, IsInPlaceAnswer, IsOnVolume, IsReadFailure, IsReplyToBytes, IsStatus, MakesImage, ReadsExtra, ReadsImage, RefusesAttributes, ReadsVolume, RefusesWords, attributes_view, head_of as first_of, image_order_of, is_in_place as in_place, kind_of as type_of, limit_of as of_limit, reading_of};
 
 use crate::input::{read_extra, read_image};
 use given_file::{GivenFile, Head, dos_head, dos_kind, pro_kind};
@@ -14,7 +14,7 @@ use image_volume::order_of;
 use job_reply::{Failure, Refusal, Reply, convert_reply};
 use pro_dates::date;
 use sector_order::Order;
-use shop_jobs::{FileSystem, Job, SaveAttributes, Target, VolumeOptions};
+use shop_jobs::{FileSystem, Job, SaveAttributes, Target, VolumeOptions, reserve_of, volume_of};
 use std::alloc::Global;
 use std::io::{Read, Write};
 use volume_jobs::{Work, volume_reply};
@@ -74,37 +74,56 @@ fn extra_for<E: Read>(alloc: Global, job: &Job, extra: &mut E) -> Result<Vec<u8>
     }
 }
 
-// The reply to a plan or a verification, on the bytes of its image and of a file beside it.
-fn plan_job_reply(alloc: Global, job: &Job, image: Vec<u8>, extra: &[u8]) -> Reply
-    requires { AsksForPlan (job_view job.now) }
+/// What a job that only reads its volume asks of it, with the bytes of a file beside the image; `None` of any other job.
+pub fn reading_work<'a>(job: &'a Job, extra: &'a [u8]) -> Option<Work<'a>>
+    ensures { option_map work_view result ≡ reading_of (job_view job.now) extra.now }
+{
+    match job {
+        Job::Catalog { .. } => Some(Work::Catalog),
+        Job::Check { .. } => Some(Work::Check),
+        Job::Read { name, whole, .. } => Some(Work::Read {
+            name: name.as_bytes(),
+            whole: *whole,
+        }),
+        Job::Plan { reclaim, words, .. } => Some(Work::Plan {
+            reclaim: *reclaim,
+            words: *words,
+        }),
+        Job::Verify { reclaim, .. } => Some(Work::Verify {
+            reclaim: *reclaim,
+            certificate: extra,
+        }),
+        Job::Optimize { .. }
+        | Job::Edit { .. }
+        | Job::Save { .. }
+        | Job::Convert { .. }
+        | Job::Identify { .. } => None,
+    }
+}
+
+/// Whether a job only reads its volume.
+pub fn only_reads(job: &Job) -> bool
+    ensures { IsTrue result ↔ ReadsVolume (job_view job.now) }
+{
+    matches!(
+        job,
+        Job::Catalog { .. }
+            | Job::Check { .. }
+            | Job::Read { .. }
+            | Job::Plan { .. }
+            | Job::Verify { .. }
+    )
+}
+
+// The reply to a job that only reads its volume, on the bytes of its image and of a file beside it.
+fn read_reply(alloc: Global, job: &Job, image: Vec<u8>, extra: &[u8]) -> Reply
+    requires { ReadsVolume (job_view job.now) }
     ensures { IsReplyToBytes (job_view job.now) image.items (Some extra.now) result }
 {
     let order = image_order(job);
-    match job {
-        Job::Plan {
-            volume,
-            reserve,
-            reclaim,
-            words,
-            ..
-        } => {
-            let work = Work::Plan {
-                reclaim: *reclaim,
-                words: *words,
-            };
-            volume_reply(alloc, work, image, order, *volume, reserve.as_deref())
-        }
-        Job::Verify {
-            volume,
-            reserve,
-            reclaim,
-            ..
-        } => {
-            let work = Work::Verify {
-                reclaim: *reclaim,
-                certificate: extra,
-            };
-            volume_reply(alloc, work, image, order, *volume, reserve.as_deref())
+    match (reading_work(job, extra), volume_of(job)) {
+        (Some(work), Some(volume)) => {
+            volume_reply(alloc, work, image, order, volume, reserve_of(job))
         }
         _ => unreachable!(),
     }
@@ -189,8 +208,8 @@ pub fn volume_work<'a>(job: &'a Job, extra: &'a [u8]) -> Result<Work<'a>, Refusa
     }
 }
 
-// The volume that a job changes, and the places that it reserves there.
-fn changed_volume(job: &Job) -> (VolumeOptions, Option<&str>)
+/// The volume that a job changes, and the places that it reserves there.
+pub(crate) fn changed_volume(job: &Job) -> (VolumeOptions, Option<&str>)
     requires { ChangesVolume (job_view job.now) }
     ensures { IsOnVolume (job_view job.now) result.0 (option_map (λ s. s.now) result.1) }
 {
@@ -227,45 +246,26 @@ fn change_reply(alloc: Global, job: &Job, image: Vec<u8>, extra: &[u8]) -> Reply
     volume_reply(alloc, work, image, image_order(job), volume, reserve)
 }
 
-// The reply to a job on the bytes of its image, and of a file beside it.
-fn reply_to(alloc: Global, job: &Job, image: Vec<u8>, extra: &[u8]) -> Reply
+/// The reply to a job on the bytes of its image, and on those of a file beside it.
+pub fn reply_to(alloc: Global, job: &Job, image: Vec<u8>, extra: &[u8]) -> Reply
     ensures { IsReplyToBytes (job_view job.now) image.items (Some extra.now) result }
 {
-    let order = image_order(job);
     match job {
-        Job::Catalog { volume, .. } => {
-            volume_reply(alloc, Work::Catalog, image, order, *volume, None)
-        }
-        Job::Check {
-            volume,
-            reserve,
-            ..
-        } => volume_reply(
-            alloc,
-            Work::Check,
-            image,
+        Job::Convert {
             order,
-            *volume,
-            reserve.as_deref(),
-        ),
-        Job::Read {
-            name,
+            to,
             volume,
-            whole,
             ..
-        } => {
-            let work = Work::Read {
-                name: name.as_bytes(),
-                whole: *whole,
-            };
-            volume_reply(alloc, work, image, order, *volume, None)
-        }
-        Job::Convert { to, volume, .. } => convert_reply(image, order, order_of(*to), *volume),
+        } => convert_reply(image, order_of(*order), order_of(*to), *volume),
         Job::Identify { .. } => identify_reply(alloc, image),
-        Job::Plan { .. } | Job::Verify { .. } => plan_job_reply(alloc, job, image, extra),
         Job::Optimize { .. } | Job::Edit { .. } | Job::Save { .. } => {
             change_reply(alloc, job, image, extra)
         }
+        Job::Catalog { .. }
+        | Job::Check { .. }
+        | Job::Read { .. }
+        | Job::Plan { .. }
+        | Job::Verify { .. } => read_reply(alloc, job, image, extra),
     }
 }
 

@@ -8,6 +8,8 @@
 mod command;
 mod input;
 mod job;
+mod on_device;
 
 pub use command::{job_of_words, run_command, tell_words_fault};
-pub use job::{is_in_place, run_job, volume_work};
+pub use job::{is_in_place, only_reads, reading_work, reply_to, run_job, volume_work};
+pub use on_device::{read_job_on_device, run_job_in_place};

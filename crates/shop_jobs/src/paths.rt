@@ -1,7 +1,7 @@
 // The files and the image order that a job names.
-ghost use Rattle.std.specs.Prelude.{◌≡◌, option_map};
+ghost use Rattle.std.specs.Prelude.{◌≡◌, ◌↔◌, IsTrue, option_map};
 ghost use Rattle.shop_jobs.specs.Job.{job_view, target_view};
-ghost use Rattle.shop_jobs.specs.Paths.{certificate_of, file_of, from_of, image_of, out_of};
+ghost use Rattle.shop_jobs.specs.Paths.{IsOnStandardInput, certificate_of, file_of, from_of, image_of, named_order_of, out_of, reserve_of as said_places, volume_of as read_as};
 
 use crate::{ImageOrder, Job, Target, VolumeOptions};
 
@@ -37,7 +37,9 @@ pub fn from_path(job: &Job) -> Option<&str>
 }
 
 /// Whether a job reads its image from standard input.
-pub fn is_on_standard_input(job: &Job) -> bool {
+pub fn is_on_standard_input(job: &Job) -> bool
+    ensures { IsTrue result ↔ IsOnStandardInput (job_view job.now) }
+{
     image_path(job) == STANDARD_INPUT
 }
 
@@ -80,7 +82,9 @@ pub fn certificate_path(job: &Job) -> Option<&str>
 }
 
 /// What a job reads its image as; `None` where it wants no file system.
-pub fn volume_of(job: &Job) -> Option<VolumeOptions> {
+pub fn volume_of(job: &Job) -> Option<VolumeOptions>
+    ensures { result ≡ read_as (job_view job.now) }
+{
     match job {
         Job::Catalog { volume, .. }
         | Job::Check { volume, .. }
@@ -95,7 +99,9 @@ pub fn volume_of(job: &Job) -> Option<VolumeOptions> {
 }
 
 /// The places that a job reserves.
-pub fn reserve_of(job: &Job) -> Option<&str> {
+pub fn reserve_of(job: &Job) -> Option<&str>
+    ensures { option_map (λ s. s.now) result ≡ said_places (job_view job.now) }
+{
     match job {
         Job::Check { reserve, .. }
         | Job::Plan { reserve, .. }
@@ -108,7 +114,9 @@ pub fn reserve_of(job: &Job) -> Option<&str> {
 }
 
 /// The order that a job names for its image.
-pub fn image_order(job: &Job) -> Option<ImageOrder> {
+pub fn image_order(job: &Job) -> Option<ImageOrder>
+    ensures { result ≡ named_order_of (job_view job.now) }
+{
     match job {
         Job::Convert { order, .. } => Some(*order),
         _ => volume_of(job).map(|volume| volume.order),

@@ -35,9 +35,9 @@ impl Help {
             Help::NewName =>
                 "New name of the file; in ProDOS the last of its path, without a slash",
             Help::FileSystem =>
-                "File system of the volume, or auto for the one that identify names: dos, prodos or auto",
+                "File system of the volume, auto for the one that identify names: auto, dos or prodos",
             Help::Order =>
-                "Order of the sectors in the image, or auto for the one that identify names: dos, prodos, nibble or auto",
+                "Order of the sectors in the image, auto for the one that identify names: auto, dos, prodos or nibble",
             Help::To => "Order of the sectors in the image that is written: dos, prodos or nibble",
             Help::Out => "File that the image is written to",
             Help::OutOrInPlace => "File that the image is written to; this or --in-place",

@@ -4,6 +4,7 @@ pub const PROGRAM: &str = "\
 Without words it lists the DOS 3.3 volume of an image in DOS order on standard input.
 --explain may stand with any command: a refusal or a failure then tells what to do about it.
 --fs auto and --order auto take what identify names: REFUSED Ambiguous or Unknown where it names none.
+A wrong --order is done as said, and a change then destroys files: take auto, or ask identify first.
 --version tells the version. What a command takes, and what it may refuse: a2shop COMMAND --help
 
 Status:
@@ -15,7 +16,7 @@ Status:
 
 const CATALOG: &str = "\
 Example:
-  a2shop catalog disk.dsk --fs dos --order dos
+  a2shop catalog disk.dsk --fs auto --order auto
 
 Status:
   0  the files are listed
@@ -25,7 +26,7 @@ Status:
 
 const CHECK: &str = "\
 Example:
-  a2shop check disk.dsk --fs dos --order dos
+  a2shop check disk.dsk --fs auto --order auto
 
 Status:
   0  the volume is accepted
@@ -36,7 +37,7 @@ Status:
 
 const READ: &str = "\
 Example:
-  a2shop read disk.dsk HELLO --fs dos --order dos
+  a2shop read disk.dsk HELLO --fs auto --order auto
 
 Status:
   0  the bytes of the file are written
@@ -47,7 +48,7 @@ Status:
 
 const CONVERT: &str = "\
 Example:
-  a2shop convert disk.dsk --order dos --to nibble --out disk.nib
+  a2shop convert disk.dsk --order auto --to nibble --out disk.nib
 
 Tracks are made for nibble order alone, of volume 254 where --volume is not given.
 
@@ -59,8 +60,8 @@ Status:
 
 const PLAN: &str = "\
 Examples:
-  a2shop plan disk.dsk --fs dos --order dos
-  a2shop plan disk.dsk --fs dos --order dos --words
+  a2shop plan disk.dsk --fs auto --order auto
+  a2shop plan disk.dsk --fs auto --order auto --words
 
 In words each move has a line: the file, its part, and the places from and to which it moves.
 
@@ -75,8 +76,8 @@ Status:
 
 const OPTIMIZE: &str = "\
 Examples:
-  a2shop optimize disk.dsk --fs dos --order dos --out ordered.dsk
-  a2shop optimize disk.dsk --fs dos --order dos --in-place
+  a2shop optimize disk.dsk --fs auto --order auto --out ordered.dsk
+  a2shop optimize disk.dsk --fs auto --order auto --in-place
 
 With --in-place the image's own file is changed, unit by unit, and no new image is written.
 
@@ -92,8 +93,8 @@ Status:
 
 const LOCK: &str = "\
 Examples:
-  a2shop lock disk.dsk HELLO --fs dos --order dos --out locked.dsk
-  a2shop lock disk.dsk HELLO --fs dos --order dos --in-place
+  a2shop lock disk.dsk HELLO --fs auto --order auto --out locked.dsk
+  a2shop lock disk.dsk HELLO --fs auto --order auto --in-place
 
 With --in-place the image's own file is changed, unit by unit, and no new image is written.
 
@@ -108,8 +109,8 @@ Status:
 
 const UNLOCK: &str = "\
 Examples:
-  a2shop unlock disk.dsk HELLO --fs dos --order dos --out unlocked.dsk
-  a2shop unlock disk.dsk HELLO --fs dos --order dos --in-place
+  a2shop unlock disk.dsk HELLO --fs auto --order auto --out unlocked.dsk
+  a2shop unlock disk.dsk HELLO --fs auto --order auto --in-place
 
 With --in-place the image's own file is changed, unit by unit, and no new image is written.
 
@@ -124,8 +125,8 @@ Status:
 
 const DELETE: &str = "\
 Examples:
-  a2shop delete disk.dsk HELLO --fs dos --order dos --out without.dsk
-  a2shop delete disk.dsk HELLO --fs dos --order dos --in-place
+  a2shop delete disk.dsk HELLO --fs auto --order auto --out without.dsk
+  a2shop delete disk.dsk HELLO --fs auto --order auto --in-place
 
 With --in-place the image's own file is changed, unit by unit, and no new image is written.
 
@@ -141,8 +142,8 @@ Status:
 
 const RENAME: &str = "\
 Examples:
-  a2shop rename disk.dsk HELLO GREETING --fs dos --order dos --out renamed.dsk
-  a2shop rename disk.dsk HELLO GREETING --fs dos --order dos --in-place
+  a2shop rename disk.dsk HELLO GREETING --fs auto --order auto --out renamed.dsk
+  a2shop rename disk.dsk HELLO GREETING --fs auto --order auto --in-place
 
 A file stays in its directory: the new name of a ProDOS file is the last of its path.
 With --in-place the image's own file is changed, unit by unit, and no new image is written.
@@ -161,9 +162,9 @@ Status:
 
 const SAVE: &str = "\
 Examples:
-  a2shop save disk.dsk PICTURE --fs dos --order dos --from picture.bin --out saved.dsk --type B --aux 768
-  a2shop save disk.dsk NOTE --fs dos --order dos --from note.txt --in-place
-  a2shop save disk.po NOTE --fs prodos --order prodos --from note.txt --out saved.po --type 04 --date 1986-05-01T12:30:00
+  a2shop save disk.dsk PICTURE --fs auto --order auto --from picture.bin --out saved.dsk --type B --aux 768
+  a2shop save disk.dsk NOTE --fs auto --order auto --from note.txt --in-place
+  a2shop save disk.po NOTE --fs auto --order auto --from note.txt --out saved.po --type 04 --date 1986-05-01T12:30:00
 
 DOS 3.3 files of the types A, I and B get their head before the bytes: the address for B, and the length.
 With --in-place the image's own file is changed, unit by unit, and no new image is written.
@@ -187,7 +188,7 @@ Status:
 
 const VERIFY: &str = "\
 Example:
-  a2shop verify disk.dsk --fs dos --order dos --from disk.cert
+  a2shop verify disk.dsk --fs auto --order auto --from disk.cert
 
 Status:
   0  OPTIMAL N: no plan has fewer than N moves

@@ -162,13 +162,19 @@ fn misfit_of<'a>(form: &Form, matches: &ArgMatches<'a>) -> Option<Misfit<'a>> {
     }
 }
 
+/// Whether an option takes `auto` too, in whose place the program puts one of the words.
+fn takes_auto(name: &str) -> bool {
+    matches!(name, "fs" | "order")
+}
+
 /// What an option takes, for the user.
-fn wanted(alloc: Global, values: Values) -> Result<String, AllocError> {
+fn wanted(alloc: Global, name: &str, values: Values) -> Result<String, AllocError> {
     match values {
         Values::Any => Ok(String::new(alloc)),
         Values::OneOf(words) => {
             let words = words.join(alloc, ", ")?;
-            format!(in alloc; "[possible values: {words}]")
+            let auto = if takes_auto(name) { "auto, " } else { "" };
+            format!(in alloc; "[possible values: {auto}{words}]")
         }
         Values::Number { greatest } => format!(in alloc; "[a number from 0 to {greatest}]"),
     }
@@ -201,7 +207,7 @@ impl Misfit<'_> {
                 value,
             } => {
                 let value = escaped(alloc, value)?;
-                let wanted = wanted(alloc, values)?;
+                let wanted = wanted(alloc, name, values)?;
                 format!(in alloc; "invalid value '{value}' for '--{name} <{name}>'\n  {wanted}")
             }
             Misfit::TwoTargets => {

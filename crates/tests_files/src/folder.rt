@@ -131,6 +131,19 @@ fn followed<'e>(entries: &'e [Entry], name: &[u8]) -> io::Result<&'e Entry> {
     }
 }
 
+// The name of a path in the folder, which is `.` for itself.
+fn name_of(path: &str) -> &[u8] {
+    path.strip_prefix("./").unwrap_or(path).as_bytes()
+}
+
+// Bytes as a path.
+fn path_of<B: Allocator>(alloc: B, bytes: &[u8]) -> io::Result<PathBuf<B>> {
+    match str::from_utf8(bytes) {
+        Ok(path) => Ok(PathBuf::from_str(alloc, path)?),
+        Err(_) => Err(io::Error::from(ErrorKind::InvalidData)),
+    }
+}
+
 fn unsupported() -> io::Error {
     io::Error::from(ErrorKind::Unsupported)
 }
@@ -219,11 +232,12 @@ impl<'a> Files for Mounted<'a> {
         if !how.asks_create_new() {
             return Err(unsupported());
         }
-        if entry_at(&folder.entries.try_borrow()?, path.as_bytes()).is_ok() {
+        if entry_at(&folder.entries.try_borrow()?, name_of(path)).is_ok() {
             return Err(io::Error::from(ErrorKind::AlreadyExists));
         }
-        folder.add(path, Kind::File, MODE_OF_NEW, "")?;
-        let name = Vec::from_slice(folder.alloc, path.as_bytes())?;
+        let name = path.strip_prefix("./").unwrap_or(path);
+        folder.add(name, Kind::File, MODE_OF_NEW, "")?;
+        let name = Vec::from_slice(folder.alloc, name.as_bytes())?;
         Ok(OpenEntry { folder, name })
     }
 
@@ -233,12 +247,12 @@ impl<'a> Files for Mounted<'a> {
 
     fn metadata(&self, path: &str) -> io::Result<Metadata> {
         self.0.count()?;
-        Ok(followed(&self.0.entries.try_borrow()?, path.as_bytes())?.metadata())
+        Ok(followed(&self.0.entries.try_borrow()?, name_of(path))?.metadata())
     }
 
     fn symlink_metadata(&self, path: &str) -> io::Result<Metadata> {
         self.0.count()?;
-        Ok(entry_at(&self.0.entries.try_borrow()?, path.as_bytes())?.metadata())
+        Ok(entry_at(&self.0.entries.try_borrow()?, name_of(path))?.metadata())
     }
 
     fn copy(&self, _from: &str, _to: &str) -> io::Result<u64> {
@@ -247,19 +261,19 @@ impl<'a> Files for Mounted<'a> {
 
     fn rename(&self, from: &str, to: &str) -> io::Result<()> {
         self.0.count()?;
-        let name = Vec::from_slice(self.0.alloc, to.as_bytes())?;
+        let name = Vec::from_slice(self.0.alloc, name_of(to))?;
         let mut entries = self.0.entries.try_borrow_mut()?;
-        entry_at(&entries, from.as_bytes())?;
-        remove(&mut entries, to.as_bytes());
-        entry_at_mut(&mut entries, from.as_bytes())?.name = name;
+        entry_at(&entries, name_of(from))?;
+        remove(&mut entries, name_of(to));
+        entry_at_mut(&mut entries, name_of(from))?.name = name;
         Ok(())
     }
 
     fn remove_file(&self, path: &str) -> io::Result<()> {
         self.0.count()?;
         let mut entries = self.0.entries.try_borrow_mut()?;
-        entry_at(&entries, path.as_bytes())?;
-        remove(&mut entries, path.as_bytes());
+        entry_at(&entries, name_of(path))?;
+        remove(&mut entries, name_of(path));
         Ok(())
     }
 
@@ -277,12 +291,17 @@ impl<'a> Files for Mounted<'a> {
 
     fn canonicalize<B: Allocator>(&self, alloc: B, path: &str) -> io::Result<PathBuf<B>> {
         self.0.count()?;
-        let entries = self.0.entries.try_borrow()?;
-        let entry = followed(&entries, path.as_bytes())?;
-        match str::from_utf8(entry.name.as_slice()) {
-            Ok(name) => Ok(PathBuf::from_str(alloc, name)?),
-            Err(_) => Err(io::Error::from(ErrorKind::InvalidData)),
+        if path == "." {
+            return Ok(PathBuf::from_str(alloc, path)?);
         }
+        let entries = self.0.entries.try_borrow()?;
+        path_of(alloc, followed(&entries, name_of(path))?.name.as_slice())
+    }
+
+    fn read_link<B: Allocator>(&self, alloc: B, path: &str) -> io::Result<PathBuf<B>> {
+        self.0.count()?;
+        let entries = self.0.entries.try_borrow()?;
+        path_of(alloc, entry_at(&entries, name_of(path))?.text.as_slice())
     }
 }
 

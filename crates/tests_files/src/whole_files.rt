@@ -3,12 +3,11 @@
 use crate::folder::{Folder, Kind, Mounted};
 use refusing::Refusing;
 use std::alloc::{AllocError, Allocator, Global};
-use std::fs::Permissions;
 use std::io::{self, ErrorKind, Write};
 use std::os::unix::fs::PermissionsExt;
 use std::rt::Files;
 use std::test::Fail;
-use whole_file::{AsideFile, Target, target_of};
+use whole_file::{AsideFile, Place, Standing, Target, target_of};
 
 /// What of a mode is no kind.
 const MODE_BITS: u32 = 0o7777;
@@ -154,7 +153,10 @@ fn a_hundred_names_that_are_taken(rt: HostRuntime) -> Result<(), Fail> {
 
 /// The place of a file.
 fn place_of_image(alloc: Global) -> Result<Target<Global>, AllocError> {
-    Ok(Target::Place("image".to_string(alloc)?, None))
+    Ok(Target::Place(Place {
+        path: "image".to_string(alloc)?,
+        standing: None,
+    }))
 }
 
 /// Whether a file aside is written and not empty. It does not take its place.
@@ -228,9 +230,9 @@ enum Lead<'a> {
 }
 
 /// The access mode of a file that stands there.
-fn bits_of(mode: &Option<Permissions>) -> Option<u32> {
-    match mode {
-        Some(mode) => Some(mode.mode() & MODE_BITS),
+fn bits_of(standing: &Option<Standing>) -> Option<u32> {
+    match standing {
+        Some(standing) => Some(standing.mode.mode() & MODE_BITS),
         None => None,
     }
 }
@@ -240,7 +242,9 @@ fn leads<A: Allocator + Copy>(folder: &Folder, alloc: A, path: &str, lead: Lead)
     match &target_of(&Mounted(folder), alloc, path) {
         Ok(Target::Straight) => lead == Lead::Straight,
         Ok(Target::Nowhere) => lead == Lead::Nowhere,
-        Ok(Target::Place(place, mode)) => { lead == Lead::Place(place.as_str(), bits_of(mode)) }
+        Ok(Target::Place(place)) => {
+            lead == Lead::Place(place.path.as_str(), bits_of(&place.standing))
+        }
         Err(error) => lead == Lead::Fails(error.kind()),
     }
 }
@@ -267,8 +271,19 @@ fn where_a_path_leads(rt: HostRuntime) -> Result<(), Fail> {
     assert!(rt; leads_by_calls(rt.alloc(), 2, "image", image)?);
     assert!(rt; leads_by_calls(rt.alloc(), 2, "link", image)?);
     assert!(rt; leads_by_calls(rt.alloc(), 1, "inner", Lead::Nowhere)?);
-    assert!(rt; leads_by_calls(rt.alloc(), 2, "lost", Lead::Straight)?);
-    assert!(rt; leads_by_calls(rt.alloc(), 2, "other", Lead::Place("other", None))?);
+    // A link that leads to nothing: the new file is to stand where it leads.
+    assert!(rt; leads_by_calls(rt.alloc(), 5, "lost", Lead::Place("./nowhere", None))?);
+    assert!(rt; leads_by_calls(rt.alloc(), 3, "other", Lead::Place("./other", None))?);
+    Ok(())
+}
+
+/// A path that can't be that of a file: it has no name, or that of a folder.
+#[test]
+fn a_path_that_can_not_be(rt: HostRuntime) -> Result<(), Fail> {
+    for path in ["", "other/", "./", "other/..", "other/."] {
+        let folder = Folder::holding(rt.alloc(), &EACH_KIND, None)?;
+        assert!(rt; leads(&folder, rt.alloc(), path, Lead::Nowhere), "{path}");
+    }
     Ok(())
 }
 
@@ -286,7 +301,9 @@ fn each_block_of_a_path_refused(rt: HostRuntime) -> Result<(), Fail> {
     assert!(rt; leads_over(rt.alloc(), 0, "link", refused)?);
     assert!(rt; leads_over(rt.alloc(), 1, "link", refused)?);
     assert!(rt; leads_over(rt.alloc(), 2, "link", Lead::Place("image", Some(0o644)))?);
-    assert!(rt; leads_over(rt.alloc(), 0, "other", refused)?);
-    assert!(rt; leads_over(rt.alloc(), 1, "other", Lead::Place("other", None))?);
+    for before in 0..3 {
+        assert!(rt; leads_over(rt.alloc(), before, "other", refused)?);
+    }
+    assert!(rt; leads_over(rt.alloc(), 3, "other", Lead::Place("./other", None))?);
     Ok(())
 }

@@ -1,14 +1,18 @@
 // The file aside.
 ghost use Rattle.std.specs.Io.{WritesAtMost};
 
-use crate::Target;
+use crate::target::{Standing, Target};
 use std::alloc::Allocator;
-use std::fs::{self, OpenFile, OpenOptions, Permissions};
+use std::fs::{self, OpenFile, OpenOptions};
 use std::io::{self, ErrorKind, Write};
+use std::os::unix::fs::{MetadataExt, OpenOptionsExt, lchown};
 use std::rt::Files;
 
 /// How many names are tried for a file aside.
 const MOST_NAMES: u32 = 100;
+
+/// The access mode of a file aside, until it gets that of the file whose place it takes: nobody else may look into it.
+const OWN_MODE: u32 = 0o600;
 
 /// A file that is written beside the one whose place it takes. It is made when its first bytes are written.
 #[derive(Drop)]
@@ -20,19 +24,26 @@ pub struct AsideFile<'a, R: Files, A: Allocator> {
     failure: Option<ErrorKind>,
 }
 
+// How a file aside is made: to take the place of one that stands there, or as any new file.
+fn options_for(standing: Option<&Standing>) -> OpenOptions {
+    let mut options = OpenOptions::new();
+    options.write(true).create_new(true);
+    if standing.is_some() {
+        options.mode(OWN_MODE);
+    }
+    options
+}
+
 // Makes a new file beside another one, under the first name that is free.
 fn create_beside<R: Files, A: Allocator + Copy>(
     rt: &R,
     alloc: A,
     target: &str,
+    options: &OpenOptions,
 ) -> io::Result<(String<A>, R::File)> {
     for number in 0..MOST_NAMES {
         let path = format!(in alloc; "{target}.{number}.new")?;
-        match OpenOptions::new()
-            .write(true)
-            .create_new(true)
-            .open(rt, path.as_str())
-        {
+        match options.open(rt, path.as_str()) {
             Ok(file) => return Ok((path, file)),
             Err(error) if error.kind() == ErrorKind::AlreadyExists => {}
             Err(error) => return Err(error),
@@ -41,17 +52,37 @@ fn create_beside<R: Files, A: Allocator + Copy>(
     Err(io::Error::from(ErrorKind::AlreadyExists))
 }
 
-// Gives a file the access mode of another.
-fn keep_mode<F: OpenFile>(file: &F, mode: Option<&Permissions>) -> io::Result<()> {
-    match mode {
-        Some(mode) => file.set_permissions(mode.clone()?),
-        None => Ok(()),
+// Gives a new file the owner and the group of another, as far as the caller may give them.
+fn keep_owner<R: Files>(rt: &R, path: &str, file: &R::File, standing: &Standing) {
+    let Ok(made) = file.metadata() else {
+        return;
+    };
+    if made.gid() != standing.group {
+        let _ = lchown(rt, path, None, Some(standing.group));
+    }
+    if made.uid() != standing.owner {
+        let _ = lchown(rt, path, Some(standing.owner), None);
     }
 }
 
+// Gives a new file the owner, the group and the access mode of the one that stands there, if one does. The mode comes last: a change
+// of the owner may take bits of it away.
+fn keep_standing<R: Files>(
+    rt: &R,
+    path: &str,
+    file: &R::File,
+    standing: Option<&Standing>,
+) -> io::Result<()> {
+    let Some(standing) = standing else {
+        return Ok(());
+    };
+    keep_owner(rt, path, file, standing);
+    file.set_permissions(standing.mode.clone()?)
+}
+
 impl<'a, R: Files, A: Allocator + Copy> AsideFile<'a, R, A> {
-    /// A file that is to take a target's place, with the access mode of the one that stands there. Nothing is made yet; of a
-    /// target that is no place, each write will fail.
+    /// A file that is to take a target's place, with the access mode of the one that stands there, without set-id bits, and with its
+    /// owner and group where the caller may give them. Nothing is made yet; of a target that is no place, each write will fail.
     pub fn new(rt: &'a R, alloc: A, target: &'a Target<A>) -> AsideFile<'a, R, A> {
         AsideFile {
             rt,
@@ -105,11 +136,11 @@ impl<'a, R: Files, A: Allocator + Copy> AsideFile<'a, R, A> {
             made,
             ..
         } = self;
-        let (Some((path, file)), Target::Place(place, _)) = (made, target) else {
+        let (Some((path, file)), Target::Place(place)) = (made, target) else {
             return Ok(());
         };
         drop(file);
-        let taken = fs::rename(rt, path.as_str(), place.as_str());
+        let taken = fs::rename(rt, path.as_str(), place.path.as_str());
         if taken.is_err() {
             let _removed = fs::remove_file(rt, path.as_str());
         }
@@ -125,16 +156,33 @@ impl<'a, R: Files, A: Allocator + Copy> AsideFile<'a, R, A> {
         }
     }
 
+    /// Makes the file aside, if it is not there yet.
+    ///
+    /// # Errors
+    /// A call that failed before, or what the file system answers; then each write will fail.
+    pub fn open(&mut self) -> io::Result<()> {
+        if let Some(kind) = self.failure {
+            return Err(io::Error::from(kind));
+        }
+        let made = self.make();
+        if let Err(error) = &made {
+            self.failure = Some(error.kind());
+        }
+        made
+    }
+
     // Makes the file aside, if it is not there yet.
     fn make(&mut self) -> io::Result<()> {
         if self.made.is_some() {
             return Ok(());
         }
-        let Target::Place(place, mode) = self.target else {
+        let Target::Place(place) = self.target else {
             return Err(io::Error::from(ErrorKind::NotFound));
         };
-        let (path, file) = create_beside(self.rt, self.alloc, place.as_str())?;
-        let kept = keep_mode(&file, mode.as_ref());
+        let standing = place.standing.as_ref();
+        let options = options_for(standing);
+        let (path, file) = create_beside(self.rt, self.alloc, place.path.as_str(), &options)?;
+        let kept = keep_standing(self.rt, path.as_str(), &file, standing);
         self.made = Some((path, file));
         kept
     }

@@ -58,3 +58,13 @@ fn control_characters_are_escaped(rt: HostRuntime) -> Result<(), Fail> {
     )?;
     Ok(())
 }
+
+/// A right-to-left override, an isolate and a zero width space.
+#[test]
+fn format_characters_are_escaped(rt: HostRuntime) -> Result<(), Fail> {
+    let alloc = rt.alloc();
+    shows(&rt, alloc, &["cata\u{202e}log"], "'cata\\u{00202E}log'")?;
+    shows(&rt, alloc, &["cata\u{2066}log"], "'cata\\u{002066}log'")?;
+    shows(&rt, alloc, &["cata\u{200b}log"], "'cata\\u{00200B}log'")?;
+    Ok(())
+}

@@ -75,12 +75,12 @@ fn words_out_of_their_set_are_refused(rt: HostRuntime) {
     for (line, wrong, usage) in [
         (
             "catalog a.dsk --fs cpm --order dos",
-            "invalid value 'cpm' for '--fs <fs>'\n  [possible values: dos, prodos]",
+            "invalid value 'cpm' for '--fs <fs>'\n  [possible values: auto, dos, prodos]",
             CATALOG_USAGE,
         ),
         (
             "catalog a.dsk --fs dos --order DOS",
-            "invalid value 'DOS' for '--order <order>'\n  [possible values: dos, prodos, nibble]",
+            "invalid value 'DOS' for '--order <order>'\n  [possible values: auto, dos, prodos, nibble]",
             CATALOG_USAGE,
         ),
         (
@@ -107,7 +107,7 @@ fn help_is_told_where_it_is_asked_for(rt: HostRuntime) {
         ("help", "List the files of a volume", PROGRAM_USAGE),
         (
             "catalog --help",
-            "a2shop catalog disk.dsk --fs dos --order dos",
+            "a2shop catalog disk.dsk --fs auto --order auto",
             CATALOG_USAGE,
         ),
         (
