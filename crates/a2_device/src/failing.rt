@@ -1,5 +1,6 @@
 // A device whose next read or write fails to order.
-ghost use Rattle.std.specs.Prelude.{◌≡◌, ◌<◌, Some, None, false, true, [], ◌∷◌, length};
+ghost use Rattle.std.specs.Prelude.{◌≡◌, ◌<◌, Some, None, false, true, [], ◌∷◌, length, IsTrue, IsFalse};
+ghost use Rattle.a2_device.specs.Device.{MeetsReadFailure, OnlyReads};
 ghost use Rattle.a2_device.specs.Met.{ReadsToOrder, WritesToOrder};
 ghost use Rattle.a2_device.specs.Orders.{with_orders, HasSameUnits};
 ghost use Rattle.a2_device.specs.Writes.{Reads, Writes};
@@ -57,6 +58,25 @@ impl<D: Device> FaultDevice<D> {
             state self.new ≡ record (state self.old) { write_failures = (state self.new).write_failures } }
     {
         self.write_order = Some(took);
+    }
+
+    /// Meets the order to fail a read, as the next read would at any place, and asks nothing of the device within; whether
+    /// there was one.
+    pub fn meet_read_order(&mut self) -> bool
+        ensures ordered { result ≡ self.old.read_order }
+        ensures met { IsTrue result → self.new ≡ record self.old { read_order = false; faults = self.new.faults } }
+        ensures none { IsFalse result → self.new ≡ self.old }
+        ensures failed { let state = ⟦<FaultDevice<D> as Device>⟧.state in
+            IsTrue result → MeetsReadFailure (state self.old) (state self.new) }
+        ensures reads { let state = ⟦<FaultDevice<D> as Device>⟧.state in
+            OnlyReads result (state self.old) (state self.new) }
+    {
+        if !self.read_order {
+            return false;
+        }
+        self.read_order = false;
+        self.faults = with_refusal(self.device.faults(), self.faults);
+        true
     }
 
     /// The device that calls were passed on to.
@@ -125,9 +145,7 @@ impl<D: Device> Device for FaultDevice<D> {
             Reads place unit.new result (state self.old) (state self.new) }
         ensures to_order { ReadsToOrder D.state self.old self.new result }
     {
-        if self.read_order {
-            self.read_order = false;
-            self.faults = with_refusal(self.device.faults(), self.faults);
+        if self.meet_read_order() {
             return Err(DeviceError::Fault);
         }
         self.device.read(place, unit)

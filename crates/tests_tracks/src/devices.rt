@@ -362,6 +362,22 @@ fn fails_to_order(rt: HostRuntime) -> Result<(), Fail> {
     Ok(())
 }
 
+/// An order to fail a read is met without the device within, and once, however often it was given.
+#[test]
+fn an_order_is_met_without_a_read(rt: HostRuntime) -> Result<(), Fail> {
+    let mut device = FaultDevice::new(disk(&rt, Order::Dos)?);
+    assert!(rt; !device.meet_read_order());
+    assert!(rt; counts(&device) == (0, 0));
+    device.fail_read();
+    device.fail_read();
+    assert!(rt; device.meet_read_order());
+    assert!(rt; !device.meet_read_order());
+    assert!(rt; counts(&device) == (0, 1));
+    assert!(rt; answers(&mut device, Call::Reads(5, 5)));
+    assert!(rt; counts(&device.into_inner()) == (0, 0));
+    Ok(())
+}
+
 /// An order of which the new unit stands waits for a write that the device takes.
 #[test]
 fn an_order_waits_at_a_missing_sector(rt: HostRuntime) -> Result<(), Fail> {
