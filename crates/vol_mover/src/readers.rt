@@ -27,6 +27,13 @@ impl<'a, D: Device, F: WritableFormat, A: Allocator> Session<'a, D, F, A> {
         self.agenda.len()
     }
 
+    /// Whether a write has failed, after which no other is made.
+    pub fn is_closed(&self) -> bool
+        ensures { result ≡ self.now.closed }
+    {
+        self.closed
+    }
+
     /// The device.
     pub fn into_device(self) -> D
         ensures { result ≡ self.entry.device }
