@@ -2,8 +2,8 @@
 use Rattle.std.specs.Prelude.{◌≡◌, ◌⊎◌, ◌<◌, ℕ, ◌+◌, Bool, true, false, List, [], length, Option, Some, None, slice_set, unwrap_or, Contains}
 use Rattle.std.proofs.Common.{refl, sym, ◌∙◌, ap, subst, arith, inl, inr}
 use Rattle.event_replay.specs.Held.{IsDeviceAt, count_of, orders_of}
-use Rattle.a2_device.specs.Device.{DeviceState, FailsRead, FailsWrite, OnlyReads, UsesRead, UsesWrite, last_count, one_fewer, written}
-use Rattle.event_replay.specs.Orders.{MeetsOrders}
+use Rattle.a2_device.specs.Device.{DeviceState, FailsRead, FailsWrite, IsSameDevice, OnlyReads, UsesRead, UsesWrite, counted, last_count, one_fewer, written}
+use Rattle.event_replay.specs.Orders.{HasMetRead, HasNoReadOrder, MeetsOrders}
 
 used_read : (fails : Bool) (old new : Option ℕ) → old ≡ Some (count_of fails) → UsesRead old new → (fails ≡ true) × (new ≡ Some 0)
 used_read fails None new is uses = absurd (cc (is))
@@ -20,6 +20,30 @@ used_write (Some told) (Some orders) new took is (rest, first, left) =
     let same : told ≡ took = cc (is, first) in
     let none : rest ≡ [] = cc (is, first) in
     (ap Some same, left ∙ ap Some none)
+
+-- an order to fail a read that is met is a read that failed
+pub met_reads : (old new : DeviceState) → HasMetRead old new → OnlyReads true old new
+met_reads old new met = record {
+  same = subst (IsSameDevice old) (sym met.is)
+      (record { places = refl; unit_size = refl; image = refl; honest = refl; unreadable = refl });
+  faults = ap (λ (d : DeviceState). d.faults) met.is;
+  kept = λ honest came. absurd (cc (came));
+  met = λ honest failed. (
+    0,
+    inl (uses, met.is ∙ ap (λ (n : Option ℕ). record old { faults = counted old.faults; read_failures = n }) (sym none)),
+  );
+}
+  where
+    none : new.read_failures ≡ Some 0
+    none = ap (λ (d : DeviceState). d.read_failures) met.is
+
+    uses : UsesRead old.read_failures new.read_failures
+    uses = subst (λ n. UsesRead n new.read_failures) (sym met.ordered) (0, refl, none)
+
+none_to_fail : (fails : Bool) (failures : Option ℕ) → failures ≡ Some (count_of fails) → failures ≡ Some 0
+    → fails ≡ false
+none_to_fail false failures is none = refl
+none_to_fail true failures is none = absurd (cc (is, none))
 
 none_unreadable : (places : List ℕ) (place : ℕ) → places ≡ [] → Contains places place → ⊥
 none_unreadable places place none has = let within : (k : ℕ) × (k < 0) = (has.0, subst (λ (xs : List ℕ). has.0 < length xs) none has.1) in omega (arith, within.1)
@@ -41,6 +65,11 @@ module _ (base left : ℕ) (device new : DeviceState) (fails_read : Bool) (fails
   -- reads that all came
   pub only_read : IsDeviceAt base left device fails_read fails_write store writes → OnlyReads false device new → new ≡ device
   only_read at reads = reads.kept at.honest refl
+
+  -- no read is to fail where none is ordered to
+  pub none_fails : IsDeviceAt base left device fails_read fails_write store writes → HasNoReadOrder device
+      → fails_read ≡ false
+  none_fails at none = none_to_fail fails_read device.read_failures at.reads none
 
   -- a read that failed met the failure that was ordered
   pub read_failed : IsDeviceAt base left device fails_read fails_write store writes → OnlyReads true device new

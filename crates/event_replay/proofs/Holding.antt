@@ -1,6 +1,6 @@
 -- What a replay holds, after calls of the device of its session.
-use Rattle.std.specs.Prelude.{◌≡◌, ℕ, Bool, false, List, Result, Ok, Err, IfOk, IsTrue}
-use Rattle.std.proofs.Common.{refl, sym, ◌∙◌, ap, subst}
+use Rattle.std.specs.Prelude.{◌≡◌, ℕ, Bool, true, false, List, Result, Ok, Err, IfOk, IsTrue}
+use Rattle.std.proofs.Common.{refl, sym, ◌∙◌, ap, subst, inl, inr}
 use Rattle.a2_device.specs.Device.{DeviceState, OnlyReads}
 use Rattle.vol_format.specs.Meaning.{Meaning}
 use Rattle.vol_mover.specs.Present.{Present}
@@ -12,8 +12,9 @@ use Rattle.file_cmds.specs.Read.{IsTextAt, IsUnreadable, HasNoFile}
 use Rattle.file_cmds.specs.Refusal.{told_device}
 use Rattle.file_cmds.specs.declared.error.CmdError.{CmdError}
 use Rattle.file_cmds.specs.declared.error.CmdError.TheVariants.{Check, NotFound, Device, Memory}
-use Rattle.event_replay.specs.Holds.{ASession, AnswersRead, Fits, ReadsDevice}
+use Rattle.event_replay.specs.Holds.{ASession, AnswersRead, Fits, ReadsDevice, ReadsFileToOrder}
 use Rattle.event_replay.specs.declared.event.Answer.{Answer}
+use Rattle.event_replay.proofs.Devices.{met_reads}
 
 -- a session goes on over a device on which it can
 pub goes_on : (format : Meaning) (old : Present) (device : DeviceState) → Fits format (ASession old) → CanResume old.device device
@@ -27,6 +28,12 @@ read_can failed old new reads = record {
   honest = λ honest. subst IsTrue reads.same.honest honest;
   store = λ honest. (reads_keep failed old new reads (subst IsTrue reads.same.honest honest)).0;
 }
+
+pub file_can : {A : Type 0} (format : Meaning) (files : FileMeaning) (path : List ℕ) (old : DeviceState)
+    (answer : Answer A) (new : DeviceState)
+    → ReadsFileToOrder format files path old answer new → CanResume old new
+file_can format files path old answer new (inl (met, is)) = read_can true old new (met_reads old new met)
+file_can format files path old answer new (inr (none, reads)) = read_can (told_device reads.result) old new reads.device
 
 pub with_device : (old new : Present) (device : DeviceState) → new ≡ record old { device = device } → (new.device ≡ device) × (new ≡ record old { device = new.device })
 with_device old new device is =

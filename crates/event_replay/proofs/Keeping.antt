@@ -34,26 +34,26 @@ Moves format old new = ((new.store ≡ old.store) × (new.moves ≡ old.moves)) 
 
 module _ (A : Type 0) (format : Meaning) (files : FileMeaning) where
   step_moves : (old : Moment) (answer : Answer A) (new : Moment) → Steps format old answer new → Moves format old new
-  step_moves old Stepped new (wrote left mid is none writes) = inr (mid, writes, refl, refl)
+  step_moves old Stepped new (wrote left mid is comes none writes) = inr (mid, writes, refl, refl)
   step_moves old Refused new (read_failed left is ordered) = inl (refl, refl)
-  step_moves old Refused new (write_failed left is ordered) = inl (refl, refl)
-  step_moves old Refused new (write_failed_and_stands left mid is ordered writes) = inr (mid, writes, refl, refl)
+  step_moves old Refused new (write_failed left is comes ordered) = inl (refl, refl)
+  step_moves old Refused new (write_failed_and_stands left mid is comes ordered writes) = inr (mid, writes, refl, refl)
   step_moves old Stepped new (nothing_left is order) = inl (refl, refl)
   step_moves old Refused new (not_open is) = inl (refl, refl)
   step_moves old (Bytes bytes) new steps = elim steps [ ]
   step_moves old NoMemory new steps = elim steps [ ]
 
   read_moves : (path : List ℕ) (old : Moment) (answer : Answer A) (new : Moment) → Reads format files path old answer new → Moves format old new
-  read_moves path old answer new (gave told text there gives is) = inl (refl, refl)
-  read_moves path old answer new (no_file there none) = inl (refl, refl)
+  read_moves path old answer new (gave told text there comes gives is) = inl (refl, refl)
+  read_moves path old answer new (no_file there comes none) = inl (refl, refl)
   read_moves path old answer new (failed there ordered) = inl (refl, refl)
   read_moves path old answer new (no_memory there) = inl (refl, refl)
   read_moves path old answer new (no_session is) = inl (refl, refl)
 
   stop_moves : (old : Moment) (answer : Answer A) (new : Moment) → Stops format old answer new → Moves format old new
-  stop_moves old answer new (opened lost writes opens) = inl (refl, refl)
+  stop_moves old answer new (opened lost writes comes opens) = inl (refl, refl)
   stop_moves old answer new (failed ordered) = inl (refl, refl)
-  stop_moves old answer new (refused error can) = inl (refl, refl)
+  stop_moves old answer new (refused error comes can) = inl (refl, refl)
 
   pub turn_moves : (old : Moment) (event : Event) (answer : Answer A) (new : Moment) → IsTurn format files old event answer new → Moves format old new
   turn_moves old Step answer new turn = step_moves old answer new turn
@@ -65,26 +65,26 @@ module _ (A : Type 0) (format : Meaning) (files : FileMeaning) where
 -- how many unit writes stand: one more at most after each event
 module _ (A : Type 0) (format : Meaning) (files : FileMeaning) where
   step_writes : (old : Moment) (answer : Answer A) (new : Moment) → Steps format old answer new → new.writes ≤ old.writes + 1
-  step_writes old Stepped new (wrote left mid is none writes) = let made = ap (λ (m : Moment). m.writes) writes.only in omega (arith, made)
+  step_writes old Stepped new (wrote left mid is comes none writes) = let made = ap (λ (m : Moment). m.writes) writes.only in omega (arith, made)
   step_writes old Refused new (read_failed left is ordered) = omega arith
-  step_writes old Refused new (write_failed left is ordered) = omega arith
-  step_writes old Refused new (write_failed_and_stands left mid is ordered writes) = let made = ap (λ (m : Moment). m.writes) writes.only in omega (arith, made)
+  step_writes old Refused new (write_failed left is comes ordered) = omega arith
+  step_writes old Refused new (write_failed_and_stands left mid is comes ordered writes) = let made = ap (λ (m : Moment). m.writes) writes.only in omega (arith, made)
   step_writes old Stepped new (nothing_left is order) = omega arith
   step_writes old Refused new (not_open is) = omega arith
   step_writes old (Bytes bytes) new steps = elim steps [ ]
   step_writes old NoMemory new steps = elim steps [ ]
 
   read_writes : (path : List ℕ) (old : Moment) (answer : Answer A) (new : Moment) → Reads format files path old answer new → new.writes ≤ old.writes + 1
-  read_writes path old answer new (gave told text there gives is) = omega arith
-  read_writes path old answer new (no_file there none) = omega arith
+  read_writes path old answer new (gave told text there comes gives is) = omega arith
+  read_writes path old answer new (no_file there comes none) = omega arith
   read_writes path old answer new (failed there ordered) = omega arith
   read_writes path old answer new (no_memory there) = omega arith
   read_writes path old answer new (no_session is) = omega arith
 
   stop_writes : (old : Moment) (answer : Answer A) (new : Moment) → Stops format old answer new → new.writes ≤ old.writes + 1
-  stop_writes old answer new (opened lost writes opens) = omega arith
+  stop_writes old answer new (opened lost writes comes opens) = omega arith
   stop_writes old answer new (failed ordered) = omega arith
-  stop_writes old answer new (refused error can) = omega arith
+  stop_writes old answer new (refused error comes can) = omega arith
 
   turn_writes : (old : Moment) (event : Event) (answer : Answer A) (new : Moment) → IsTurn format files old event answer new → new.writes ≤ old.writes + 1
   turn_writes old Step answer new turn = step_writes old answer new turn
@@ -164,7 +164,7 @@ module _ (A : Type 0) (format : Meaning) (laws : IsReadable format) (movable : I
   -- a read
   reads_file : (old : Moment) (event : Event) (answer : Answer A) (new : Moment) → KeepsVolume format all first old → IsTurn format files old event answer new
       → ReadsFile format files all event answer
-  reads_file old (Read path) (Bytes bytes) new keeps (gave told text there gives is) =
+  reads_file old (Read path) (Bytes bytes) new keeps (gave told text there comes gives is) =
       subst (IsTextOfFirst files format.unit_size all path.now false) (sym gives) (text_by_list format laws files old.store all keeps.files path.now false text is)
   reads_file old (Read path) Stepped new keeps turn = tt
   reads_file old (Read path) Refused new keeps turn = tt
@@ -176,11 +176,11 @@ module _ (A : Type 0) (format : Meaning) (laws : IsReadable format) (movable : I
 
   -- lost places
   few_moved : (old : Moment) (answer : Answer A) (new : Moment) → LosesFew format old → Steps format old answer new → LosesFew format new
-  few_moved old Stepped new few (wrote left mid is none writes) =
+  few_moved old Stepped new few (wrote left mid is comes none writes) =
       subst (λ o. HasFewLost format o mid.store mid.writes) (sym (ap (λ (m : Moment). m.opened) writes.only)) writes.few
   few_moved old Refused new few (read_failed left is ordered) = few
-  few_moved old Refused new few (write_failed left is ordered) = few
-  few_moved old Refused new few (write_failed_and_stands left mid is ordered writes) =
+  few_moved old Refused new few (write_failed left is comes ordered) = few
+  few_moved old Refused new few (write_failed_and_stands left mid is comes ordered writes) =
       subst (λ o. HasFewLost format o mid.store mid.writes) (sym (ap (λ (m : Moment). m.opened) writes.only)) writes.few
   few_moved old Stepped new few (nothing_left is order) = few
   few_moved old Refused new few (not_open is) = few
@@ -198,16 +198,16 @@ module _ (A : Type 0) (format : Meaning) (laws : IsReadable format) (movable : I
   }
 
   few_read : (path : List ℕ) (old : Moment) (answer : Answer A) (new : Moment) → LosesFew format old → Reads format files path old answer new → LosesFew format new
-  few_read path old answer new few (gave told text there gives is) = few
-  few_read path old answer new few (no_file there none) = few
+  few_read path old answer new few (gave told text there comes gives is) = few
+  few_read path old answer new few (no_file there comes none) = few
   few_read path old answer new few (failed there ordered) = few
   few_read path old answer new few (no_memory there) = few
   few_read path old answer new few (no_session is) = few
 
   few_stop : (old : Moment) (answer : Answer A) (new : Moment) → LosesFew format old → Stops format old answer new → LosesFew format new
-  few_stop old answer new few (opened lost writes opens) = few_opened old.store lost writes opens old.writes old.moves
+  few_stop old answer new few (opened lost writes comes opens) = few_opened old.store lost writes opens old.writes old.moves
   few_stop old answer new few (failed ordered) = few
-  few_stop old answer new few (refused error can) = few
+  few_stop old answer new few (refused error comes can) = few
 
   few_turn : (old : Moment) (event : Event) (answer : Answer A) (new : Moment) → LosesFew format old → IsTurn format files old event answer new → LosesFew format new
   few_turn old Step answer new few turn = few_moved old answer new few turn
@@ -250,9 +250,9 @@ module _ (A : Type 0) (format : Meaning) (laws : IsReadable format) (movable : I
   reads_run old (event ∷ events) (answer ∷ answers) [] keeps is = absurd is
 
   reopens : (old : Moment) (event : Event) (answer : Answer A) (new : Moment) → HasRoom format old.store → IsTurn format files old event answer new → Reopens old event new
-  reopens old Stop answer new room (opened lost writes opens) = inl tt
+  reopens old Stop answer new room (opened lost writes comes opens) = inl tt
   reopens old Stop answer new room (failed ordered) = inr ordered
-  reopens old Stop answer new room (refused error can) = absurd (room_opens format laws old.store error room can)
+  reopens old Stop answer new room (refused error comes can) = absurd (room_opens format laws old.store error room can)
   reopens old Step answer new room turn = tt
   reopens old (Read path) answer new room turn = tt
   reopens old FailRead answer new room turn = tt

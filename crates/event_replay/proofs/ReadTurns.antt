@@ -15,12 +15,13 @@ use Rattle.file_cmds.specs.Text.{OwnFault, other_type, wild_root, wild_pointer, 
 use Rattle.file_cmds.specs.Refusal.{told_device}
 use Rattle.file_cmds.specs.declared.error.CmdError.{CmdError}
 use Rattle.file_cmds.specs.declared.error.CmdError.TheVariants.{Check, NotFound, Device, Memory}
-use Rattle.event_replay.specs.Holds.{Holds, ASession, ADevice, AnswersRead, ChangesHolds, ReadsDevice}
+use Rattle.event_replay.specs.Holds.{Holds, ASession, ADevice, AnswersRead, ChangesHolds, ReadsFileToOrder}
 use Rattle.event_replay.specs.Moments.{Moment, Opened, SessionState, Open, HasSession}
 use Rattle.event_replay.specs.Orders.{read_ordered, write_ordered}
 use Rattle.event_replay.specs.Runs.{Reads, gave, no_file, failed, no_memory}
 use Rattle.event_replay.specs.declared.event.Answer.{Answer}
-use Rattle.event_replay.proofs.Devices.{later, only_read, read_failed}
+use Rattle.event_replay.specs.declared.event.Answer.TheVariants.{Refused}
+use Rattle.event_replay.proofs.Devices.{later, met_reads, none_fails, only_read, read_failed}
 use Rattle.event_replay.proofs.Holding.{read_can}
 use Rattle.event_replay.specs.Held.{HasBegun, IsDeviceAt, IsAt, IsHeldAt}
 
@@ -59,6 +60,22 @@ session_there : (format : Meaning) (session : Present) (state : SessionState) (s
 session_there format session state store opened writes moves (volume, inl at) = subst HasSession (sym at.left) tt
 session_there format session state store opened writes moves (volume, inr (closed, is)) = subst HasSession (sym is) tt
 
+module _ (format : Meaning) (base left : ℕ) (old new : Present) (now : Moment) (at : IsAt format base (left + 1) (ASession old) now)
+    (only : new ≡ record old { device = new.device }) where
+  -- a read that failed met the failure that was ordered, and else nothing has changed
+  pub failed_at : OnlyReads true old.device new.device
+      → (now.fails_read ≡ true) × IsAt format base left (ASession new) (record now { fails_read = false })
+  failed_at reads =
+      let device = later base left old.device old.device now.fails_read now.fails_write now.store now.writes at.0 in
+      let met = read_failed base left old.device new.device now.fails_read now.fails_write now.store now.writes device reads in (
+        met.0,
+        (
+          met.1,
+          still_held format old new now.session now.store now.opened now.writes now.moves
+              (read_can true old.device new.device reads) only at.1,
+        ),
+      )
+
 module _ (A : Type 0) (format : Meaning) (laws : IsReadable format) (files : FileMeaning) (path : List ℕ) (base left : ℕ) (old new : Present) (now : Moment)
     (at : IsAt format base (left + 1) (ASession old) now) (only : new ≡ record old { device = new.device }) (answer : Answer A) where
   abbrev IsLine : Answer A → Type 0
@@ -80,28 +97,30 @@ module _ (A : Type 0) (format : Meaning) (laws : IsReadable format) (files : Fil
   came : OnlyReads false old.device new.device → new.device ≡ old.device
   came reads = only_read base left old.device new.device now.fails_read now.fails_write now.store now.writes device_later reads
 
-  by_result : (result : Result (List ℕ) CmdError) → OnlyReads (told_device result) old.device new.device
+  failed_line : OnlyReads true old.device new.device → IsLine Refused
+  failed_line reads =
+      let met = failed_at format base left old new now at only reads in
+      (record now { fails_read = false }, failed there met.0, met.1)
+
+  by_result : now.fails_read ≡ false → (result : Result (List ℕ) CmdError) → OnlyReads (told_device result) old.device new.device
       → IfOk result (IsTextAt format files old.device.store path false)
       → (result ≡ Err Check → IsUnreadable format files old.device.store path)
       → (result ≡ Err NotFound → HasNoFile format files old.device.store path)
       → AnswersRead result answer → IsLine answer
-  by_result (Ok text) reads is check none answers =
-      (now, gave answer text there answers (subst (λ s. IsTextAt format files s path false text) at.0.stands is), kept false reads (came reads))
-  by_result (Err Memory) reads is check none answers = subst IsLine (sym answers) (now, no_memory there, kept false reads (came reads))
-  by_result (Err NotFound) reads is check none answers =
-      subst IsLine (sym answers) (now, no_file there (subst (λ s. HasNoFile format files s path) at.0.stands (none refl)), kept false reads (came reads))
-  by_result (Err Check) reads is check none answers =
+  by_result comes (Ok text) reads is check none answers =
+      (now, gave answer text there comes answers (subst (λ s. IsTextAt format files s path false text) at.0.stands is), kept false reads (came reads))
+  by_result comes (Err Memory) reads is check none answers = subst IsLine (sym answers) (now, no_memory there, kept false reads (came reads))
+  by_result comes (Err NotFound) reads is check none answers =
+      subst IsLine (sym answers) (now, no_file there comes (subst (λ s. HasNoFile format files s path) at.0.stands (none refl)), kept false reads (came reads))
+  by_result comes (Err Check) reads is check none answers =
       absurd (is_readable format laws files now.store path at.1.0 (subst (λ s. IsUnreadable format files s path) at.0.stands (check refl)))
-  by_result (Err Device) reads is check none answers =
-      let met = read_failed base left old.device new.device now.fails_read now.fails_write now.store now.writes device_later reads in
-      subst IsLine (sym answers) (
-        record now { fails_read = false },
-        failed there met.0,
-        (met.1, still_held format old new now.session now.store now.opened now.writes now.moves (read_can true old.device new.device reads) only at.1),
-      )
+  by_result comes (Err Device) reads is check none answers = subst IsLine (sym answers) (failed_line reads)
 
-  pub read_line : ReadsDevice format files path old.device answer new.device → IsLine answer
-  read_line reads = by_result reads.result reads.device (reads.text at.0.honest) (reads.check at.0.honest) (reads.not_found at.0.honest) reads.answers
+  pub read_line : ReadsFileToOrder format files path old.device answer new.device → IsLine answer
+  read_line (inl (met, is)) = subst IsLine (sym is) (failed_line (met_reads old.device new.device met))
+  read_line (inr (none, reads)) =
+      by_result (none_fails base left old.device old.device now.fails_read now.fails_write now.store now.writes device_later none)
+      reads.result reads.device (reads.text at.0.honest) (reads.check at.0.honest) (reads.not_found at.0.honest) reads.answers
 
 -- an order to fail
 read_order_at : (base left : ℕ) (device : DeviceState) (fails_read : Bool) (fails_write : Option Bool) (store : List (List ℕ)) (writes : ℕ)

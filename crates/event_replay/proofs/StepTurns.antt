@@ -1,5 +1,5 @@
 -- A step of a replay is a line of a run.
-use Rattle.std.specs.Prelude.{◌≡◌, ◌⊎◌, ℕ, ◌+◌, true, false, List, [], ◌∷◌, length, slice_set, Contains, Result, Ok, Err, None, Some}
+use Rattle.std.specs.Prelude.{◌≡◌, ◌⊎◌, ℕ, ◌+◌, ◌-◌, true, false, List, [], ◌∷◌, length, slice_set, Contains, Result, Ok, Err, None, Some}
 use Rattle.std.proofs.Common.{refl, sym, ◌∙◌, ap, subst, arith, inl, inr}
 use Rattle.vol_format.specs.Accepted.{IsVolume}
 use Rattle.vol_format.specs.Directory.{Directory}
@@ -17,15 +17,16 @@ use Rattle.vol_mover.specs.declared.progress.StepError.{StepError}
 use Rattle.vol_mover.specs.declared.progress.StepError.TheVariants.{Closed as IsClosed, Read as ReadFailed, Write as WriteFailed}
 use Rattle.vol_mover.specs.declared.progress.Wrote.{Wrote}
 use Rattle.vol_mover.proofs.Stepping.{first_task}
-use Rattle.event_replay.specs.Holds.{ASession, step_answer}
+use Rattle.event_replay.specs.Holds.{ASession, MeetsOrder, ReadsNext, StepsToOrder, step_answer}
 use Rattle.event_replay.specs.Moments.{Moment, Open, Closed, IsNotOpen}
 use Rattle.event_replay.specs.Runs.{Steps, wrote, read_failed, write_failed, write_failed_and_stands, nothing_left, not_open}
 use Rattle.event_replay.specs.Volumes.{IsInOrder}
 use Rattle.event_replay.specs.declared.event.Answer.{Answer}
 use Rattle.event_replay.specs.declared.event.Answer.TheVariants.{Stepped, Refused}
 use Rattle.event_replay.specs.Orders.{MeetsOrders}
-use Rattle.event_replay.proofs.Devices.{has_written, later, none_ordered, read_failed as device_read_failed, write_failed as device_write_failed}
+use Rattle.event_replay.proofs.Devices.{has_written, later, met_reads, none_fails, none_ordered, read_failed as device_read_failed, write_failed as device_write_failed}
 use Rattle.event_replay.specs.Held.{HasBegun, IsDeviceAt, IsAt, IsOpenAt}
+use Rattle.event_replay.proofs.ReadTurns.{failed_at}
 use Rattle.event_replay.proofs.Writing.{begun_after, come_after, is_write, open_layout, written_moment}
 
 -- what a write that is taken note of keeps
@@ -77,7 +78,14 @@ module _ (A : Type 0) (format : Meaning) (laws : IsReadable format) (movable : I
         (unchanged same, (volume, inr (ap (λ (p : Present). p.closed) same ∙ is.0, is.1))),
       )
 
-  module _ (opened : IsOpenAt format old now.session now.opened now.writes now.moves) where
+  module _ (opened : IsOpenAt format old now.session now.opened now.writes now.moves)
+      (unordered : ReadsNext old → now.fails_read ≡ false) where
+    -- no read is to fail where a write is left
+    comes : (task : Task) (rest : List Task) → old.tasks ≡ task ∷ rest → now.fails_read ≡ false
+    comes task rest first =
+        let count : length old.tasks ≡ length (task ∷ rest) = ap (λ (tasks : List Task). length tasks) first in
+        unordered (opened.not_closed, omega (arith, count))
+
     was_open : IsOpen format old.opening old.device.store old.parts opened.course
     was_open = opened.is.is_open device.honest opened.not_closed
 
@@ -134,7 +142,7 @@ module _ (A : Type 0) (format : Meaning) (laws : IsReadable format) (movable : I
         let lost : new.lost_at_first ≡ old.lost_at_first = ap (λ (p : Present). p.lost_at_first) goes.4 ∙ advanced_lost old goes.0 goes.1 in
         let tasks : new.tasks ≡ next.rest = ap (λ (p : Present). p.tasks) goes.4 ∙ advanced_tasks old goes.0 goes.1 ∙ same_rest in (
           record mid { session = Open (length next.rest) },
-          wrote (length next.rest) mid (left_over next.task next.rest next.first)
+          wrote (length next.rest) mid (left_over next.task next.rest next.first) (comes next.task next.rest next.first)
               (none_ordered base (left + 1) old.device new.device now.fails_read now.fails_write now.store now.writes place unit device meets made.3) writes,
           (
             has_written base left old.device new.device now.fails_read now.fails_write now.store now.writes place unit device meets made.3,
@@ -199,12 +207,13 @@ module _ (A : Type 0) (format : Meaning) (laws : IsReadable format) (movable : I
             let mid = written_moment format movable laws old opened.course opened.is was_open refused.0 refused.1 next now in
             let writes = is_write format movable laws old opened.course opened.is was_open refused.0 refused.1 next now device.stands opened.come opened.begun in (
               record mid { session = Closed; fails_write = None },
-              write_failed_and_stands (length next.rest) mid (left_over next.task next.rest next.first) ordered writes,
+              write_failed_and_stands (length next.rest) mid (left_over next.task next.rest next.first)
+                  (comes next.task next.rest next.first) ordered writes,
               (at, (writes.volume, inr (closed, refl))),
             )
         by_failure (inr (ordered, at)) = (
           record now { session = Closed; fails_write = None },
-          write_failed (length next.rest) (left_over next.task next.rest next.first) ordered,
+          write_failed (length next.rest) (left_over next.task next.rest next.first) (comes next.task next.rest next.first) ordered,
           (at, (volume, inr (closed, refl))),
         )
 
@@ -220,7 +229,30 @@ module _ (A : Type 0) (format : Meaning) (laws : IsReadable format) (movable : I
     open_line (Err ReadFailed) step = read_line step
     open_line (Err WriteFailed) step = write_line step
 
-  pub step_line : IsOpenAt format old now.session now.opened now.writes now.moves ⊎ ((old.closed ≡ true) × (now.session ≡ Closed))
-      → (result : Result Progress StepError) → IsStep format old new result → IsLine (step_answer result)
-  step_line (inl opened) result step = open_line opened result step
-  step_line (inr closed) result step = closed_line closed result step
+  abbrev IsThere : Type 0
+  IsThere = IsOpenAt format old now.session now.opened now.writes now.moves ⊎ ((old.closed ≡ true) × (now.session ≡ Closed))
+
+  made_line : IsThere → (ReadsNext old → now.fails_read ≡ false) → (result : Result Progress StepError)
+      → IsStep format old new result → IsLine (step_answer result)
+  made_line (inl opened) unordered result step = open_line opened unordered result step
+  made_line (inr closed) unordered result step = closed_line closed result step
+
+  some_write_left : IsThere → ReadsNext old → (left_now : ℕ) × (now.session ≡ Open (left_now + 1))
+  some_write_left (inl opened) next =
+      let count : length old.tasks ≡ length old.tasks - 1 + 1 = omega (arith, next.1) in
+      (length old.tasks - 1, opened.left ∙ ap Open count)
+  some_write_left (inr closed) next = let is = closed.0 in let not_closed = next.0 in absurd (cc (is, not_closed))
+
+  -- an order to fail a read is met
+  met_line : (answer : Answer A) → IsThere → ReadsNext old → MeetsOrder old answer new → IsLine answer
+  met_line answer there next meets =
+      let some = some_write_left there next in
+      let met = failed_at format base left old new now (device, (volume, there)) meets.only (met_reads old.device new.device meets.met) in
+      subst IsLine (sym meets.answers) (record now { fails_read = false }, read_failed some.0 some.1 met.0, met.1)
+
+  pub step_line : (answer : Answer A) → IsThere → StepsToOrder format old answer new → IsLine answer
+  step_line answer there (inl (next, meets)) = met_line answer there next meets
+  step_line answer there (inr (none, steps)) =
+      subst IsLine (sym steps.answers) (made_line there
+      (λ next. none_fails base (left + 1) old.device old.device now.fails_read now.fails_write now.store now.writes device (none next))
+      steps.result steps.step)

@@ -1,13 +1,13 @@
 -- An event of a replay is a turn of a run.
 use Rattle.std.specs.Prelude.{◌≡◌, ℕ, ◌+◌, true, List, [], ◌∷◌, ◌++◌, Some}
-use Rattle.std.proofs.Common.{refl, sym, ◌∙◌, subst}
+use Rattle.std.proofs.Common.{refl, sym, ◌∙◌, subst, inl, inr}
 use Rattle.a2_device.specs.Device.{DeviceState, IsSameDevice}
 use Rattle.vol_format.specs.Directory.{Directory}
 use Rattle.vol_format.specs.Laws.{IsMovable, IsReadable}
 use Rattle.vol_format.specs.Meaning.{Meaning}
 use Rattle.vol_mover.specs.Present.{Present}
 use Rattle.file_formats.specs.Files.{FileMeaning}
-use Rattle.event_replay.specs.Holds.{Holds, ASession, ADevice, ChangesHolds, OpensHolds, TurnsHolds, device_of, held}
+use Rattle.event_replay.specs.Holds.{Holds, ASession, ADevice, ChangesHolds, OpensHolds, OpensToOrder, ReadsFileToOrder, StepsToOrder, TurnsHolds, device_of, held}
 use Rattle.event_replay.specs.declared.turning.Held.{Held}
 use Rattle.event_replay.specs.declared.turning.Held.TheVariants.{Session as HeldSession, Device as HeldDevice}
 use Rattle.event_replay.specs.Moments.{IsNotOpen, Moment}
@@ -16,7 +16,7 @@ use Rattle.event_replay.specs.Runs.{IsRun, IsTurn, last_of, Reads, Steps, no_ses
 use Rattle.event_replay.specs.declared.event.Answer.{Answer}
 use Rattle.event_replay.specs.declared.event.Event.{Event}
 use Rattle.event_replay.specs.declared.event.Event.TheVariants.{Step, Read, FailRead, FailWrite, Stop}
-use Rattle.event_replay.proofs.Devices.{later}
+use Rattle.event_replay.proofs.Devices.{later, met_reads}
 use Rattle.event_replay.specs.Held.{IsDeviceAt, IsAt}
 use Rattle.event_replay.proofs.ReadTurns.{read_line, read_order, write_order}
 use Rattle.event_replay.proofs.StepTurns.{step_line}
@@ -53,13 +53,26 @@ module _ (A : Type 0) (format : Meaning) where
   changes_same change same (ASession old) (ADevice new) is = absurd is
   changes_same change same (ADevice old) (ASession new) is = absurd is
 
+  step_same : (answer : Answer A) (old new : Present) → StepsToOrder format old answer new → IsSameDevice old.device new.device
+  step_same answer old new (inl (next, meets)) = (met_reads old.device new.device meets.met).same
+  step_same answer old new (inr (none, steps)) = steps.step.device
+
+  read_same : (files : FileMeaning) (path : List ℕ) (answer : Answer A) (old new : DeviceState)
+      → ReadsFileToOrder format files path old answer new → IsSameDevice old new
+  read_same files path answer old new (inl (met, is)) = (met_reads old new met).same
+  read_same files path answer old new (inr (none, reads)) = reads.device.same
+
+  stop_same : (old : DeviceState) (answer : Answer A) (new : Holds) → OpensToOrder format old answer new → IsSameDevice old (device_of new)
+  stop_same old answer new (inl (met, alone, is)) = (met_reads old (device_of new) met).same
+  stop_same old answer new (inr (none, opens)) = opens_same old answer new opens
+
   pub turn_same : (files : FileMeaning) (event : Event) (answer : Answer A) (old new : Holds) → TurnsHolds format files event old answer new
       → IsSameDevice (device_of old) (device_of new)
-  turn_same files Step answer (ASession old) (ASession new) (result, step, is) = step.device
+  turn_same files Step answer (ASession old) (ASession new) steps = step_same answer old new steps
   turn_same files Step answer (ADevice old) (ADevice new) (same, is) = still_same old new same
   turn_same files Step answer (ASession old) (ADevice new) never = absurd never
   turn_same files Step answer (ADevice old) (ASession new) never = absurd never
-  turn_same files (Read path) answer (ASession old) (ASession new) (reads, only) = reads.device.same
+  turn_same files (Read path) answer (ASession old) (ASession new) (reads, only) = read_same files path.now answer old.device new.device reads
   turn_same files (Read path) answer (ADevice old) (ADevice new) (same, is) = still_same old new same
   turn_same files (Read path) answer (ASession old) (ADevice new) never = absurd never
   turn_same files (Read path) answer (ADevice old) (ASession new) never = absurd never
@@ -67,14 +80,13 @@ module _ (A : Type 0) (format : Meaning) where
       changes_same read_ordered (λ device. record { places = refl; unit_size = refl; image = refl; honest = refl; unreadable = refl }) old new changes
   turn_same files (FailWrite took) answer old new (is, changes) =
       changes_same (write_ordered took) (λ device. record { places = refl; unit_size = refl; image = refl; honest = refl; unreadable = refl }) old new changes
-  turn_same files Stop answer old new opens = opens_same (device_of old) answer new opens
+  turn_same files Stop answer old new opens = stop_same (device_of old) answer new opens
 
 module _ (A : Type 0) (format : Meaning) (laws : IsReadable format) (movable : IsMovable format) (files : FileMeaning) (base left : ℕ) where
   pub turn_line : (event : Event) (answer : Answer A) (old new : Holds) (now : Moment) → IsAt format base (left + 1) old now → MeetsOrders (device_of new)
       → TurnsHolds format files event old answer new → (next : Moment) × IsTurn format files now event answer next × IsAt format base left new next
-  turn_line Step answer (ASession old) (ASession new) now at meets (result, step, is) =
-      subst (λ a. (next : Moment) × Steps format now a next × IsAt format base left (ASession new) next) (sym is)
-      (step_line A format laws movable base left old new now at.0 at.1.0 meets at.1.1 result step)
+  turn_line Step answer (ASession old) (ASession new) now at meets steps =
+      step_line A format laws movable base left old new now at.0 at.1.0 meets answer at.1.1 steps
   turn_line Step answer (ADevice old) (ADevice new) now at meets (same, is) =
       subst (λ a. (next : Moment) × Steps format now a next × IsAt format base left (ADevice new) next) (sym is) (
         now,

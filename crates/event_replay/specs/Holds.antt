@@ -1,5 +1,5 @@
 -- What a replay holds between two events, and what the calls that it makes do to it, over every device.
-use Rattle.std.specs.Prelude.{◌≡◌, ◌≢◌, ℕ, List, false, Result, Ok, Err, IfOk, IsTrue}
+use Rattle.std.specs.Prelude.{◌≡◌, ◌≢◌, ◌<◌, ◌⊎◌, ℕ, List, length, false, Result, Ok, Err, IfOk, IsTrue}
 use Rattle.a2_device.specs.Device.{DeviceState, OnlyReads}
 use Rattle.vol_format.specs.Directory.{Directory}
 use Rattle.vol_format.specs.Meaning.{Meaning}
@@ -18,7 +18,7 @@ use Rattle.file_cmds.specs.Read.{IsTextAt, IsUnreadable, HasNoFile}
 use Rattle.file_cmds.specs.Refusal.{told_device}
 use Rattle.file_cmds.specs.declared.error.CmdError.{CmdError}
 use Rattle.file_cmds.specs.declared.error.CmdError.TheVariants.{Check, NotFound, Memory}
-use Rattle.event_replay.specs.Orders.{read_ordered, write_ordered}
+use Rattle.event_replay.specs.Orders.{HasMetRead, HasNoReadOrder, read_ordered, write_ordered}
 use Rattle.event_replay.specs.Runs.{Gives}
 use Rattle.event_replay.specs.Volumes.{reclaiming}
 use Rattle.event_replay.specs.declared.event.Answer.{Answer}
@@ -65,9 +65,32 @@ abbrev pub step_answer : {A : Type 0} → Result Progress StepError → Answer A
 step_answer (Ok progress) = Stepped
 step_answer (Err error) = Refused
 
+-- the next step of a session reads a unit
+abbrev pub ReadsNext : Present → Type 0
+ReadsNext session = (session.closed ≡ false) × (0 < length session.tasks)
+
+-- an order to fail a read was met over the device of a session, and the event is refused
+pub record MeetsOrder {A : Type 0} (old : Present) (answer : Answer A) (new : Present) : Type 0 where
+  pub met : HasMetRead old.device new.device
+  pub only : new ≡ record old { device = new.device }
+  pub answers : answer ≡ Refused
+
+-- a step of a session, and what is answered
+pub record StepsSession {A : Type 0} (format : Meaning) (old : Present) (answer : Answer A) (new : Present) :
+    Type 0 where
+  pub result : Result Progress StepError
+  pub step : IsStep format old new result
+  pub answers : answer ≡ step_answer result
+
+-- a step of a session, unless its read meets an order to fail
+abbrev pub StepsToOrder : {A : Type 0} → Meaning → Present → Answer A → Present → Type 0
+StepsToOrder format old answer new =
+    (ReadsNext old × MeetsOrder old answer new)
+    ⊎ ((ReadsNext old → HasNoReadOrder old.device) × StepsSession format old answer new)
+
 -- a step of a session, or none
 abbrev pub StepsHolds : {A : Type 0} → Meaning → Holds → Answer A → Holds → Type 0
-StepsHolds format (ASession old) answer (ASession new) = (result : Result Progress StepError) × IsStep format old new result × (answer ≡ step_answer result)
+StepsHolds format (ASession old) answer (ASession new) = StepsToOrder format old answer new
 StepsHolds format (ADevice old) answer (ADevice new) = (new ≡ old) × (answer ≡ Refused)
 StepsHolds format old answer new = ⊥
 
@@ -86,8 +109,15 @@ pub record ReadsDevice {A : Type 0} (format : Meaning) (files : FileMeaning) (pa
   pub not_found : IsTrue old.honest → result ≡ Err NotFound → HasNoFile format files old.store path
   pub answers : AnswersRead result answer
 
+-- a read of a file, unless its first read meets an order to fail
+abbrev pub ReadsFileToOrder : {A : Type 0} → Meaning → FileMeaning → List ℕ → DeviceState → Answer A → DeviceState
+    → Type 0
+ReadsFileToOrder format files path old answer new =
+    (HasMetRead old new × (answer ≡ Refused)) ⊎ (HasNoReadOrder old × ReadsDevice format files path old answer new)
+
 abbrev pub ReadsHolds : {A : Type 0} → Meaning → FileMeaning → List ℕ → Holds → Answer A → Holds → Type 0
-ReadsHolds format files path (ASession old) answer (ASession new) = ReadsDevice format files path old.device answer new.device × (new ≡ record old { device = new.device })
+ReadsHolds format files path (ASession old) answer (ASession new) =
+    ReadsFileToOrder format files path old.device answer new.device × (new ≡ record old { device = new.device })
 ReadsHolds format files path (ADevice old) answer (ADevice new) = (new ≡ old) × (answer ≡ Refused)
 ReadsHolds format files path old answer new = ⊥
 
@@ -110,10 +140,16 @@ abbrev pub OpensHolds : {A : Type 0} → Meaning → DeviceState → Answer A �
 OpensHolds format old answer (ASession new) = IsBegun format reclaiming old new × (answer ≡ Stepped)
 OpensHolds format old answer (ADevice new) = IsRefusedOpening format old answer new
 
+-- a session was opened on a device or refused, unless the opening meets an order to fail a read
+abbrev pub OpensToOrder : {A : Type 0} → Meaning → DeviceState → Answer A → Holds → Type 0
+OpensToOrder format old answer new =
+    (HasMetRead old (device_of new) × (new ≡ ADevice (device_of new)) × (answer ≡ Refused))
+    ⊎ (HasNoReadOrder old × OpensHolds format old answer new)
+
 -- an event
 abbrev pub TurnsHolds : {A : Type 0} → Meaning → FileMeaning → Event → Holds → Answer A → Holds → Type 0
 TurnsHolds format files Step old answer new = StepsHolds format old answer new
 TurnsHolds format files (Read path) old answer new = ReadsHolds format files path.now old answer new
 TurnsHolds format files FailRead old answer new = (answer ≡ Stepped) × ChangesHolds read_ordered old new
 TurnsHolds format files (FailWrite took) old answer new = (answer ≡ Stepped) × ChangesHolds (write_ordered took) old new
-TurnsHolds format files Stop old answer new = OpensHolds format (device_of old) answer new
+TurnsHolds format files Stop old answer new = OpensToOrder format (device_of old) answer new

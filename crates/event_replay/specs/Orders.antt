@@ -1,6 +1,6 @@
 -- Failures that were ordered, and that are met before another call of their kind comes through.
 use Rattle.std.specs.Prelude.{◌≡◌, ◌≢◌, ℕ, ◌+◌, ◌-◌, Bool, true, false, [], ◌∷◌, Option, Some, None, IsTrue}
-use Rattle.a2_device.specs.Device.{DeviceState, last_count}
+use Rattle.a2_device.specs.Device.{DeviceState, counted, last_count}
 
 -- A device that tells when a write was ordered to fail last: `at` is its count of writes then. After that one it passes
 -- on one write more than it can count.
@@ -13,6 +13,15 @@ read_ordered device = record device { read_failures = Some 1 }
 
 abbrev pub write_ordered : Bool → DeviceState → DeviceState
 write_ordered took device = record device { write_failures = Some (took ∷ []); passes = Some (last_count + 1) }
+
+-- no read is ordered to fail
+abbrev pub HasNoReadOrder : DeviceState → Type 0
+HasNoReadOrder device = device.read_failures ≡ Some 0
+
+-- a read was ordered to fail, and that order is met, which counts as a refusal
+pub record HasMetRead (old new : DeviceState) : Type 0 where
+  pub ordered : old.read_failures ≡ Some 1
+  pub is : new ≡ record old { faults = counted old.faults; read_failures = Some 0 }
 
 abbrev pub is_ordered : Option Bool → Bool
 is_ordered None = false

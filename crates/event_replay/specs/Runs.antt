@@ -16,15 +16,18 @@ use Rattle.event_replay.specs.declared.event.Answer.TheVariants.{Stepped, Bytes,
 use Rattle.event_replay.specs.declared.event.Event.{Event}
 use Rattle.event_replay.specs.declared.event.Event.TheVariants.{Step, Read, FailRead, FailWrite, Stop}
 
--- A step of an open session makes one unit write, where none was ordered to fail; or a read or a write met the failure that
--- was ordered, and a failed write closes the session; or nothing is left to write, each part stands at its target and no
--- place is lost. Without an open session a step is refused.
+-- A step of an open session with a write left meets an order to fail a read. Where there is none, it meets an order to
+-- fail a write, which closes the session; and where there is none of either, it makes one unit write. Or nothing is
+-- left to write, each part stands at its target and no place is lost. Without an open session a step is refused. A step
+-- that has nothing to write, or no open session to write it, leaves each order.
 pub data Steps {A : Type 0} (format : Meaning) (old : Moment) : Answer A → Moment → Type 0 where
-  wrote : (left : ℕ) (new : Moment) → old.session ≡ Open (left + 1) → old.fails_write ≡ None → Writes format old new
-      → Steps format old Stepped (record new { session = Open left })
+  wrote : (left : ℕ) (new : Moment) → old.session ≡ Open (left + 1) → old.fails_read ≡ false → old.fails_write ≡ None
+      → Writes format old new → Steps format old Stepped (record new { session = Open left })
   read_failed : (left : ℕ) → old.session ≡ Open (left + 1) → old.fails_read ≡ true → Steps format old Refused (record old { fails_read = false })
-  write_failed : (left : ℕ) → old.session ≡ Open (left + 1) → old.fails_write ≡ Some false → Steps format old Refused (record old { session = Closed; fails_write = None })
-  write_failed_and_stands : (left : ℕ) (new : Moment) → old.session ≡ Open (left + 1) → old.fails_write ≡ Some true → Writes format old new
+  write_failed : (left : ℕ) → old.session ≡ Open (left + 1) → old.fails_read ≡ false → old.fails_write ≡ Some false
+      → Steps format old Refused (record old { session = Closed; fails_write = None })
+  write_failed_and_stands : (left : ℕ) (new : Moment) → old.session ≡ Open (left + 1) → old.fails_read ≡ false
+      → old.fails_write ≡ Some true → Writes format old new
       → Steps format old Refused (record new { session = Closed; fails_write = None })
   nothing_left : old.session ≡ Open 0 → IsInOrder format old.store → Steps format old Stepped old
   not_open : IsNotOpen old.session → Steps format old Refused old
@@ -34,22 +37,26 @@ abbrev pub Gives : {A : Type 0} → Answer A → List ℕ → Type 0
 Gives (Bytes bytes) text = bytes.items ≡ text
 Gives answer text = ⊥
 
--- While there is a session, a read gives the body of the first file that the path names; or no file has the path; or it met the failure that was ordered; or there is no
--- memory. Without a session it is refused.
+-- While there is a session, a read meets an order to fail one. Where there is none, it gives the body of the first file
+-- that the path names, or no file has the path. Or there is no memory. Without a session it is refused, and the order
+-- stays.
 pub data Reads {A : Type 0} (format : Meaning) (files : FileMeaning) (path : List ℕ) (old : Moment) : Answer A → Moment → Type 0 where
-  gave : (answer : Answer A) (text : List ℕ) → HasSession old.session → Gives answer text → IsTextAt format files old.store path false text
-      → Reads format files path old answer old
-  no_file : HasSession old.session → HasNoFile format files old.store path → Reads format files path old Refused old
+  gave : (answer : Answer A) (text : List ℕ) → HasSession old.session → old.fails_read ≡ false → Gives answer text
+      → IsTextAt format files old.store path false text → Reads format files path old answer old
+  no_file : HasSession old.session → old.fails_read ≡ false → HasNoFile format files old.store path
+      → Reads format files path old Refused old
   failed : HasSession old.session → old.fails_read ≡ true → Reads format files path old Refused (record old { fails_read = false })
   no_memory : HasSession old.session → Reads format files path old NoMemory old
   no_session : old.session ≡ Absent → Reads format files path old Refused old
 
--- A session is opened anew on the same store; or a read met the failure that was ordered, or the volume can't be opened, and then there is none.
+-- A stop meets an order to fail a read, and then there is no session. Where there is no such order, a session is opened
+-- anew on the same store; or the volume can't be opened, and then there is none.
 pub data Stops {A : Type 0} (format : Meaning) (old : Moment) : Answer A → Moment → Type 0 where
-  opened : (lost : List ℕ) (writes : ℕ) → Opens format old.store lost writes
+  opened : (lost : List ℕ) (writes : ℕ) → old.fails_read ≡ false → Opens format old.store lost writes
       → Stops format old Stepped (record old { session = Open writes; opened = record { lost = lost; writes = old.writes; moves = old.moves } })
   failed : old.fails_read ≡ true → Stops format old Refused (record old { session = Absent; fails_read = false })
-  refused : (error : OpenError A) → CantOpen format old.store error → Stops format old Refused (record old { session = Absent })
+  refused : (error : OpenError A) → old.fails_read ≡ false → CantOpen format old.store error
+      → Stops format old Refused (record old { session = Absent })
 
 -- what an event does, and what is answered
 abbrev pub IsTurn : {A : Type 0} → Meaning → FileMeaning → Moment → Event → Answer A → Moment → Type 0

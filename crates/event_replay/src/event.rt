@@ -8,7 +8,7 @@ pub enum Event<'a> {
     Step,
     /// A read of the body of the file that this path names.
     Read(&'a [u8]),
-    /// The device's next read is to fail.
+    /// The next read of the device is to fail, and with it the next event that reads.
     FailRead,
     /// The device's next write is to fail; whether its unit stands then.
     FailWrite(bool),

@@ -8,13 +8,16 @@
 //! Inside, a replay holds a session over its device, or the device alone (`specs/Holds.antt`, over every device); that this is what a moment says is the invariant
 //! (`specs/Held.antt`). The device that was handed in stands in one that counts as standing what it counts as written
 //! (`specs/Unfailing.antt`), so that the count of writes that is handed back is known; and that one in a device that fails to
-//! order, whose state tells that no write has come through since one was ordered to fail (`specs/Orders.antt`).
+//! order, whose state tells that no write has come through since one was ordered to fail (`specs/Orders.antt`). A read
+//! that comes leaves the state of a device as it is: so each event that reads meets an order to fail a read before it
+//! reads.
 #![tactic(auto)]
 
 mod event;
 mod laws;
 mod ordered;
 mod replaying;
+mod stepping;
 mod turning;
 mod unfailing;
 

@@ -1,7 +1,8 @@
 // A device that fails to order alone, and meets each order to fail a write before another write comes through.
-ghost use Rattle.std.specs.Prelude.{◌≡◌, false};
+ghost use Rattle.std.specs.Prelude.{◌≡◌, false, IsFalse, IsTrue};
 ghost use Rattle.a2_device.specs.Orders.{with_orders};
-ghost use Rattle.event_replay.specs.Orders.{MeetsOrders, NoneTried, read_ordered, since, write_ordered};
+ghost use Rattle.event_replay.specs.Orders.{HasMetRead, HasNoReadOrder, MeetsOrders, NoneTried};
+ghost use Rattle.event_replay.specs.Orders.{read_ordered, since, write_ordered};
 ghost use Rattle.event_replay.specs.Unfailing.{HandsBack, unfailing};
 
 use crate::unfailing::Unfailing;
@@ -14,6 +15,12 @@ pub(crate) trait FailsToOrder: Device {
 
     fn order_write(&mut self, took: bool)
         ensures { Self.state self.new ≡ write_ordered took (Self.state self.old) };
+
+    // Meets an order to fail a read, as a read would; whether there was one.
+    fn meet_read_order(&mut self) -> bool
+        ensures met { IsTrue result → HasMetRead (Self.state self.old) (Self.state self.new) }
+        ensures none { IsFalse result → HasNoReadOrder (Self.state self.old) }
+        ensures same { IsFalse result → Self.state self.new ≡ Self.state self.old };
 
     ghost meets_orders: { (device : Self) → MeetsOrders (Self.state device) };
 }
@@ -96,5 +103,9 @@ impl<D: Device> FailsToOrder for Ordered<D> {
     fn order_write(&mut self, took: bool) {
         self.device.fail_write(took);
         self.ordered_at = self.device.writes();
+    }
+
+    fn meet_read_order(&mut self) -> bool {
+        self.device.meet_read_order()
     }
 }

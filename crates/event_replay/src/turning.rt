@@ -1,10 +1,13 @@
 // What a replay holds, and what each event does to it.
 ghost use Rattle.std.specs.Prelude.{◌≡◌, ◌≢◌, false, IfOk, IfErr, IsTrue, IsFalse, Err};
 ghost use Rattle.a2_device.specs.Device.{OnlyReads};
-ghost use Rattle.event_replay.specs.Holds.{AnswersRead, ChangesHolds, IsSound, OpensHolds, ReadsDevice, ReadsHolds, StepsHolds, TurnsHolds, device_of, held, holds};
+ghost use Rattle.event_replay.specs.Holds.{AnswersRead, ChangesHolds, IsSound, OpensHolds, OpensToOrder, ReadsDevice};
+ghost use Rattle.event_replay.specs.Holds.{ReadsFileToOrder, ReadsHolds, StepsHolds, TurnsHolds};
+ghost use Rattle.event_replay.specs.Holds.{device_of, held, holds};
 ghost use Rattle.event_replay.specs.Orders.{read_ordered, write_ordered};
 
 use crate::ordered::FailsToOrder;
+use crate::stepping::step;
 use crate::{Answer, Event};
 use a2_device::Device;
 use file_cmds::{CmdError, read};
@@ -55,6 +58,24 @@ fn read_body<D: Device, F: FileFormat, A: Allocator + Copy>(
         Ok(bytes) => Answer::Bytes(bytes),
         Err(error) => answer_of(error),
     }
+}
+
+// The same, unless an order to fail a read is met.
+fn read_to_order<D: FailsToOrder, F: FileFormat, A: Allocator + Copy>(
+    alloc: A,
+    device: &mut D,
+    format: &F,
+    path: &[u8],
+) -> Answer<A>
+    requires unit { (D.state device.old).unit_size ≡ (F.meaning format.now).unit_size }
+    requires places { (F.meaning format.now).Takes (D.state device.old).places }
+    ensures { ReadsFileToOrder (F.meaning format.now) (F.files format.now) path.now (D.state device.old) result
+        (D.state device.new) }
+{
+    if device.meet_read_order() {
+        return Answer::Refused;
+    }
+    read_body(alloc, device, format, path)
 }
 
 // Whether an opening was refused for want of memory.
@@ -109,7 +130,9 @@ impl<'a, D: Device, F: WritableFormat + FileFormat, A: Allocator + Copy> Replay<
             Held::Device(device) => device,
         }
     }
+}
 
+impl<'a, D: FailsToOrder, F: WritableFormat + FileFormat, A: Allocator + Copy> Replay<'a, D, F, A> {
     // Makes the next write of the session, if one is left.
     fn step(self) -> (Self, Answer<A>)
         requires { IsSound F.meaning D.state F.directory self }
@@ -123,13 +146,8 @@ impl<'a, D: Device, F: WritableFormat + FileFormat, A: Allocator + Copy> Replay<
             held,
         } = self;
         let (held, answer) = match held {
-            Held::Session(mut session) => {
-                let stepped = session.step().is_ok();
-                let answer = if stepped {
-                    Answer::Stepped
-                } else {
-                    Answer::Refused
-                };
+            Held::Session(session) => {
+                let (session, answer) = step(session);
                 (Held::Session(session), answer)
             }
             Held::Device(device) => (Held::Device(device), Answer::Refused),
@@ -157,7 +175,7 @@ impl<'a, D: Device, F: WritableFormat + FileFormat, A: Allocator + Copy> Replay<
         match held {
             Held::Session(session) => {
                 let (mut device, paused) = session.pause();
-                let answer = read_body(alloc, &mut device, format, path);
+                let answer = read_to_order(alloc, &mut device, format, path);
                 let held = Held::Session(paused.resume(device));
                 let replay = Replay {
                     alloc,
@@ -177,9 +195,32 @@ impl<'a, D: Device, F: WritableFormat + FileFormat, A: Allocator + Copy> Replay<
             }
         }
     }
-}
 
-impl<'a, D: FailsToOrder, F: WritableFormat + FileFormat, A: Allocator + Copy> Replay<'a, D, F, A> {
+    // Drops the session and opens another one, unless an order to fail the first read of that is met; the device, where
+    // there is no memory for a session.
+    fn stop(self) -> Result<(Self, Answer<A>), D>
+        requires { IsSound F.meaning D.state F.directory self }
+        ensures sound { IfOk result (λ made. IsSound F.meaning D.state F.directory made.0) }
+        ensures format { IfOk result (λ made. made.0.format.now ≡ self.entry.format.now) }
+        ensures opens { IfOk result (λ made. OpensToOrder (F.meaning self.entry.format.now)
+            (device_of (holds D.state F.directory self.entry)) made.1 (holds D.state F.directory made.0)) }
+        ensures device { IfErr result (λ left.
+            OnlyReads false (device_of (holds D.state F.directory self.entry)) (D.state left)) }
+    {
+        let (alloc, format) = (self.alloc, self.format);
+        let mut device = self.into_device();
+        if device.meet_read_order() {
+            let held = Held::Device(device);
+            let replay = Replay {
+                alloc,
+                format,
+                held,
+            };
+            return Ok((replay, Answer::Refused));
+        }
+        Replay::open(alloc, device, format)
+    }
+
     // Orders the device's next read to fail.
     fn fail_read(self) -> Self
         requires { IsSound F.meaning D.state F.directory self }
@@ -264,10 +305,7 @@ impl<'a, D: FailsToOrder, F: WritableFormat + FileFormat, A: Allocator + Copy> R
             Event::Read(path) => self.read(path),
             Event::FailRead => (self.fail_read(), Answer::Stepped),
             Event::FailWrite(took) => (self.fail_write(*took), Answer::Stepped),
-            Event::Stop => {
-                let (alloc, format) = (self.alloc, self.format);
-                return Replay::open(alloc, self.into_device(), format);
-            }
+            Event::Stop => return self.stop(),
         })
     }
 }

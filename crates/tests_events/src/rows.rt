@@ -79,6 +79,164 @@ fn a_failed_read_is_met_once(rt: HostRuntime) -> Result<(), Fail> {
     Ok(())
 }
 
+// The first write marks the map, the second copies, the third is of a pointer.
+#[test]
+fn a_failed_read_is_met_before_each_kind_of_write(rt: HostRuntime) -> Result<(), Fail> {
+    let events = [
+        Event::FailRead,
+        Event::Step,
+        Event::Step,
+        Event::FailRead,
+        Event::Step,
+        Event::Step,
+        Event::FailRead,
+        Event::Step,
+        Event::Step,
+    ];
+    let told = [
+        Told::Stepped,
+        Told::Refused,
+        Told::Stepped,
+        Told::Stepped,
+        Told::Refused,
+        Told::Stepped,
+        Told::Stepped,
+        Told::Refused,
+        Told::Stepped,
+    ];
+    let end = on_hello(rt.alloc(), &events, &told)?;
+    assert!(rt; end.as_told && end.writes == 3 && end.moves_left == Some(2));
+    Ok(())
+}
+
+#[test]
+fn two_orders_to_fail_a_read_are_one(rt: HostRuntime) -> Result<(), Fail> {
+    let events = [
+        Event::FailRead,
+        Event::FailRead,
+        Event::Step,
+        Event::Step,
+        Event::Step,
+    ];
+    let told = [
+        Told::Stepped,
+        Told::Stepped,
+        Told::Refused,
+        Told::Stepped,
+        Told::Stepped,
+    ];
+    let end = on_hello(rt.alloc(), &events, &told)?;
+    assert!(rt; end.as_told && end.writes == 2 && end.moves_left == Some(3));
+    Ok(())
+}
+
+#[test]
+fn a_failed_read_is_met_before_a_failed_write(rt: HostRuntime) -> Result<(), Fail> {
+    let events = [
+        Event::FailRead,
+        Event::FailWrite(true),
+        Event::Step,
+        Event::Step,
+        Event::Read(b"HELLO"),
+    ];
+    let told = [
+        Told::Stepped,
+        Told::Stepped,
+        Told::Refused,
+        Told::Refused,
+        Told::Bytes(&BODY),
+    ];
+    let end = on_hello(rt.alloc(), &events, &told)?;
+    assert!(rt; end.as_told && end.writes == 1 && end.moves_left == Some(3));
+    Ok(())
+}
+
+// A step of a closed session reads nothing.
+#[test]
+fn a_closed_session_leaves_a_read_ordered(rt: HostRuntime) -> Result<(), Fail> {
+    let events = [
+        Event::FailWrite(false),
+        Event::Step,
+        Event::FailRead,
+        Event::Step,
+        Event::Read(b"HELLO"),
+        Event::Read(b"HELLO"),
+    ];
+    let told = [
+        Told::Stepped,
+        Told::Refused,
+        Told::Stepped,
+        Told::Refused,
+        Told::Refused,
+        Told::Bytes(&BODY),
+    ];
+    let end = on_hello(rt.alloc(), &events, &told)?;
+    assert!(rt; end.as_told && end.writes == 0 && end.moves_left == Some(3));
+    Ok(())
+}
+
+#[test]
+fn no_session_leaves_a_read_ordered(rt: HostRuntime) -> Result<(), Fail> {
+    let events = [
+        Event::FailRead,
+        Event::Stop,
+        Event::FailRead,
+        Event::Step,
+        Event::Read(b"HELLO"),
+        Event::Stop,
+        Event::Stop,
+        Event::Step,
+    ];
+    let told = [
+        Told::Stepped,
+        Told::Refused,
+        Told::Stepped,
+        Told::Refused,
+        Told::Refused,
+        Told::Refused,
+        Told::Stepped,
+        Told::Stepped,
+    ];
+    let end = on_hello(rt.alloc(), &events, &told)?;
+    assert!(rt; end.as_told && end.writes == 1 && end.moves_left == Some(3));
+    Ok(())
+}
+
+#[test]
+fn nothing_left_to_write_leaves_a_read_ordered(rt: HostRuntime) -> Result<(), Fail> {
+    let events = [
+        Event::Step,
+        Event::Step,
+        Event::Step,
+        Event::Step,
+        Event::Step,
+        Event::Step,
+        Event::Step,
+        Event::Step,
+        Event::FailRead,
+        Event::Step,
+        Event::Read(b"HELLO"),
+        Event::Read(b"HELLO"),
+    ];
+    let told = [
+        Told::Stepped,
+        Told::Stepped,
+        Told::Stepped,
+        Told::Stepped,
+        Told::Stepped,
+        Told::Stepped,
+        Told::Stepped,
+        Told::Stepped,
+        Told::Stepped,
+        Told::Stepped,
+        Told::Refused,
+        Told::Bytes(&BODY),
+    ];
+    let end = on_hello(rt.alloc(), &events, &told)?;
+    assert!(rt; end.as_told && end.writes == 8 && end.moves_left == Some(0));
+    Ok(())
+}
+
 // The writes that are made of so many steps, a stop and nine steps, and whether all of it is done, with no move left.
 fn stopped_after(alloc: Global, steps: usize) -> Result<(u64, bool), Fail> {
     let mut events = [Event::Step; 18];
