@@ -1,3 +1,4 @@
 pub mod Units
 pub mod DosPlaces
 pub mod ImageDevice
+pub mod LentDevice

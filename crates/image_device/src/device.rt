@@ -1,20 +1,17 @@
 // The sectors or the blocks of an image as a device.
-ghost use Rattle.std.specs.Prelude.{◌≡◌, ◌<◌, ◌≤◌, Contains, length, Some, OnOk, OnErr};
+ghost use Rattle.std.specs.Prelude.{◌≡◌, ◌≤◌, length, Some};
 ghost use Rattle.a2_image.specs.Image.{IsOfDisk};
 ghost use Rattle.a2_image.specs.Blocks.{blocks};
-ghost use Rattle.a2_device.specs.Device.{counted as counted_once, unit_at};
+ghost use Rattle.a2_device.specs.Device.{counted as counted_once};
 ghost use Rattle.image_device.specs.DosPlaces.{sectors_by_place};
-ghost use Rattle.image_device.specs.ImageDevice.{AreUnitsOf, HasUnits, IsWritten, image_state, place_count, unit_bytes, units_of, whole_image};
-ghost use Rattle.image_device.specs.Units.{AreUnits, stored_units, unreadable_places};
+ghost use Rattle.image_device.specs.ImageDevice.{AreUnitsOf, HasUnits, image_state, place_count, unit_bytes, units_of, whole_image};
+ghost use Rattle.image_device.specs.Units.{AreUnits};
 
-use crate::units::{UnitKind, read_block, read_sector, write_block, write_sector};
+use crate::kinds::{bytes_of, places_of, read_unit, write_unit};
+use crate::units::UnitKind;
 use a2_device::{Device, DeviceError};
-use a2_image::{Image, ImageError, SECTOR_BYTES};
-use sector_order::BLOCK_BYTES;
+use a2_image::Image;
 use std::alloc::{Allocator, Global};
-
-/// The places of a DOS volume: 35 tracks of 16 sectors.
-const DOS_PLACES: u32 = 560;
 
 /// The sectors of an image by DOS place, or its blocks.
 #[derive(Drop)]
@@ -78,20 +75,6 @@ impl<A: Allocator> ImageDevice<A> {
         image
     }
 
-    // Copies the unit at a place into `unit`; a refusal is that of a place that can't be read.
-    fn read_unit(&self, place: u32, unit: &mut [u8]) -> Result<(), ImageError>
-        requires place { place < place_count self.now.kind self.now.image }
-        requires unit { length unit.old ≡ unit_bytes self.now.kind }
-        ensures value { OnOk result (unit.new ≡ unit_at (stored_units (unit_bytes self.now.kind) (units_of self.now.kind self.now.image)) place) }
-        ensures readable { OnOk result (Contains (unreadable_places (units_of self.now.kind self.now.image)) place → ⊥) }
-        ensures unreadable { OnErr result (Contains (unreadable_places (units_of self.now.kind self.now.image)) place) }
-    {
-        match self.kind {
-            UnitKind::Sector => read_sector(&self.image, place, unit),
-            UnitKind::Block => read_block(&self.image, place, unit),
-        }
-    }
-
     // One more refusal.
     fn fault(&mut self) -> DeviceError
         ensures fault { result ≡ DeviceError.Fault }
@@ -103,45 +86,17 @@ impl<A: Allocator> ImageDevice<A> {
     }
 }
 
-// Writes the unit at a place of an image; a refusal is that of a place that can't be read, and leaves the image.
-fn write_unit<A: Allocator>(
-    image: &mut Image<A>,
-    kind: UnitKind,
-    place: u32,
-    unit: &[u8],
-) -> Result<(), ImageError>
-    requires has { HasUnits kind image.old }
-    requires units { AreUnits (unit_bytes kind) (place_count kind image.old) (units_of kind image.old) }
-    requires place { place < place_count kind image.old }
-    requires unit { length unit.now ≡ unit_bytes kind }
-    ensures written { OnOk result (IsWritten kind place unit.now image.old image.new) }
-    ensures readable { OnOk result (Contains (unreadable_places (units_of kind image.old)) place → ⊥) }
-    ensures unreadable { OnErr result (Contains (unreadable_places (units_of kind image.old)) place) }
-    ensures unchanged { OnErr result (image.new ≡ image.old) }
-{
-    match kind {
-        UnitKind::Sector => write_sector(image, place, unit),
-        UnitKind::Block => write_block(image, place, unit),
-    }
-}
-
 impl<A: Allocator> Device for ImageDevice<A> {
     ghost state = { λ d. image_state d.kind d.image d.writes d.standing d.faults };
 
     ghost whole = { λ d _. whole_image d.kind d.image d.writes d.standing d.faults d.units };
 
     fn places(&self) -> u32 {
-        match self.kind {
-            UnitKind::Sector => DOS_PLACES,
-            UnitKind::Block => self.image.blocks(),
-        }
+        places_of(&self.image, self.kind)
     }
 
     fn unit(&self) -> usize {
-        match self.kind {
-            UnitKind::Sector => SECTOR_BYTES,
-            UnitKind::Block => BLOCK_BYTES,
-        }
+        bytes_of(self.kind)
     }
 
     fn writes(&self) -> u64 {
@@ -153,7 +108,7 @@ impl<A: Allocator> Device for ImageDevice<A> {
     }
 
     fn read(&mut self, place: u32, unit: &mut [u8]) -> Result<(), DeviceError> {
-        match self.read_unit(place, unit) {
+        match read_unit(&self.image, self.kind, place, unit) {
             Ok(()) => Ok(()),
             Err(_) => Err(self.fault()),
         }

@@ -8,7 +8,10 @@
 #![tactic(auto)]
 
 mod device;
+mod kinds;
+mod lent;
 mod units;
 
 pub use device::ImageDevice;
+pub use lent::LentDevice;
 pub use units::UnitKind;

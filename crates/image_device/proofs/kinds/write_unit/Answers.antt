@@ -5,7 +5,7 @@ use Rattle.image_device.specs.ImageDevice.{units_of}
 use Rattle.image_device.specs.Units.{unit_in}
 use Rattle.image_device.proofs.Images.{is_written, is_readable, is_unreadable}
 use Rattle.a2_device.proofs.Results.{on_ok_both}
-use Rattle.image_device.proofs.device.write_unit.Goals as goal
+use Rattle.image_device.proofs.kinds.write_unit.Goals as goal
 
 pub returns-in-Sector-clause-written : goal.returns-in-Sector-clause-written
 returns-in-Sector-clause-written g c =
