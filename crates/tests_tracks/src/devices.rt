@@ -1,6 +1,6 @@
 use a2_device::{Device, DeviceError, FaultDevice, StopDevice};
 use a2_image::{Image, SECTOR_BYTES};
-use image_device::ImageDevice;
+use image_device::{ImageDevice, LentDevice};
 use sector_order::{BLOCK_BYTES, DISK_BLOCKS, IMAGE_BYTES, NIBBLE_BYTES, Order};
 use std::test::Fail;
 
@@ -78,6 +78,14 @@ fn opened(bytes: Vec<u8>, order: Order) -> Result<Image, Fail> {
 fn dos_device(image: Image) -> Result<ImageDevice, Fail> {
     if image.blocks() == DISK_BLOCKS {
         return Ok(ImageDevice::dos(image));
+    }
+    Err("another size".into())
+}
+
+/// The sectors of a disk that is lent.
+fn lent_disk(image: &Image) -> Result<LentDevice<'_>, Fail> {
+    if image.blocks() == DISK_BLOCKS {
+        return Ok(LentDevice::dos(image));
     }
     Err("another size".into())
 }
@@ -225,6 +233,35 @@ fn writes_a_sector_in_each_order(rt: HostRuntime) -> Result<(), Fail> {
         assert!(rt; image.order() == order);
         assert!(rt; has_sector(&image, 1, 13, 0xFF));
     }
+    Ok(())
+}
+
+#[test]
+fn reads_a_lent_image_in_each_order(rt: HostRuntime) -> Result<(), Fail> {
+    for order in ORDERS {
+        let image = numbered(&rt, order)?;
+        let mut sectors = lent_disk(&image)?;
+        assert!(rt; size(&sectors) == (560, 256));
+        assert!(rt; wrong_sector(&mut sectors, &[]).is_none());
+        let mut blocks = LentDevice::prodos(&image);
+        assert!(rt; size(&blocks) == (280, 512));
+        assert!(rt; wrong_block(&mut blocks).is_none());
+    }
+    Ok(())
+}
+
+#[test]
+fn a_lent_image_takes_no_write(rt: HostRuntime) -> Result<(), Fail> {
+    let image = opened(damaged(&rt)?, Order::Nibble)?;
+    let mut device = lent_disk(&image)?;
+    let calls = [
+        Call::FailsToWrite(5, 0xFF),
+        Call::Reads(5, 5),
+        Call::FailsToRead(286),
+    ];
+    assert!(rt; wrong_call(&mut device, &calls).is_none());
+    assert!(rt; counts(&device) == (1, 2));
+    assert!(rt; is_damaged(&rt, image)?);
     Ok(())
 }
 
