@@ -4,3 +4,4 @@ pub mod Ways
 pub mod Fronts
 pub mod NotMade
 pub mod Told
+pub mod Lent

@@ -83,21 +83,22 @@ fn choice_of(readings: &[Reading], verdict: Verdict) -> Choice
     }
 }
 
-/// The best way to read an image in the file system and the order that are given; `None` leaves one open.
+/// The best way to read an image in the file system and the order that are given; `None` leaves one open. The image is read
+/// without a copy of its bytes, which are then as they were.
 ///
 /// # Errors
 /// Want of memory.
 pub fn best_reading(
     alloc: Global,
-    image: &[u8],
+    image: &mut Vec<u8>,
     file_system: Option<FileSystem>,
     order: Option<Order>,
 ) -> Result<Choice, AllocError>
-    ensures { IfOk result (IsChoice file_system order image.now) }
+    ensures same { image.new.items ≡ image.old.items }
+    ensures choice { IfOk result (IsChoice file_system order image.old.items) }
 {
     let ways = ways_given(alloc, file_system, order)?;
-    let copy = Vec::from_slice(alloc, image)?;
-    let readings = readings_of(alloc, copy, ways.as_slice())?;
+    let readings = readings_of(alloc, image, ways.as_slice())?;
     let verdict = rank(readings.as_slice());
     Ok(choice_of(readings.as_slice(), verdict))
 }

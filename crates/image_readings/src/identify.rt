@@ -1,16 +1,19 @@
 // The job that tells how an image can be read.
 ghost use Rattle.std.specs.Prelude.{◌≡◌, OnOk, IfOk, filter, length, true};
 ghost use Rattle.image_readings.specs.Adding.{Adds};
-ghost use Rattle.image_readings.specs.IdentifyReply.{AreReadingsIn, IsIdentifyReply, TellsRanked, allows};
+ghost use Rattle.image_readings.specs.IdentifyReply.{AreReadingsIn, IsIdentifyReply, TellsRanked, allows, way_of};
+ghost use Rattle.image_readings.specs.Readings.{IsReadingOf};
 
 use crate::identify_text::identify_text;
 use crate::ranking::{Verdict, rank};
 use crate::reading::Reading;
 use crate::volume::reading_of;
+use a2_image::{Image, ImageError};
 use job_reply::{Failure, Refusal, Reply};
 use sector_order::{BLOCK_BYTES, IMAGE_BYTES, NIBBLE_BYTES, Order};
 use shop_jobs::FileSystem;
 use std::alloc::{AllocError, Global};
+use std::mem;
 
 /// The fewest and the most blocks of an image in ProDOS order.
 const FEWEST_BLOCKS: usize = 16;
@@ -56,43 +59,68 @@ fn allowed_ways(
         .collect(alloc)
 }
 
+// Reads an image in one way. Its bytes are the image's for as long as it is read, and come back.
+fn reading_in(
+    alloc: Global,
+    image: &mut Vec<u8>,
+    way: (FileSystem, Order),
+) -> Result<Reading, AllocError>
+    requires { allows (length image.old.items) way ≡ true }
+    ensures same { image.new.items ≡ image.old.items }
+    ensures reading { IfOk result (λ reading. way_of reading ≡ way) }
+    ensures found { IfOk result (IsReadingOf image.old.items) }
+{
+    let bytes = mem::replace(image, Vec::new(alloc));
+    match Image::open(bytes, way.1) {
+        Ok(opened) => {
+            let reading = reading_of(alloc, &opened, way.0);
+            *image = opened.into_bytes();
+            reading
+        }
+        Err((error, bytes)) => {
+            *image = bytes;
+            match error {
+                ImageError::Memory => Err(AllocError),
+                _ => unreachable!(),
+            }
+        }
+    }
+}
+
 // Reads an image in one more way.
 fn add_reading(
     alloc: Global,
-    image: Vec<u8>,
+    image: &mut Vec<u8>,
     way: (FileSystem, Order),
     readings: &mut Vec<Reading>,
 ) -> Result<(), AllocError>
-    requires { allows (length image.items) way ≡ true }
-    ensures { OnOk result (Adds image.items way readings.old.items readings.new.items) }
+    requires { allows (length image.old.items) way ≡ true }
+    ensures same { image.new.items ≡ image.old.items }
+    ensures added { OnOk result (Adds image.old.items way readings.old.items readings.new.items) }
 {
-    let reading = reading_of(alloc, image, way.0, way.1)?;
+    let reading = reading_in(alloc, image, way)?;
     readings.push(reading)?;
     Ok(())
 }
 
-/// The readings of an image, one in each of these ways that its length allows. The last of them takes the image itself: a long
-/// image, which can be read in one way alone, is not copied.
+/// The readings of an image, one in each of these ways that its length allows. The image is read without a copy of its bytes, which
+/// are then as they were.
 ///
 /// # Errors
 /// Want of memory.
 pub fn readings_of(
     alloc: Global,
-    image: Vec<u8>,
+    image: &mut Vec<u8>,
     ways: &[(FileSystem, Order)],
 ) -> Result<Vec<Reading>, AllocError>
-    ensures { IfOk result (λ readings. AreReadingsIn ways.now image.items readings.items) }
+    ensures same { image.new.items ≡ image.old.items }
+    ensures readings { IfOk result (λ readings. AreReadingsIn ways.now image.old.items readings.items) }
 {
-    let mut others = allowed_ways(alloc, image.len(), ways)?;
+    let allowed = allowed_ways(alloc, image.len(), ways)?;
     let mut readings = Vec::new(alloc);
-    let Some(last) = others.pop() else {
-        return Ok(readings);
-    };
-    for &way in others.as_slice() {
-        let copy = Vec::from_slice(alloc, image.as_slice())?;
-        add_reading(alloc, copy, way, &mut readings)?;
+    for &way in allowed.as_slice() {
+        add_reading(alloc, image, way, &mut readings)?;
     }
-    add_reading(alloc, image, last, &mut readings)?;
     Ok(readings)
 }
 
@@ -111,10 +139,10 @@ fn ranked_reply(alloc: Global, readings: &[Reading]) -> Reply
 /// The readings of an image in each way that its length allows, and which of them is best.
 ///
 /// `Done` where one is, else `Faulty`; `Refused` with `Length` where the length allows none; `Failed` for want of memory.
-pub fn identify_reply(alloc: Global, image: Vec<u8>) -> Reply
+pub fn identify_reply(alloc: Global, mut image: Vec<u8>) -> Reply
     ensures { IsIdentifyReply image.items result }
 {
-    match readings_of(alloc, image, &WAYS) {
+    match readings_of(alloc, &mut image, &WAYS) {
         Ok(readings) if readings.is_empty() => Reply::refused(Refusal::Length),
         Ok(readings) => ranked_reply(alloc, readings.as_slice()),
         Err(_) => Reply::failed(Failure::Memory),

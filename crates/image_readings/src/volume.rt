@@ -3,23 +3,21 @@ ghost use Rattle.std.specs.Prelude.{◌≡◌, ◌≤◌, IsTrue, OnOk, IfOk, If
 ghost use Rattle.a2_device.specs.Device.{unit_at};
 ghost use Rattle.a2_image.specs.Image.{IsOfDisk};
 ghost use Rattle.shop_jobs.specs.declared.job.FileSystem.TheVariants.{Dos as OfDos, Prodos as OfProdos};
-ghost use Rattle.image_volume.specs.Volume.{IsImageOf, TakesBytes, device_of};
+ghost use Rattle.image_volume.specs.Volume.{HasUnitsOf, TakesBytes, device_of};
 ghost use Rattle.image_readings.specs.Found.{Stops};
 ghost use Rattle.image_readings.specs.Readings.{HasEntries, HasUnits, IsFound, IsReadingOf, IsToldOf, Stands, plain_meaning};
 
 use crate::reading::{Finding, Found, Reading, Standing};
 use crate::stop::finding_at;
 use a2_device::Device;
-use a2_image::{Image, ImageError};
+use a2_image::Image;
 use dos_catalog::Catalog;
 use dos_format::Dos33;
 use dos_vtoc::{VTOC_PLACE, Vtoc};
-use image_device::ImageDevice;
-use image_volume::open_volume;
+use image_device::LentDevice;
 use pro_dir::VolumeDir;
 use pro_format::Prodos;
 use reserved_places::Reserved;
-use sector_order::Order;
 use shop_jobs::FileSystem;
 use std::alloc::{AllocError, Global};
 use vol_check::{CheckError, check};
@@ -110,16 +108,17 @@ fn standing_of<D: Device, F: Format>(
 }
 
 // What is found on a disk that is read as DOS 3.3.
-fn dos_found(alloc: Global, disk: Image) -> Result<Found, WalkError>
-    requires { IsOfDisk disk }
-    ensures found { IfOk result (IsFound OfDos (device_of OfDos disk)) }
-    ensures refused { IfErr result (Stops (plain_meaning OfDos) (device_of OfDos disk)) }
+fn dos_found<D: Device>(alloc: Global, device: &mut D) -> Result<Found, WalkError>
+    requires units { HasUnitsOf OfDos (D.state device.old) }
+    requires honest { IsTrue (D.state device.old).honest }
+    requires never { (D.state device.old).read_failures ≡ Some 0 }
+    ensures found { IfOk result (IsFound OfDos (D.state device.old)) }
+    ensures refused { IfErr result (Stops (plain_meaning OfDos) (D.state device.old)) }
 {
     let format = Dos33::new(alloc, false, Reserved::none(alloc))?;
-    let mut device = ImageDevice::dos(disk);
-    let units = count_sectors(alloc, &mut device)?;
-    let entries = count_entries(&mut device, &format)?;
-    let standing = standing_of(alloc, &mut device, &format)?;
+    let units = count_sectors(alloc, device)?;
+    let entries = count_entries(device, &format)?;
+    let standing = standing_of(alloc, device, &format)?;
     Ok(Found {
         entries,
         units,
@@ -128,17 +127,17 @@ fn dos_found(alloc: Global, disk: Image) -> Result<Found, WalkError>
 }
 
 // What is found in an image that is read as ProDOS.
-fn prodos_found(alloc: Global, image: Image) -> Result<Found, WalkError>
-    ensures found { IfOk result (IsFound OfProdos (device_of OfProdos image)) }
-    ensures refused { IfErr result (Stops (plain_meaning OfProdos) (device_of OfProdos image)) }
+fn prodos_found<D: Device>(alloc: Global, device: &mut D) -> Result<Found, WalkError>
+    requires units { HasUnitsOf OfProdos (D.state device.old) }
+    requires honest { IsTrue (D.state device.old).honest }
+    requires never { (D.state device.old).read_failures ≡ Some 0 }
+    ensures found { IfOk result (IsFound OfProdos (D.state device.old)) }
+    ensures refused { IfErr result (Stops (plain_meaning OfProdos) (D.state device.old)) }
 {
     let format = Prodos::new(alloc, Reserved::none(alloc));
-    // An image has 16 to 65,535 blocks.
-    let _blocks = image.blocks();
-    let mut device = ImageDevice::prodos(image);
-    let units = count_blocks(alloc, &mut device)?;
-    let entries = count_entries(&mut device, &format)?;
-    let standing = standing_of(alloc, &mut device, &format)?;
+    let units = count_blocks(alloc, device)?;
+    let entries = count_entries(device, &format)?;
+    let standing = standing_of(alloc, device, &format)?;
     Ok(Found {
         entries,
         units,
@@ -147,56 +146,46 @@ fn prodos_found(alloc: Global, image: Image) -> Result<Found, WalkError>
 }
 
 // What is told of a disk that is read as DOS 3.3.
-fn dos_finding(alloc: Global, disk: Image) -> Result<Finding, AllocError>
-    requires { IsOfDisk disk }
-    ensures { IfOk result (IsToldOf OfDos (device_of OfDos disk)) }
+fn dos_finding(alloc: Global, disk: &Image) -> Result<Finding, AllocError>
+    requires { IsOfDisk disk.now }
+    ensures { IfOk result (IsToldOf OfDos (device_of OfDos disk.now)) }
 {
-    match dos_found(alloc, disk) {
+    let mut device = LentDevice::dos(disk);
+    match dos_found(alloc, &mut device) {
         Ok(found) => Ok(Finding::Volume(found)),
         Err(stop) => finding_at(FileSystem::Dos, stop),
     }
 }
 
 // What is told of an image that is read as ProDOS.
-fn prodos_finding(alloc: Global, image: Image) -> Result<Finding, AllocError>
-    ensures { IfOk result (IsToldOf OfProdos (device_of OfProdos image)) }
+fn prodos_finding(alloc: Global, image: &Image) -> Result<Finding, AllocError>
+    ensures { IfOk result (IsToldOf OfProdos (device_of OfProdos image.now)) }
 {
-    match prodos_found(alloc, image) {
+    // An image has 16 to 65,535 blocks.
+    let _blocks = image.blocks();
+    let mut device = LentDevice::prodos(image);
+    match prodos_found(alloc, &mut device) {
         Ok(found) => Ok(Finding::Volume(found)),
         Err(stop) => finding_at(FileSystem::Prodos, stop),
     }
 }
 
-// Takes the bytes of an image that has a volume of a file system.
-fn image_of(bytes: Vec<u8>, order: Order, file_system: FileSystem) -> Result<Image, AllocError>
-    requires { TakesBytes file_system order (length bytes.items) }
-    ensures image { IfOk result (IsImageOf order bytes.items) }
-    ensures disk { IfOk result (λ image. file_system ≡ OfDos → IsOfDisk image) }
-{
-    match open_volume(bytes, order, file_system) {
-        Ok(image) => Ok(image),
-        Err(ImageError::Memory) => Err(AllocError),
-        Err(_) => unreachable!(),
-    }
-}
-
-/// What is found in an image of a length that allows it to be read in this way: by the default rules, where no place is
-/// reserved and tracks 1 and 2 of a DOS 3.3 disk are the system's.
+/// What is found in an image of a length that allows it to be read as this file system: by the default rules, where no place is
+/// reserved and tracks 1 and 2 of a DOS 3.3 disk are the system's. The image is only read.
 ///
 /// # Errors
 /// Want of memory alone.
 pub fn reading_of(
     alloc: Global,
-    image: Vec<u8>,
+    image: &Image,
     file_system: FileSystem,
-    order: Order,
 ) -> Result<Reading, AllocError>
-    requires { TakesBytes file_system order (length image.items) }
+    requires { TakesBytes file_system image.now.order (length image.now.bytes) }
     ensures file_system { IfOk result (λ reading. reading.file_system ≡ file_system) }
-    ensures order { IfOk result (λ reading. reading.order ≡ order) }
-    ensures found { IfOk result (IsReadingOf image.items) }
+    ensures order { IfOk result (λ reading. reading.order ≡ image.now.order) }
+    ensures found { IfOk result (IsReadingOf image.now.bytes) }
 {
-    let image = image_of(image, order, file_system)?;
+    let order = image.order();
     let finding = match file_system {
         FileSystem::Dos => dos_finding(alloc, image)?,
         FileSystem::Prodos => prodos_finding(alloc, image)?,
