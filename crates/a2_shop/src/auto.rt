@@ -38,7 +38,7 @@ pub fn settled_job(
     alloc: Global,
     words: &[String],
     standing: &Job,
-    image: &[u8],
+    image: &mut Vec<u8>,
 ) -> Result<Job, Stop> {
     let file_system = if asks_auto(words, AutoOption::FileSystem) {
         None

@@ -40,7 +40,7 @@ fn copy_of(rt: &HostRuntime, path: Option<&str>) -> Option<String> {
 }
 
 // Warns where another way to read the image is better than that of a job that changes a volume.
-fn warn(rt: &HostRuntime, job: &Job, image: &[u8]) {
+fn warn(rt: &HostRuntime, job: &Job, image: &mut Vec<u8>) {
     let Some(volume) = volume_of(job) else {
         return;
     };
@@ -79,11 +79,11 @@ fn run_noted<T: Write>(
     let Read {
         files,
         image,
-        bytes,
+        mut bytes,
     } = read;
     found.order = image_order(job);
     if found.is_wanted && is_change(job) {
-        warn(rt, job, bytes.as_slice());
+        warn(rt, job, &mut bytes);
     }
     let ending = if is_in_place(job) {
         run_in_its_file(rt, job, &files, &image, text)
@@ -100,14 +100,14 @@ fn run_settled<T: Write>(
     rt: &HostRuntime,
     words: &[String],
     standing: &Job,
-    read: Read,
+    mut read: Read,
     found: &mut Found,
     text: &mut T,
 ) -> Result<u8, Stop> {
     if !is_asked(words) {
         return Ok(run_noted(rt, standing, read, found, text));
     }
-    let job = settled_job(rt.alloc(), words, standing, read.bytes.as_slice())?;
+    let job = settled_job(rt.alloc(), words, standing, &mut read.bytes)?;
     Ok(run_noted(rt, &job, read, found, text))
 }
 
