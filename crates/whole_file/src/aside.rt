@@ -1,5 +1,9 @@
 // The file aside.
+ghost use Rattle.std.specs.Prelude.{◌≡◌, ◌≢◌, ◌↔◌, IfErr, IfSome, IsErrAnd, IsOk, IsSome, IsTrue, None, OnOk, Some};
 ghost use Rattle.std.specs.Io.{WritesAtMost};
+ghost use Rattle.std.specs.Io.KnownBytes.{WriteAppends};
+ghost use Rattle.whole_file.specs.Known.{known_of};
+ghost use Rattle.std.specs.IoError.{error_kind};
 
 use crate::target::{Standing, Target};
 use std::alloc::Allocator;
@@ -83,7 +87,10 @@ fn keep_standing<R: Files>(
 impl<'a, R: Files, A: Allocator + Copy> AsideFile<'a, R, A> {
     /// A file that is to take a target's place, with the access mode of the one that stands there, without set-id bits, and with its
     /// owner and group where the caller may give them. Nothing is made yet; of a target that is no place, each write will fail.
-    pub fn new(rt: &'a R, alloc: A, target: &'a Target<A>) -> AsideFile<'a, R, A> {
+    pub fn new(rt: &'a R, alloc: A, target: &'a Target<A>) -> AsideFile<'a, R, A>
+        ensures target { result.target.now ≡ target.now }
+        ensures untouched { (result.made ≡ None) × (result.failure ≡ None) }
+    {
         AsideFile {
             rt,
             alloc,
@@ -94,12 +101,16 @@ impl<'a, R: Files, A: Allocator + Copy> AsideFile<'a, R, A> {
     }
 
     /// Whether nothing was to be written.
-    pub fn is_empty(&self) -> bool {
+    pub fn is_empty(&self) -> bool
+        ensures { IsTrue result ↔ (self.now.made ≡ None) × (self.now.failure ≡ None) }
+    {
         self.made.is_none() && self.failure.is_none()
     }
 
     /// Why a write or the flush to the disk failed, if one has. A write that was interrupted is tried again, and is none.
-    pub fn failure(&self) -> Option<ErrorKind> {
+    pub fn failure(&self) -> Option<ErrorKind>
+        ensures { result ≡ self.now.failure }
+    {
         self.failure
     }
 
@@ -107,7 +118,12 @@ impl<'a, R: Files, A: Allocator + Copy> AsideFile<'a, R, A> {
     ///
     /// # Errors
     /// A call that failed before, or what the file system answers.
-    pub fn flush_to_disk(&mut self) -> io::Result<()> {
+    pub fn flush_to_disk(&mut self) -> io::Result<()>
+        ensures failed { IfErr result (λ error. self.new.failure ≡ Some (error_kind error)) }
+        ensures done { OnOk result ((self.old.failure ≡ None) × (self.new ≡ self.old)) }
+        ensures kept { IfSome self.old.failure (λ kind. self.new.failure ≡ Some kind) }
+        ensures file { self.new.made ≡ self.old.made }
+    {
         if let Some(kind) = self.failure {
             return Err(io::Error::from(kind));
         }
@@ -125,7 +141,10 @@ impl<'a, R: Files, A: Allocator + Copy> AsideFile<'a, R, A> {
     ///
     /// # Errors
     /// A call that failed before, or what the file system answers; what stood at the place then stands.
-    pub fn take_place(self) -> io::Result<()> {
+    pub fn take_place(self) -> io::Result<()>
+        ensures failed { IfSome self.entry.failure (λ kind. IsErrAnd result (λ error. error_kind error ≡ kind)) }
+        ensures empty { self.entry.made ≡ None → self.entry.failure ≡ None → IsOk result }
+    {
         if let Some(kind) = self.failure {
             self.discard();
             return Err(io::Error::from(kind));
@@ -160,7 +179,12 @@ impl<'a, R: Files, A: Allocator + Copy> AsideFile<'a, R, A> {
     ///
     /// # Errors
     /// A call that failed before, or what the file system answers; then each write will fail.
-    pub fn open(&mut self) -> io::Result<()> {
+    pub fn open(&mut self) -> io::Result<()>
+        ensures failed { IfErr result (λ error. self.new.failure ≡ Some (error_kind error)) }
+        ensures made { OnOk result (IsSome self.new.made × (self.new.failure ≡ None)) }
+        ensures kept { IfSome self.old.failure (λ kind. self.new.failure ≡ Some kind) }
+        ensures once { OnOk result (IsSome self.old.made → self.new ≡ self.old) }
+    {
         if let Some(kind) = self.failure {
             return Err(io::Error::from(kind));
         }
@@ -172,7 +196,11 @@ impl<'a, R: Files, A: Allocator + Copy> AsideFile<'a, R, A> {
     }
 
     // Makes the file aside, if it is not there yet.
-    fn make(&mut self) -> io::Result<()> {
+    fn make(&mut self) -> io::Result<()>
+        ensures made { OnOk result (IsSome self.new.made) }
+        ensures once { IsSome self.old.made → (self.new ≡ self.old) × IsOk result }
+        ensures failure { self.new.failure ≡ self.old.failure }
+    {
         if self.made.is_some() {
             return Ok(());
         }
@@ -189,7 +217,11 @@ impl<'a, R: Files, A: Allocator + Copy> AsideFile<'a, R, A> {
 
     // Writes bytes to the file aside.
     fn put(&mut self, bytes: &[u8]) -> io::Result<usize>
-        ensures { WritesAtMost result bytes.now }
+        ensures bound { WritesAtMost result bytes.now }
+        ensures bytes { WriteAppends
+            (known_of R.File.contents self.old.made) (known_of R.File.contents self.new.made) result bytes.now }
+        ensures made { OnOk result (IsSome self.new.made) }
+        ensures failure { self.new.failure ≡ self.old.failure }
     {
         self.make()?;
         match &mut self.made {
@@ -200,7 +232,17 @@ impl<'a, R: Files, A: Allocator + Copy> AsideFile<'a, R, A> {
 }
 
 impl<R: Files, A: Allocator + Copy> Write for AsideFile<'_, R, A> {
-    fn write(&mut self, buf: &[u8]) -> io::Result<usize> {
+    ghost contents = { λ file. known_of R.File.contents file.made };
+
+    fn write(&mut self, buf: &[u8]) -> io::Result<usize>
+        ensures bound { WritesAtMost result buf.now }
+        ensures bytes { WriteAppends
+            (known_of R.File.contents self.old.made) (known_of R.File.contents self.new.made) result buf.now }
+        ensures failed { IfErr result (λ error.
+            error_kind error ≢ ErrorKind.Interrupted → self.new.failure ≡ Some (error_kind error)) }
+        ensures made { OnOk result (IsSome self.new.made × (self.new.failure ≡ self.old.failure)) }
+        ensures kept { IsSome self.old.failure → IsSome self.new.failure }
+    {
         let written = self.put(buf);
         match &written {
             Err(error) if error.kind() != ErrorKind::Interrupted => {

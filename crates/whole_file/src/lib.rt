@@ -6,7 +6,9 @@
 //! a file that stood there is kept, without set-id bits, and so are its owner and its group where the caller may give them. A path
 //! that is no regular file, as a pipe, has no place that could be taken, and is told as such; so is one whose folder can't be found.
 //!
-//! No contract can say what a file system holds: what is promised here is tested, with a file system whose calls fail in turn.
+//! No contract can say what a file system holds: what is promised here is tested, with a file system whose calls fail in turn. What
+//! always holds: a file aside takes each write once, behind what it had (`specs/Known.antt`); and a call that failed is noted, so that
+//! what has failed takes no place.
 #![tactic(auto)]
 
 mod aside;

@@ -1,4 +1,7 @@
 // Where a file is to be written.
+ghost use Rattle.std.specs.Prelude.{◌≡◌, IfErr};
+ghost use Rattle.std.specs.IoError.{error_kind};
+
 use std::alloc::Allocator;
 use std::fs::{self, Metadata, Permissions};
 use std::io::{self, ErrorKind};
@@ -75,7 +78,9 @@ pub fn target_of<R: Files, A: Allocator + Copy>(
     rt: &R,
     alloc: A,
     path: &str,
-) -> io::Result<Target<A>> {
+) -> io::Result<Target<A>>
+    ensures { IfErr result (λ error. error_kind error ≡ ErrorKind.OutOfMemory) }
+{
     match look(rt, alloc, path) {
         Err(error) if error.kind() != ErrorKind::OutOfMemory => Ok(Target::Nowhere),
         looked => looked,
