@@ -1,4 +1,7 @@
 // How a job ended.
+ghost use Rattle.std.specs.Prelude.{◌≡◌, None};
+ghost use Rattle.job_endings.specs.Endings.{stopped as ended_without};
+
 use job_reply::FAILED;
 
 /// What could not be written at the end of a job.
@@ -29,7 +32,9 @@ pub struct Ending {
 
 impl Ending {
     /// All was written.
-    pub fn written(status: u8) -> Ending {
+    pub fn written(status: u8) -> Ending
+        ensures { result ≡ record { status = status; unwritten = None } }
+    {
         Ending {
             status,
             unwritten: None,
@@ -37,7 +42,9 @@ impl Ending {
     }
 
     /// Something could not be written.
-    pub fn stopped(unwritten: Unwritten) -> Ending {
+    pub fn stopped(unwritten: Unwritten) -> Ending
+        ensures { result ≡ ended_without unwritten }
+    {
         Ending {
             status: FAILED,
             unwritten: Some(unwritten),

@@ -1,4 +1,10 @@
 // A file that a job writes, which gets its bytes when all is told.
+ghost use Rattle.std.specs.Prelude.{◌≡◌, ◌≢◌, ◌↔◌, IfErr, IfSome, IsErrAnd, IsOk, IsSome, IsTrue, None, OnOk, Some};
+ghost use Rattle.std.specs.Io.{WritesAtMost};
+ghost use Rattle.std.specs.Io.KnownBytes.{WriteAppends};
+ghost use Rattle.std.specs.IoError.{error_kind};
+ghost use Rattle.job_endings.specs.Outputs.{GoesTo, IsUntouched, failure_of, held_bytes};
+
 use std::alloc::Global;
 use std::fs::File;
 use std::io::{self, ErrorKind, Write};
@@ -25,7 +31,10 @@ pub enum Output<'a> {
 
 impl<'a> Output<'a> {
     /// The file of a path that leads to a target.
-    pub fn new(rt: &'a HostRuntime, path: &'a str, target: &'a Target<Global>) -> Output<'a> {
+    pub fn new(rt: &'a HostRuntime, path: &'a str, target: &'a Target<Global>) -> Output<'a>
+        ensures goes { GoesTo path.now target.now result }
+        ensures untouched { IsUntouched result }
+    {
         match target {
             Target::Straight => Output::Held(HeldFile {
                 rt,
@@ -41,7 +50,11 @@ impl<'a> Output<'a> {
     ///
     /// # Errors
     /// What the file system answers.
-    pub fn open(&mut self) -> io::Result<()> {
+    pub fn open(&mut self) -> io::Result<()>
+        ensures failed { IfErr result (λ error. failure_of self.new ≡ Some (error_kind error)) }
+        ensures opened { OnOk result (failure_of self.new ≡ failure_of self.old) }
+        ensures kept { IfSome (failure_of self.old) (λ kind. failure_of self.new ≡ Some kind) }
+    {
         match self {
             Output::Aside(file) => file.open(),
             Output::Nothing | Output::Held(_) => Ok(()),
@@ -49,7 +62,9 @@ impl<'a> Output<'a> {
     }
 
     /// Whether nothing was to be written.
-    pub fn is_empty(&self) -> bool {
+    pub fn is_empty(&self) -> bool
+        ensures { IsTrue result ↔ IsUntouched self.now }
+    {
         match self {
             Output::Nothing => true,
             Output::Aside(file) => file.is_empty(),
@@ -58,7 +73,9 @@ impl<'a> Output<'a> {
     }
 
     /// Why a write or the flush to the disk failed, if one has.
-    pub fn failure(&self) -> Option<ErrorKind> {
+    pub fn failure(&self) -> Option<ErrorKind>
+        ensures { result ≡ failure_of self.now }
+    {
         match self {
             Output::Nothing => None,
             Output::Aside(file) => file.failure(),
@@ -70,7 +87,10 @@ impl<'a> Output<'a> {
     ///
     /// # Errors
     /// A call that failed before, or what the file system answers.
-    pub fn flush_to_disk(&mut self) -> io::Result<()> {
+    pub fn flush_to_disk(&mut self) -> io::Result<()>
+        ensures failed { IfErr result (λ error. IfSome (failure_of self.old) (λ kind. error_kind error ≡ kind)) }
+        ensures done { OnOk result ((failure_of self.old ≡ None) × (self.new ≡ self.old)) }
+    {
         if let Some(kind) = self.failure() {
             return Err(io::Error::from(kind));
         }
@@ -83,8 +103,15 @@ impl<'a> Output<'a> {
     /// Takes the place, or writes what was held.
     ///
     /// # Errors
-    /// What the file system answers; what stood at a place then stands.
-    pub fn take_place(self) -> io::Result<()> {
+    /// A call that failed before, or what the file system answers; what stood at a place then stands.
+    pub fn take_place(self) -> io::Result<()>
+        ensures failed { IfSome (failure_of self.entry) (λ kind. IsErrAnd result (λ error. error_kind error ≡ kind)) }
+        ensures untouched { IsUntouched self.entry → IsOk result }
+    {
+        if let Some(kind) = self.failure() {
+            self.discard();
+            return Err(io::Error::from(kind));
+        }
         match self {
             Output::Aside(file) => file.take_place(),
             Output::Held(file) if !file.bytes.is_empty() => {
@@ -103,7 +130,16 @@ impl<'a> Output<'a> {
 }
 
 impl Write for Output<'_> {
-    fn write(&mut self, buf: &[u8]) -> io::Result<usize> {
+    ghost contents = { λ output. held_bytes output };
+
+    fn write(&mut self, buf: &[u8]) -> io::Result<usize>
+        ensures bound { WritesAtMost result buf.now }
+        ensures bytes { WriteAppends (held_bytes self.old) (held_bytes self.new) result buf.now }
+        ensures failed { IfErr result (λ error.
+            error_kind error ≢ ErrorKind.Interrupted → failure_of self.new ≡ Some (error_kind error)) }
+        ensures written { OnOk result (failure_of self.new ≡ failure_of self.old) }
+        ensures kept { IsSome (failure_of self.old) → IsSome (failure_of self.new) }
+    {
         match self {
             Output::Nothing => Ok(buf.len()),
             Output::Aside(file) => file.write(buf),

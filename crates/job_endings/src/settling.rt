@@ -1,4 +1,8 @@
 // How a job with output files ends.
+ghost use Rattle.std.specs.Prelude.{◌≡◌, IfErr, IfSome, IsErrAnd};
+ghost use Rattle.job_endings.specs.Endings.{IsEnding, IsOffDisk, IsOutOfPlace, IsToldEnding, IsUnflushed};
+ghost use Rattle.job_endings.specs.Outputs.{IsUntouched, failure_of};
+
 use crate::ending::{Ending, Unwritten};
 use crate::output::Output;
 use job_reply::{FAILED, Failure, Reply, written};
@@ -24,7 +28,13 @@ pub fn settle<T: Write>(
     status: u8,
     told: &[u8],
     text: &mut T,
-) -> Ending {
+) -> Ending
+    ensures ending { IsEnding status told.now result (T.contents text.old) (T.contents text.new) }
+    ensures no_image { IsUntouched out.entry
+        → IsToldEnding status told.now result (T.contents text.old) (T.contents text.new) }
+    ensures failed { IfSome (failure_of out.entry) (λ kind.
+        IsUnflushed kind Unwritten.Image result (T.contents text.old) (T.contents text.new)) }
+{
     if out.is_empty() {
         return tell(status, told, text);
     }
@@ -32,17 +42,9 @@ pub fn settle<T: Write>(
         // A failure stays with the file, which then can't be put onto the disk.
         let _ = certificate.write_all(certificate_in(told));
     }
-    let unflushed = match flush_both(&mut out, &mut certificate) {
-        Ok(()) => None,
-        Err((ErrorKind::OutOfMemory, _)) => {
-            discard_both(out, certificate);
-            return Ending::written(Reply::failed(Failure::Memory).tell(text));
-        }
-        Err((_, unwritten)) => Some(unwritten),
-    };
-    if let Some(unwritten) = unflushed {
+    if let Err((kind, unwritten)) = flush_both(&mut out, &mut certificate) {
         discard_both(out, certificate);
-        return Ending::stopped(unwritten);
+        return tell_unflushed(kind, unwritten, text);
     }
     if written(told, status, text) != status {
         discard_both(out, certificate);
@@ -58,7 +60,11 @@ pub fn settle<T: Write>(
 fn flush_both(
     out: &mut Output<'_>,
     certificate: &mut Output<'_>,
-) -> Result<(), (ErrorKind, Unwritten)> {
+) -> Result<(), (ErrorKind, Unwritten)>
+    ensures unwritten { IfErr result (λ why. IsOffDisk why.1) }
+    ensures failed { IfSome (failure_of out.old) (λ kind.
+        IsErrAnd result (λ why. (why.0 ≡ kind) × (why.1 ≡ Unwritten.Image))) }
+{
     if let Err(error) = out.flush_to_disk() {
         return Err((error.kind(), Unwritten::Image));
     }
@@ -68,8 +74,20 @@ fn flush_both(
     }
 }
 
+// Ends a job one of whose files could not be put onto the disk, for such a reason: want of memory is told, and of any other nothing.
+fn tell_unflushed<T: Write>(kind: ErrorKind, unwritten: Unwritten, text: &mut T) -> Ending
+    ensures { IsUnflushed kind unwritten result (T.contents text.old) (T.contents text.new) }
+{
+    if kind == ErrorKind::OutOfMemory {
+        return Ending::written(Reply::failed(Failure::Memory).tell(text));
+    }
+    Ending::stopped(unwritten)
+}
+
 // Puts both files into their places, or answers which of them can't be.
-fn take_both_places(out: Output<'_>, certificate: Output<'_>) -> Result<(), Unwritten> {
+fn take_both_places(out: Output<'_>, certificate: Output<'_>) -> Result<(), Unwritten>
+    ensures { IfErr result IsOutOfPlace }
+{
     let is_alone = certificate.is_empty();
     if certificate.take_place().is_err() {
         out.discard();
@@ -88,7 +106,9 @@ fn discard_both(out: Output<'_>, certificate: Output<'_>) {
 }
 
 // Tells the text of a job that handed no image out. A text that found no room in memory is told as that.
-fn tell<T: Write>(status: u8, told: &[u8], text: &mut T) -> Ending {
+fn tell<T: Write>(status: u8, told: &[u8], text: &mut T) -> Ending
+    ensures { IsToldEnding status told.now result (T.contents text.old) (T.contents text.new) }
+{
     if status == FAILED && told.is_empty() {
         return Ending::written(Reply::failed(Failure::Memory).tell(text));
     }

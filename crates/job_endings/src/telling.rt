@@ -1,4 +1,7 @@
 // What is told to people beside the answer.
+ghost use Rattle.std.specs.Prelude.{◌≡◌};
+ghost use Rattle.job_endings.specs.Endings.{nothing_found};
+
 use crate::ending::Unwritten;
 use explanations::{Explanation, FINDINGS, REFUSALS, explained};
 use job_reply::most_bytes;
@@ -43,7 +46,9 @@ pub struct Found {
 
 impl Found {
     /// Nothing is known yet.
-    pub fn new() -> Found {
+    pub fn new() -> Found
+        ensures { result ≡ nothing_found }
+    {
         Found {
             is_wanted: false,
             path: None,

@@ -1,1 +1,3 @@
+pub mod Images
+pub mod Outputs
 pub mod Roles

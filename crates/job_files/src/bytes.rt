@@ -1,5 +1,5 @@
 // The bytes of the files that a job reads.
-ghost use Rattle.std.specs.Prelude.{◌≡◌, ◌≢◌, ◌⊎◌, None, [], IfErr, IfOk};
+ghost use Rattle.std.specs.Prelude.{◌≡◌, ◌≢◌, ◌⊎◌, ◌+◌, None, [], IfErr, IfOk, IfSome, take};
 ghost use Rattle.job_reply.specs.declared.refusal.Failure.TheVariants.{Input, Memory};
 ghost use Rattle.shop_jobs.specs.Job.{job_view};
 ghost use Rattle.shop_jobs.specs.Paths.{from_of};
@@ -16,7 +16,8 @@ use std::io::{ErrorKind, Read};
 /// # Errors
 /// `Input` where the reader fails, `Memory` where there is no room for the bytes.
 pub fn front_of<R: Read>(alloc: Global, reader: &mut R, most: u32) -> Result<Vec<u8>, Failure>
-    ensures { IfErr result (λ failure. (failure ≡ Input) ⊎ (failure ≡ Memory)) }
+    ensures read { IfSome (R.remaining reader.old) (λ bytes. IfOk result (λ read. read.items ≡ take (most + 1) bytes)) }
+    ensures failed { IfErr result (λ failure. (failure ≡ Input) ⊎ (failure ≡ Memory)) }
 {
     let mut bytes = Vec::new(alloc);
     match reader.take(u64::from(most) + 1).read_to_end(&mut bytes) {

@@ -1,6 +1,6 @@
 // Two roles of a job that one file has.
 ghost use Rattle.std.specs.Prelude.{◌≡◌, ◌↔◌, None, false, IfSome, IsTrue};
-ghost use Rattle.job_files.specs.Roles.{AreOneFile, HasClash};
+ghost use Rattle.job_files.specs.Roles.{AreOneFile, HasClash, clash_line, roles_view};
 ghost use Rattle.job_files.specs.declared.clash.Clash.{Clash as AClash};
 
 use crate::identity::{FileIdentity, is_same_file};
@@ -29,7 +29,9 @@ pub enum Clash {
 
 impl Clash {
     /// The line that tells it.
-    pub fn line(self) -> &'static [u8] {
+    pub fn line(self) -> &'static [u8]
+        ensures { result.now ≡ clash_line self }
+    {
         match self {
             Clash::OutAndCertificate => b"error: --out and --cert name the same file\n",
             Clash::InPlaceAndCertificate => b"error: --in-place and --cert name the same file\n",
@@ -43,8 +45,9 @@ impl Clash {
 
 // The clash of the output file with another role.
 fn out_clash(roles: Roles<'_>) -> Option<Clash>
-    ensures some { IfSome result (HasClash roles.entry) }
-    ensures none { result ≡ None → (¬ AreOneFile roles.entry.out roles.entry.certificate) × (¬ AreOneFile roles.entry.out roles.entry.from) }
+    ensures some { IfSome result (HasClash (roles_view roles.entry)) }
+    ensures none { let files = roles_view roles.entry in
+        result ≡ None → (¬ AreOneFile files.out files.certificate) × (¬ AreOneFile files.out files.from) }
 {
     if is_same_file(roles.out, roles.certificate) {
         return Some(Clash::OutAndCertificate);
@@ -58,8 +61,9 @@ fn out_clash(roles: Roles<'_>) -> Option<Clash>
 // The clash of the image that is changed in its own file with another role.
 fn in_place_clash(roles: Roles<'_>) -> Option<Clash>
     requires { IsTrue roles.in_place }
-    ensures some { IfSome result (HasClash roles.entry) }
-    ensures none { result ≡ None → (¬ AreOneFile roles.entry.image roles.entry.certificate) × (¬ AreOneFile roles.entry.image roles.entry.from) }
+    ensures some { IfSome result (HasClash (roles_view roles.entry)) }
+    ensures none { let files = roles_view roles.entry in
+        result ≡ None → (¬ AreOneFile files.image files.certificate) × (¬ AreOneFile files.image files.from) }
 {
     if is_same_file(roles.image, roles.certificate) {
         return Some(Clash::InPlaceAndCertificate);
@@ -73,8 +77,8 @@ fn in_place_clash(roles: Roles<'_>) -> Option<Clash>
 // The clash of the certificate with a file that is read.
 fn certificate_clash(roles: Roles<'_>) -> Option<Clash>
     requires { roles.in_place ≡ false }
-    ensures some { IfSome result (HasClash roles.entry) }
-    ensures none { result ≡ None → ¬ AreOneFile roles.entry.image roles.entry.certificate }
+    ensures some { IfSome result (HasClash (roles_view roles.entry)) }
+    ensures none { let files = roles_view roles.entry in result ≡ None → ¬ AreOneFile files.image files.certificate }
 {
     if is_same_file(roles.image, roles.certificate) {
         return Some(Clash::ImageAndCertificate);
@@ -85,8 +89,8 @@ fn certificate_clash(roles: Roles<'_>) -> Option<Clash>
 impl Roles<'_> {
     /// Two roles that one file has, of which one is written; `None` where there are none.
     pub fn clash(self) -> Option<Clash>
-        ensures some { IfSome result (HasClash self.entry) }
-        ensures none { result ≡ None ↔ ((clash : AClash) → ¬ HasClash self.entry clash) }
+        ensures some { IfSome result (HasClash (roles_view self.entry)) }
+        ensures none { result ≡ None ↔ ((clash : AClash) → ¬ HasClash (roles_view self.entry) clash) }
     {
         if is_same_file(self.from, self.certificate) {
             return Some(Clash::FromAndCertificate);

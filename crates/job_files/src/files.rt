@@ -1,10 +1,18 @@
 // Where the paths of a job lead.
+ghost use Rattle.std.specs.Prelude.{◌≡◌, ◌↔◌, IfErr, IfOk, IfSome, None, Ok, option_map};
+ghost use Rattle.std.specs.IoError.{error_kind};
+ghost use Rattle.shop_jobs.specs.Job.{job_view};
+ghost use Rattle.job_files.specs.Outputs.{HasNoOther, IsOutputOf};
+ghost use Rattle.job_files.specs.Roles.{HasClash, IsUse, identity_of, identity_view, image_identity, roles_of};
+ghost use Rattle.job_files.specs.declared.clash.Clash.{Clash as AClash};
+
 use crate::clash::{Clash, Roles};
 use crate::identity::{FileIdentity, is_same_file};
 use crate::image::ImageUse;
 use job_endings::Output;
 use shop_jobs::{Job, certificate_path, from_path, image_path, is_on_standard_input, out_path};
 use std::alloc::Global;
+use std::io::ErrorKind;
 use std::{fs, io};
 use whole_file::{Node, Target, target_of};
 
@@ -28,7 +36,10 @@ pub struct JobFiles {
 }
 
 // Where a path leads that may be left out.
-fn target_at(rt: &HostRuntime, path: Option<&str>) -> io::Result<Target<Global>> {
+fn target_at(rt: &HostRuntime, path: Option<&str>) -> io::Result<Target<Global>>
+    ensures none { path.entry ≡ None → result ≡ Ok Target.Nowhere }
+    ensures failed { IfErr result (λ error. error_kind error ≡ ErrorKind.OutOfMemory) }
+{
     match path {
         Some(path) => target_of(rt, rt.alloc(), path),
         None => Ok(Target::Nowhere),
@@ -42,7 +53,9 @@ fn input_node(rt: &HostRuntime) -> Option<Node> {
 }
 
 // Which file stands or is to stand at a place.
-fn identity(target: &Target<Global>) -> FileIdentity<'_> {
+fn identity(target: &Target<Global>) -> FileIdentity<'_>
+    ensures { identity_view result ≡ identity_of target.now }
+{
     match target {
         Target::Place(place) => FileIdentity {
             path: Some(place.path.as_str()),
@@ -60,7 +73,10 @@ impl JobFiles {
     ///
     /// # Errors
     /// Want of memory.
-    pub fn of(rt: &HostRuntime, job: &Job) -> io::Result<JobFiles> {
+    pub fn of(rt: &HostRuntime, job: &Job) -> io::Result<JobFiles>
+        ensures none { IfOk result (HasNoOther (job_view job.now)) }
+        ensures failed { IfErr result (λ error. error_kind error ≡ ErrorKind.OutOfMemory) }
+    {
         let is_input = is_on_standard_input(job);
         let path = (!is_input).then_some(image_path(job));
         Ok(JobFiles {
@@ -73,7 +89,9 @@ impl JobFiles {
     }
 
     // Which file the image is.
-    fn image_identity(&self) -> FileIdentity<'_> {
+    fn image_identity(&self) -> FileIdentity<'_>
+        ensures { identity_view result ≡ image_identity self.now.input self.now.image }
+    {
         match self.input {
             Some(node) => FileIdentity {
                 path: None,
@@ -84,7 +102,10 @@ impl JobFiles {
     }
 
     /// Two roles that one file has, of which one is written, where the image is changed in its own file or is not.
-    pub fn clash(&self, in_place: bool) -> Option<Clash> {
+    pub fn clash(&self, in_place: bool) -> Option<Clash>
+        ensures some { IfSome result (HasClash (roles_of self.now in_place)) }
+        ensures none { result ≡ None ↔ ((clash : AClash) → ¬ HasClash (roles_of self.now in_place) clash) }
+    {
         let roles = Roles {
             image: self.image_identity(),
             in_place,
@@ -96,7 +117,9 @@ impl JobFiles {
     }
 
     /// How the file of the image is used, where it is changed in place or is not.
-    pub fn image_use(&self, in_place: bool) -> ImageUse {
+    pub fn image_use(&self, in_place: bool) -> ImageUse
+        ensures { IsUse (roles_of self.now in_place) result }
+    {
         if in_place {
             ImageUse::Change
         } else if is_same_file(identity(&self.out), self.image_identity()) {
@@ -107,7 +130,9 @@ impl JobFiles {
     }
 
     /// The output file of a job that has one, for its image.
-    pub fn output<'a>(&'a self, rt: &'a HostRuntime, path: Option<&'a str>) -> Output<'a> {
+    pub fn output<'a>(&'a self, rt: &'a HostRuntime, path: Option<&'a str>) -> Output<'a>
+        ensures { IsOutputOf (option_map (λ s. s.now) path.entry) self.now.out result }
+    {
         output_at(rt, path, &self.out)
     }
 
@@ -116,7 +141,9 @@ impl JobFiles {
         &'a self,
         rt: &'a HostRuntime,
         path: Option<&'a str>,
-    ) -> Output<'a> {
+    ) -> Output<'a>
+        ensures { IsOutputOf (option_map (λ s. s.now) path.entry) self.now.certificate result }
+    {
         output_at(rt, path, &self.certificate)
     }
 }
@@ -126,7 +153,9 @@ fn output_at<'a>(
     rt: &'a HostRuntime,
     path: Option<&'a str>,
     target: &'a Target<Global>,
-) -> Output<'a> {
+) -> Output<'a>
+    ensures { IsOutputOf (option_map (λ s. s.now) path.entry) target.now result }
+{
     match path {
         Some(path) => Output::new(rt, path, target),
         None => Output::Nothing,

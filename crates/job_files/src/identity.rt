@@ -1,6 +1,6 @@
 // Which file a path leads to.
 ghost use Rattle.std.specs.Prelude.{◌≡◌, ◌↔◌, IsTrue, option_map};
-ghost use Rattle.job_files.specs.Roles.{AreOneFile, ShareSome};
+ghost use Rattle.job_files.specs.Roles.{AreOneFile, ShareSome, identity_view};
 
 use whole_file::Node;
 
@@ -34,7 +34,7 @@ fn is_same_node(one: Option<Node>, other: Option<Node>) -> bool
 
 /// Whether two roles have one file.
 pub fn is_same_file(one: FileIdentity<'_>, other: FileIdentity<'_>) -> bool
-    ensures { IsTrue result ↔ AreOneFile one.entry other.entry }
+    ensures { IsTrue result ↔ AreOneFile (identity_view one.entry) (identity_view other.entry) }
 {
     is_same_path(one.path, other.path) || is_same_node(one.node, other.node)
 }

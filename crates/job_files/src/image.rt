@@ -1,7 +1,8 @@
 // The image of a job, open.
-ghost use Rattle.std.specs.Prelude.{◌≡◌, ◌⊎◌, IfErr, IfOk};
+ghost use Rattle.std.specs.Prelude.{◌≡◌, ◌≢◌, ◌↔◌, ◌⊎◌, IfErr, IfOk, IsErrOf, IsTrue};
 ghost use Rattle.job_reply.specs.declared.refusal.Failure.TheVariants.{Input, Memory};
 ghost use Rattle.image_volume.specs.Volume.{HasUnitsOf, kind_of};
+ghost use Rattle.job_files.specs.Images.{StandsInItsFile};
 
 use crate::bytes::front_of;
 use a2_device::Device;
@@ -65,7 +66,9 @@ fn unit_kind(file_system: FileSystem) -> UnitKind
 }
 
 /// Whether the units of a volume stand in the file of its image as they are.
-pub fn is_in_its_file(volume: VolumeOptions) -> bool {
+pub fn is_in_its_file(volume: VolumeOptions) -> bool
+    ensures { IsTrue result ↔ StandsInItsFile volume }
+{
     file_device::is_in_place(order_of(volume.order), unit_kind(volume.file_system))
 }
 
@@ -76,11 +79,10 @@ impl OpenImage {
     /// # Errors
     /// `Unopened` where the system does not open it, `Held` where another holds its lock, `Replaced` where the path leads to another
     /// file by now.
-    pub fn open(
-        rt: &HostRuntime,
-        path: &str,
-        image_use: ImageUse,
-    ) -> Result<OpenImage, ImageFault> {
+    pub fn open(rt: &HostRuntime, path: &str, image_use: ImageUse) -> Result<OpenImage, ImageFault>
+        ensures file { IfOk result (λ image. image ≢ OpenImage.StandardInput) }
+        ensures fault { IfErr result (λ fault. fault ≡ ImageFault.Replaced → image_use ≢ ImageUse.Read) }
+    {
         let is_changed = image_use == ImageUse::Change;
         let Ok(file) = OpenOptions::new()
             .read(true)
@@ -117,7 +119,10 @@ impl OpenImage {
     /// # Errors
     /// Those of `FileDevice::of_image`; `InPlace` for standard input too.
     pub fn device(&self, volume: VolumeOptions) -> Result<ImageDevice, FileError>
-        ensures { IfOk result (λ device. HasUnitsOf volume.file_system (⟦<FileDevice<SystemFile> as Device>⟧.state device)) }
+        ensures in_place { IsErrOf result FileError.InPlace
+            ↔ (self.now ≡ OpenImage.StandardInput) ⊎ (¬ StandsInItsFile volume) }
+        ensures units { IfOk result (λ device.
+            HasUnitsOf volume.file_system (⟦<FileDevice<SystemFile> as Device>⟧.state device)) }
     {
         let OpenImage::File(file) = self else {
             return Err(FileError::InPlace);

@@ -5,7 +5,8 @@
 //! bytes, or a device of the units where they stand in the file (`FileDevice`). `extra_bytes` reads the file beside the image.
 //!
 //! What always holds: a device that is opened has the units of the job's file system, all those of a disk or of a volume of blocks.
-//! A clash is told exactly where there is one (`specs/Roles.antt`).
+//! A clash is told exactly where there is one (`specs/Roles.antt`), and a file is written exactly where the job names one
+//! (`specs/Outputs.antt`).
 #![tactic(auto)]
 
 mod bytes;
