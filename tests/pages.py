@@ -1,5 +1,7 @@
 #!/usr/bin/env python3
-"""Says which crate has no page, and which example of a page does not stand, line by line, in the tests that the page names.
+"""Says what the pages of the repository get wrong, a line for each: a crate without a page; an example of a page that does not stand,
+line by line, in the tests that the page names; a file of a crate that a page names and that is not there; and a paragraph or a cell
+of a table that is too long to be read.
 
 pages.py TOP
 """
@@ -10,6 +12,13 @@ import sys
 import textwrap
 
 EXAMPLE = re.compile(r"^```rust\n(.*?)^```\n\nThese lines stand in `(\w+)`", re.M | re.S)
+CODE = re.compile(r"^```.*?^```$", re.M | re.S)
+FILE = re.compile(r"(?:crates/(\w+)/)?(?:(specs|src|proofs)/)?((?:\w+/)*\w+\.(?:antt|rt))")
+# How a heading, a row, or an item of a list begins.
+BEGINS = re.compile(r"#|\||- |\d+\. ")
+TICKED = re.compile(r"`([^`\n]+)`")
+# The most characters of a paragraph, or of a cell of a table.
+MOST = 1000
 
 
 def has_lines(source, example):
@@ -19,23 +28,69 @@ def has_lines(source, example):
     return any(textwrap.dedent("\n".join(lines[front : front + len(wanted)])) == "\n".join(wanted) for front in fronts)
 
 
-def main(top):
-    crates = pathlib.Path(top) / "crates"
-    examples = 0
-    for line in (pathlib.Path(top) / "crates.txt").read_text(encoding="utf-8").splitlines():
-        name = line.partition(":")[0]
-        page = crates / name / "README.md"
-        if not page.is_file():
-            if not name.startswith("tests_"):
-                print(f"{name} has no page")
+def pieces(text):
+    """The headings, paragraphs, items of lists and rows of tables of a page, without its blocks of code."""
+    found = [""]
+    for line in CODE.sub("", text).split("\n"):
+        if not line.strip() or BEGINS.match(line) or BEGINS.match(found[-1]) and found[-1].startswith(("|", "#")):
+            found.append("")
+        found[-1] += f"{line}\n"
+    return found
+
+
+def examples_of(crates, name, page):
+    """How many examples the page of a crate has, and those that stand in no test."""
+    found = EXAMPLE.findall(page.read_text(encoding="utf-8"))
+    lost = []
+    for example, tests in found:
+        sources = [path.read_text(encoding="utf-8") for path in (crates / tests / "src").rglob("*.rt")]
+        if not any(has_lines(source, example) for source in sources):
+            lost.append(f"{name}: its example is not in {tests}")
+    return len(found), lost
+
+
+def lost_files(crates, names, page, piece):
+    """The files that a piece of a page names and that no crate has that it names too, or whose page it is."""
+    own = [page.parent.name] if page.parent.parent == crates else []
+    ticked = TICKED.findall(piece)
+    named = [word for word in ticked if word in names] + own
+    for word in ticked:
+        match = FILE.fullmatch(word)
+        if not match:
             continue
-        for example, tests in EXAMPLE.findall(page.read_text(encoding="utf-8")):
-            examples += 1
-            sources = [path.read_text(encoding="utf-8") for path in (crates / tests / "src").rglob("*.rt")]
-            if not any(has_lines(source, example) for source in sources):
-                print(f"{name}: its example is not in {tests}")
+        crate, folder, file = match.groups()
+        folder = folder or ("specs" if file.endswith(".antt") else "src")
+        if word != "src/lib.rt" and not any((crates / it / folder / file).is_file() for it in [crate or "", *named] if it):
+            yield f"{page.name}: {word} is in none of {', '.join([crate] if crate else named) or 'the crates, since none is named'}"
+
+
+def long_pieces(page, piece):
+    """The cells of a row, or the paragraph, that have more characters than a reader takes in at once."""
+    for text in piece.split("|") if piece.startswith("|") else [piece]:
+        if len(text) > MOST:
+            yield f"{page.name}: {len(text)} characters in one piece: {text.strip()[:60]}.."
+
+
+def main(top):
+    top = pathlib.Path(top)
+    crates, examples, wrong = top / "crates", 0, []
+    listed = (top / "crates.txt").read_text(encoding="utf-8").splitlines()
+    names = {line.partition(":")[0] for line in listed if line and not line.startswith("#")}
+    for name in sorted(names):
+        page = crates / name / "README.md"
+        if page.is_file():
+            count, lost = examples_of(crates, name, page)
+            examples, wrong = examples + count, wrong + lost
+        elif not name.startswith("tests_"):
+            wrong.append(f"{name} has no page")
     if examples < 20:
-        print(f"{examples} examples")
+        wrong.append(f"{examples} examples")
+    pages = [top / "README.md", top / "CONTRIBUTING.md", *sorted((top / "docs").glob("*.md")), *sorted(crates.glob("*/README.md"))]
+    for page in pages:
+        for piece in pieces(page.read_text(encoding="utf-8")):
+            wrong += lost_files(crates, names, page, piece)
+            wrong += [] if page.name == "DECISIONS.md" else long_pieces(page, piece)
+    print("".join(f"{line}\n" for line in wrong), end="")
 
 
 if __name__ == "__main__":
