@@ -19,6 +19,7 @@ from whole_commands import PROGRAM
 BLOCK, ENTRY, ENTRIES, POINTERS, TOTAL = 512, 0x27, 13, 256, 65_535
 FIRST = 6 + -(-TOTAL // (8 * BLOCK))
 MOST_MEMORY = 8 << 30
+AUTO = ["--fs", "auto", "--order", "auto"]
 
 
 class Volume:
@@ -182,8 +183,10 @@ def main():
                             ["plan", path, *words, "--reclaim", "--words"],
                             ["optimize", path, *words, "--reclaim", "--out", f"{folder}/out.po"], ["identify", path]):
                 measure(command)
+            for command in (["check", path, *AUTO], ["check", path, *AUTO, "--explain"]):
+                measure(command)
             if file is not None:
-                for command in edits(path, file, folder, words):
+                for command in [*edits(path, file, folder, words), *edits(path, file, folder, [*AUTO, "--explain"])]:
                     measure(command)
 
 
