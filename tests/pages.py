@@ -11,7 +11,7 @@ import re
 import sys
 import textwrap
 
-EXAMPLE = re.compile(r"^```rust\n(.*?)^```\n\nThese lines stand in `(\w+)`", re.M | re.S)
+EXAMPLE = re.compile(r"^```rust\n((?:(?!```).*\n)*)```\n\nThese lines stand in `(\w+)`", re.M)
 CODE = re.compile(r"^```.*?^```$", re.M | re.S)
 FILE = re.compile(r"(?:crates/(\w+)/)?(?:(specs|src|proofs)/)?((?:\w+/)*\w+\.(?:antt|rt))")
 # How a heading, a row, or an item of a list begins.

@@ -1,2 +1,4 @@
 pub mod Results
 pub mod Ordered
+pub mod Skews
+pub mod Tables

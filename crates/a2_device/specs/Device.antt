@@ -1,6 +1,6 @@
 -- What the calls of a device do, as contracts see it.
 use Rattle.std.specs.Prelude.{◌≡◌, ◌==◌, ◌<◌, ◌⊎◌, ℕ, ◌+◌, ◌-◌, Bool, if◌then◌else◌, List, [], ◌∷◌, Contains, length, slice_index_or, slice_set, Option, Some, None, Result, Err, is_err, IsTrue, IsFalse}
-use Rattle.sector_order.specs.declared.order.Order.{Order}
+use Rattle.a2_device.specs.declared.order.Order.{Order}
 use Rattle.a2_device.specs.declared.device.DeviceError.{DeviceError}
 use Rattle.a2_device.specs.declared.device.DeviceError.TheVariants.{Spent}
 

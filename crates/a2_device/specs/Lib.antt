@@ -3,3 +3,7 @@ pub mod Reading
 pub mod Orders
 pub mod Writes
 pub mod Met
+pub mod Skew
+pub mod Order
+pub mod Table
+pub mod Stop

@@ -1,8 +1,8 @@
 -- Runs of calls that read alone.
 use Rattle.std.specs.Prelude.{ℕ, Bool, true, false, Result, Err, IsTrue, if◌then◌else◌}
 use Rattle.std.proofs.Common.{refl, sym, ◌∙◌, ap, subst}
-use Rattle.vol_parts.specs.declared.fault.WalkError.{WalkError}
-use Rattle.vol_parts.specs.declared.fault.WalkError.TheVariants.{Device}
+use Rattle.a2_device.specs.declared.fault.WalkError.{WalkError}
+use Rattle.a2_device.specs.declared.fault.WalkError.TheVariants.{Device}
 use Rattle.a2_device.specs.Device.{DeviceState, OnlyReads, FailsRead, counted}
 
 -- whether a walk met a failure of the device

@@ -23,7 +23,8 @@ pub struct FaultDevice<D: Device> {
 impl<D: Device> FaultDevice<D> {
     /// The device with no failure ordered.
     pub fn new(device: D) -> Self
-        ensures orders { result ≡ record { device = device; read_order = false; write_order = None; writes = 0; faults = 0 } }
+        ensures orders { result
+            ≡ record { device = device; read_order = false; write_order = None; writes = 0; faults = 0 } }
         ensures state { ⟦<FaultDevice<D> as Device>⟧.state result ≡ D.state device }
     {
         // The counts of a device fit their type.
@@ -49,7 +50,8 @@ impl<D: Device> FaultDevice<D> {
         self.read_order = true;
     }
 
-    /// The next write is a fault; `took` says whether the new unit stands. A later order takes the place of an earlier one.
+    /// The next write is a fault; `took` says whether the new unit stands. A later order takes the place of an earlier
+    /// one.
     pub fn fail_write(&mut self, took: bool)
         ensures orders { self.new ≡ record self.old { write_order = Some took } }
         ensures ordered { let state = ⟦<FaultDevice<D> as Device>⟧.state in
@@ -60,8 +62,8 @@ impl<D: Device> FaultDevice<D> {
         self.write_order = Some(took);
     }
 
-    /// Meets the order to fail a read, as the next read would at any place, and asks nothing of the device within; whether
-    /// there was one.
+    /// Meets the order to fail a read, as the next read would at any place, and asks nothing of the device within;
+    /// whether there was one.
     pub fn meet_read_order(&mut self) -> bool
         ensures ordered { result ≡ self.old.read_order }
         ensures met { IsTrue result → self.new ≡ record self.old { read_order = false; faults = self.new.faults } }

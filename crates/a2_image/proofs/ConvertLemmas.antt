@@ -9,9 +9,9 @@ use Rattle.a2_nibble.specs.declared.search.Field.{Field}
 use Rattle.a2_nibble.specs.Search.{FindsSector}
 use Rattle.a2_nibble.specs.Sector.{IsFieldOf}
 use Rattle.a2_nibble.proofs.MakeLemmas.{made_fields, made_contents}
-use Rattle.sector_order.specs.declared.order.Order.{Order}
-use Rattle.sector_order.specs.declared.order.Order.TheVariants.{Dos, Prodos, Nibble}
-use Rattle.sector_order.specs.Order.{IsImageLength, blocks_of}
+use Rattle.a2_device.specs.declared.order.Order.{Order}
+use Rattle.a2_device.specs.declared.order.Order.TheVariants.{Dos, Prodos, Nibble}
+use Rattle.a2_device.specs.Order.{IsImageLength, blocks_of}
 use Rattle.a2_image.specs.Image.{DiskImage, IsOfDisk, sectors_by, sector_in, number_in, bytes_of_sector}
 use Rattle.a2_image.specs.Tracks.{track_of, HoldsSector, HoldsTracks}
 use Rattle.a2_image.specs.Kept.{KeepsFields, IsKept, kept_sectors}

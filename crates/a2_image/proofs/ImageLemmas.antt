@@ -8,9 +8,9 @@ use Rattle.std.proofs.Common.{◌≡◌, ◌≢◌, ℕ, ◌+◌, ◌*◌, ◌/�
 use Rattle.std.specs.Prelude.{Option, ◌==◌, if◌then◌else◌, IfSome, IfNone}
 use Rattle.a2_nibble.specs.declared.search.Field.{Field}
 use Rattle.a2_nibble.specs.Sector.{WritesSector}
-use Rattle.sector_order.specs.declared.order.Order.{Order}
-use Rattle.sector_order.specs.declared.order.Order.TheVariants.{Dos, Prodos, Nibble}
-use Rattle.sector_order.specs.Order.{IsImageLength, blocks_of}
+use Rattle.a2_device.specs.declared.order.Order.{Order}
+use Rattle.a2_device.specs.declared.order.Order.TheVariants.{Dos, Prodos, Nibble}
+use Rattle.a2_device.specs.Order.{IsImageLength, blocks_of}
 use Rattle.a2_image.specs.Image.{DiskImage, IsDisk, IsOfDisk, block_count, sectors_by, sector_in, HoldsSectors}
 use Rattle.a2_image.specs.Tracks.{track_of}
 use Rattle.a2_image.specs.Kept.{content_at, kept_sectors, kept_bytes, IsKept, HasField}

@@ -13,8 +13,8 @@ use Rattle.a2_nibble.specs.Sector.{IsFieldOf, WritesSector}
 use Rattle.a2_nibble.specs.Track.{behind, nibble_at}
 use Rattle.a2_nibble.proofs.OneLemmas.{one_data}
 use Rattle.a2_nibble.proofs.RingLemmas.{nibble_at-place}
-use Rattle.sector_order.specs.declared.order.Order.{Order}
-use Rattle.sector_order.specs.declared.order.Order.TheVariants.{Dos, Prodos, Nibble}
+use Rattle.a2_device.specs.declared.order.Order.{Order}
+use Rattle.a2_device.specs.declared.order.Order.TheVariants.{Dos, Prodos, Nibble}
 use Rattle.a2_image.specs.Tracks.{track_of}
 use Rattle.a2_image.specs.Kept.{KeepsFields, is_in_field, is_data_byte, kept_byte, kept_bytes}
 use Rattle.a2_image.specs.KeptBytes.{IsDataByte, KeepsByte, HoldsKept, HoldsKeptOfTracks}

@@ -17,7 +17,7 @@ use Rattle.a2_nibble.proofs.FieldLemmas.{Gives-content_of}
 use Rattle.a2_nibble.proofs.OneLemmas.{one_content}
 use Rattle.a2_nibble.proofs.RingLemmas.{length-field_at}
 use Rattle.a2_nibble.proofs.WriteLemmas.{same_fields}
-use Rattle.sector_order.specs.declared.order.Order.TheVariants.{Nibble}
+use Rattle.a2_device.specs.declared.order.Order.TheVariants.{Nibble}
 use Rattle.a2_image.specs.Tracks.{track_of, HoldsSector, HoldsTracks}
 use Rattle.a2_image.specs.Kept.{content_at, kept_sector, kept_sectors, KeepsFields}
 use Rattle.a2_image.proofs.TrackLemmas.{HoldsTracks-one, HoldsTracks-written}

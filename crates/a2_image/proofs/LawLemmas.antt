@@ -4,13 +4,13 @@ use Rattle.std.specs.Prelude.{Option, ◌==◌, if◌then◌else◌}
 use Rattle.std.proofs.Math.Seq.{take-add}
 use Rattle.std.proofs.lemmas.Bool.{cases_eq}
 use Rattle.std.proofs.lemmas.List.{drop-drop}
-use Rattle.sector_order.specs.declared.order.Order.{Order}
-use Rattle.sector_order.specs.declared.order.Order.TheVariants.{Dos, Prodos, Nibble}
-use Rattle.sector_order.specs.Order.{blocks_of, in_track}
+use Rattle.a2_device.specs.declared.order.Order.{Order}
+use Rattle.a2_device.specs.declared.order.Order.TheVariants.{Dos, Prodos, Nibble}
+use Rattle.a2_device.specs.Order.{blocks_of, in_track}
 use Rattle.a2_image.specs.Image.{DiskImage, HoldsSectors, IsOfDisk, block_count, number_in, sectors_by, bytes_of_sector}
-use Rattle.sector_order.specs.Skew.{half_of_physical, physical_of_half}
+use Rattle.a2_device.specs.Skew.{half_of_physical, physical_of_half}
 use Rattle.a2_image.specs.Blocks.{CanLendBlock, sector_of_half, bytes_of_block, block_in}
-use Rattle.sector_order.proofs.Skews.{half_of_physical-physical_of_half, physical_of_half_fits}
+use Rattle.a2_device.proofs.Skews.{half_of_physical-physical_of_half, physical_of_half_fits}
 use Rattle.a2_image.proofs.Skews.{half_fits}
 use Rattle.a2_image.proofs.Sectors.{get_or-sectors_by}
 use Rattle.a2_image.proofs.BlockLemmas.{block_in-disk, block_in-stored, block_of_sectors-there}

@@ -5,9 +5,9 @@ use Rattle.std.proofs.Math.Seq.{take-append_seam, take-length}
 use Rattle.std.proofs.lemmas.List.{take-append-le, length-take-le}
 use Rattle.std.proofs.lemmas.Bool.Decides.{nat_tests}
 use Rattle.a2_nibble.specs.declared.search.Field.{Field}
-use Rattle.sector_order.specs.declared.order.Order.{Order}
-use Rattle.sector_order.specs.declared.order.Order.TheVariants.{Dos, Prodos, Nibble}
-use Rattle.sector_order.specs.Order.{blocks_of}
+use Rattle.a2_device.specs.declared.order.Order.{Order}
+use Rattle.a2_device.specs.declared.order.Order.TheVariants.{Dos, Prodos, Nibble}
+use Rattle.a2_device.specs.Order.{blocks_of}
 use Rattle.a2_image.specs.Image.{DiskImage, CanLend, block_count, sector_in, sectors_by}
 use Rattle.a2_image.specs.Kept.{IsKept, kept_bytes}
 use Rattle.a2_image.specs.Lending.{is_plain, is_lent, sector_offset, lent_range, written, with_bytes, with_lent}

@@ -4,8 +4,8 @@ use Rattle.std.specs.Prelude.{◌==◌, slice_range, slice_set}
 use Rattle.std.proofs.Math.Seq.{take-append_seam, drop-append_seam}
 use Rattle.std.proofs.lemmas.List.{drop-drop, length-take-le, take_all}
 use Rattle.std.proofs.lemmas.Bool.{cases_order}
-use Rattle.sector_order.specs.declared.order.Order.{Order}
-use Rattle.sector_order.specs.Order.{IsImageLength}
+use Rattle.a2_device.specs.declared.order.Order.{Order}
+use Rattle.a2_device.specs.Order.{IsImageLength}
 use Rattle.a2_image.specs.Image.{DiskImage, CanLend, HoldsSectors, number_in, sectors_by}
 use Rattle.a2_image.specs.Lending.{is_lent, sector_offset, written, with_lent}
 use Rattle.a2_image.proofs.ImageLemmas.{length_of_disk, holds_plain}

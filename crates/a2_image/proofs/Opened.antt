@@ -1,7 +1,7 @@
 -- Images in DOS order: their length, and that they are those of a disk.
 use Rattle.std.proofs.Common.{◌≡◌, ℕ, length, ap}
-use Rattle.sector_order.specs.declared.order.Order.TheVariants.{Dos}
-use Rattle.sector_order.specs.Order.{IsImageLength, blocks_of}
+use Rattle.a2_device.specs.declared.order.Order.TheVariants.{Dos}
+use Rattle.a2_device.specs.Order.{IsImageLength, blocks_of}
 use Rattle.a2_image.specs.Image.{DiskImage, IsOfDisk}
 
 pub IsImageLength-Dos : (bytes : ℕ) → bytes ≡ 143360 → IsImageLength Dos bytes

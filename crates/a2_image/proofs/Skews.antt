@@ -1,9 +1,9 @@
 -- Where the sectors of an image and the halves of its blocks lie.
 use Rattle.std.proofs.Common.{◌≡◌, ℕ, ◌/◌, ◌%◌, ◌<◌, sym, ◌∙◌, ap, arith}
-use Rattle.sector_order.specs.declared.order.Order.{Order}
-use Rattle.sector_order.specs.Skew.{half_of_physical, physical_of_half}
-use Rattle.sector_order.specs.Order.{in_track}
-use Rattle.sector_order.proofs.Skews.{half_of_physical-physical_of_half, physical_of_half_fits, in_track_fits, in_track_once}
+use Rattle.a2_device.specs.declared.order.Order.{Order}
+use Rattle.a2_device.specs.Skew.{half_of_physical, physical_of_half}
+use Rattle.a2_device.specs.Order.{in_track}
+use Rattle.a2_device.proofs.Skews.{half_of_physical-physical_of_half, physical_of_half_fits, in_track_fits, in_track_once}
 use Rattle.a2_image.specs.Image.{number_in}
 use Rattle.a2_image.specs.Blocks.{sector_of_half}
 

@@ -1,8 +1,8 @@
 -- The blocks of 512 bytes of an image. (ProDOS 8 Technical Reference Manual, Appendix B.)
 use Rattle.std.specs.Prelude.{◌≡◌, ◌≢◌, ◌==◌, ℕ, ◌+◌, ◌*◌, ◌/◌, ◌%◌, ◌<◌, ◌++◌, List, map, take, drop, Option, Some, None, slice_range, slice_set, slice_index_or, if◌then◌else◌}
 use Rattle.std.specs.List.{range_with_len}
-use Rattle.sector_order.specs.declared.order.Order.TheVariants.{Prodos}
-use Rattle.sector_order.specs.Skew.{physical_of_half}
+use Rattle.a2_device.specs.declared.order.Order.TheVariants.{Prodos}
+use Rattle.a2_device.specs.Skew.{physical_of_half}
 use Rattle.a2_image.specs.Image.{DiskImage, block_count}
 
 -- one content behind another, where both are there

@@ -1,9 +1,9 @@
 -- A disk image, and the sectors and blocks that it holds whatever its order.
 use Rattle.std.specs.Prelude.{◌≡◌, ◌≢◌, ◌==◌, ℕ, ◌+◌, ◌*◌, ◌/◌, ◌%◌, ◌<◌, ◌≤◌, ◌⊎◌, List, [], length, map, replicate, Option, Some, None, unwrap_or, slice_range, slice_index_or, if◌then◌else◌}
 use Rattle.std.specs.List.{range_with_len}
-use Rattle.sector_order.specs.declared.order.Order.{Order}
-use Rattle.sector_order.specs.declared.order.Order.TheVariants.{Dos, Prodos, Nibble}
-use Rattle.sector_order.specs.Order.{blocks_of, in_track}
+use Rattle.a2_device.specs.declared.order.Order.{Order}
+use Rattle.a2_device.specs.declared.order.Order.TheVariants.{Dos, Prodos, Nibble}
+use Rattle.a2_device.specs.Order.{blocks_of, in_track}
 use Rattle.a2_image.specs.Tracks.{HoldsTracks}
 
 -- An image: the order of its sectors, its bytes, for each physical sector s of each track t, at 16 t + s, its content,

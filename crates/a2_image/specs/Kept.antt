@@ -7,9 +7,9 @@ use Rattle.a2_nibble.specs.Field.{content_of}
 use Rattle.a2_nibble.specs.Search.{FindsSector}
 use Rattle.a2_nibble.specs.Sector.{IsFieldOf}
 use Rattle.a2_nibble.specs.Track.{behind, field_at}
-use Rattle.sector_order.specs.declared.order.Order.{Order}
-use Rattle.sector_order.specs.declared.order.Order.TheVariants.{Dos, Prodos, Nibble}
-use Rattle.sector_order.specs.Order.{IsImageLength}
+use Rattle.a2_device.specs.declared.order.Order.{Order}
+use Rattle.a2_device.specs.declared.order.Order.TheVariants.{Dos, Prodos, Nibble}
+use Rattle.a2_device.specs.Order.{IsImageLength}
 use Rattle.a2_image.specs.Image.{DiskImage, sectors_by, sector_in}
 use Rattle.a2_image.specs.Tracks.{track_of}
 

@@ -2,8 +2,8 @@
 use Rattle.std.specs.Prelude.{◌≡◌, ℕ, ◌/◌, ◌%◌, ◌<◌, List, length, replicate, Option, Some, None, slice_index, slice_index_or}
 use Rattle.a2_nibble.specs.Sector.{IsFieldOf}
 use Rattle.a2_nibble.specs.Track.{behind}
-use Rattle.sector_order.specs.declared.order.Order.{Order}
-use Rattle.sector_order.specs.declared.order.Order.TheVariants.{Dos, Prodos, Nibble}
+use Rattle.a2_device.specs.declared.order.Order.{Order}
+use Rattle.a2_device.specs.declared.order.Order.TheVariants.{Dos, Prodos, Nibble}
 use Rattle.a2_image.specs.Tracks.{track_of}
 
 -- a byte of an image in nibble order that is one of the 343 disk bytes of a sector of its track

@@ -2,8 +2,8 @@
 use Rattle.std.specs.Prelude.{◌==◌, ℕ, ◌+◌, ◌*◌, nat_lt, ◌&&◌, Bool, true, false, List, ◌++◌, length, take, drop, if◌then◌else◌}
 use Rattle.std.specs.Borrow.{Lends, MutBor, Fml, u8, Array, RattleType}
 use Rattle.std.specs.declared.alloc.Allocator.{Ghosts}
-use Rattle.sector_order.specs.declared.order.Order.{Order}
-use Rattle.sector_order.specs.declared.order.Order.TheVariants.{Dos, Prodos, Nibble}
+use Rattle.a2_device.specs.declared.order.Order.{Order}
+use Rattle.a2_device.specs.declared.order.Order.TheVariants.{Dos, Prodos, Nibble}
 use Rattle.a2_image.specs.Image.{DiskImage, block_count, number_in, sectors_by}
 use Rattle.a2_image.specs.contracts.image.Image.{the_row}
 

@@ -2,9 +2,9 @@
 use Rattle.std.specs.Prelude.{◌≡◌, ℕ}
 use Rattle.a2_image.specs.declared.error.ImageError.{ImageError}
 use Rattle.a2_image.specs.declared.error.ImageError.TheVariants.{Length, Memory, Number, NoSector}
-use Rattle.sector_order.specs.declared.order.Order.{Order}
-use Rattle.sector_order.specs.declared.order.Order.TheVariants.{Nibble}
-use Rattle.sector_order.specs.Order.{IsImageLength}
+use Rattle.a2_device.specs.declared.order.Order.{Order}
+use Rattle.a2_device.specs.declared.order.Order.TheVariants.{Nibble}
+use Rattle.a2_device.specs.Order.{IsImageLength}
 
 -- each refusal, and when it comes; only an image in nibble order takes memory
 abbrev pub RefusesToOpen : Order → ℕ → ImageError → Type 0

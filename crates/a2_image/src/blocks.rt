@@ -1,11 +1,34 @@
 // The blocks of an image.
-ghost use Rattle.std.specs.Prelude.{◌≡◌, ◌+◌, ◌*◌, ◌<◌, ◌≤◌, ◌↔◌, Some, None, IsTrue, IsOk, IsErrOf, OnOk, OnErr, length, slice_set};
+ghost use Rattle.std.specs.Prelude.{
+  ◌≡◌,
+  ◌+◌,
+  ◌*◌,
+  ◌<◌,
+  ◌≤◌,
+  ◌↔◌,
+  Some,
+  None,
+  IsTrue,
+  IsOk,
+  IsErrOf,
+  OnOk,
+  OnErr,
+  length,
+  slice_set,
+};
 ghost use Rattle.a2_image.specs.Image.{IsDisk, IsOfDisk, block_count};
-ghost use Rattle.a2_image.specs.Blocks.{blocks as blocks_of_image, block_in, sector_of_half, with_block, HasBlock, LacksBlock};
+ghost use Rattle.a2_image.specs.Blocks.{
+  blocks as blocks_of_image,
+  block_in,
+  sector_of_half,
+  with_block,
+  HasBlock,
+  LacksBlock,
+};
 
 use crate::part::{copy_part, replace};
 use crate::{Image, ImageError, SECTOR_BYTES};
-use sector_order::{BLOCK_BYTES, DISK_BLOCKS, block_to_phys};
+use a2_device::{BLOCK_BYTES, DISK_BLOCKS, block_to_phys};
 use std::alloc::Allocator;
 
 /// The track of a block of a disk, and its two physical sectors, the first half's first.
@@ -46,14 +69,17 @@ impl<A: Allocator> Image<A> {
         Ok(())
     }
 
-    /// Writes a block; every other one keeps its content. In nibble order no bytes change but the disk bytes of sectors.
+    /// Writes a block; every other one keeps its content. In nibble order no bytes change but the disk bytes of
+    /// sectors.
     ///
     /// # Errors
     /// `Number` for a number from `blocks()` on; `NoSector` where a track in nibble order lacks a sector of the block.
     /// The image is unchanged.
     pub fn set_block(&mut self, number: u32, block: &[u8; BLOCK_BYTES]) -> Result<(), ImageError>
-        ensures written { OnOk result (blocks_of_image self.new ≡ slice_set (blocks_of_image self.old) number (Some block.now)) }
-        ensures sectors { OnOk result (IsOfDisk self.old → self.new.sectors ≡ with_block self.old.sectors number block.now) }
+        ensures written { OnOk result
+            (blocks_of_image self.new ≡ slice_set (blocks_of_image self.old) number (Some block.now)) }
+        ensures sectors { OnOk result
+            (IsOfDisk self.old → self.new.sectors ≡ with_block self.old.sectors number block.now) }
         ensures kept { self.new.kept ≡ self.old.kept }
         ensures order { self.new.order ≡ self.old.order }
         ensures long { length self.new.bytes ≡ length self.old.bytes }

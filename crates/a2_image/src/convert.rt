@@ -8,8 +8,8 @@ use crate::nibble::made_fields;
 use crate::part::replace;
 use crate::plain::write_plain;
 use crate::{Image, ImageError, SECTOR_BYTES};
+use a2_device::{DISK_BLOCKS, IMAGE_BYTES, NIBBLE_BYTES, Order, SECTORS, TRACKS};
 use a2_nibble::{TRACK_LEN, make_track};
-use sector_order::{DISK_BLOCKS, IMAGE_BYTES, NIBBLE_BYTES, Order, SECTORS, TRACKS};
 use std::alloc::Allocator;
 
 // The sectors of a disk.

@@ -1,8 +1,42 @@
 // A disk image in memory.
-ghost use Rattle.std.specs.Prelude.{◌≡◌, ◌≢◌, ◌+◌, ◌*◌, ◌<◌, ◌≤◌, ◌↔◌, length, IsTrue, IsErrOf, IsOk, IfSome, IfNone, IfOk, IfErr, OnOk, OnErr, Some, None, Err, [], slice_set};
+ghost use Rattle.std.specs.Prelude.{
+  ◌≡◌,
+  ◌≢◌,
+  ◌+◌,
+  ◌*◌,
+  ◌<◌,
+  ◌≤◌,
+  ◌↔◌,
+  length,
+  IsTrue,
+  IsErrOf,
+  IsOk,
+  IfSome,
+  IfNone,
+  IfOk,
+  IfErr,
+  OnOk,
+  OnErr,
+  Some,
+  None,
+  Err,
+  [],
+  slice_set,
+};
 ghost use Rattle.std.specs.Borrow.{sem};
-ghost use Rattle.sector_order.specs.Order.{IsImageLength};
-ghost use Rattle.a2_image.specs.Image.{IsDisk, IsOfDisk, IsOutside, LacksSector, HasSector, HoldsSectors, CanLend, sector_in, sectors_by, block_count};
+ghost use Rattle.a2_device.specs.Order.{IsImageLength};
+ghost use Rattle.a2_image.specs.Image.{
+  IsDisk,
+  IsOfDisk,
+  IsOutside,
+  LacksSector,
+  HasSector,
+  HoldsSectors,
+  CanLend,
+  sector_in,
+  sectors_by,
+  block_count,
+};
 ghost use Rattle.a2_image.specs.Blocks.{bytes_of_block, blocks as blocks_of_image};
 ghost use Rattle.a2_image.specs.Tracks.{WritesTrack};
 ghost use Rattle.a2_image.specs.Kept.{HasField, IsKept, kept_sectors};
@@ -13,8 +47,8 @@ use crate::ImageError;
 use crate::nibble::{fields_of_disk, read_kept, write_kept};
 use crate::part::{copy_part, replace};
 use crate::plain::{read_plain, write_plain};
+use a2_device::{BLOCK_BYTES, DISK_BLOCKS, Order, SECTORS, TRACKS};
 use a2_nibble::Field;
-use sector_order::{BLOCK_BYTES, DISK_BLOCKS, Order, SECTORS, TRACKS};
 use std::alloc::{Allocator, Global};
 use std::marker::Model;
 
@@ -147,8 +181,8 @@ impl<A: Allocator> Image<A> {
         Ok(())
     }
 
-    /// Writes a physical sector of a track; every other sector keeps its content. In nibble order no bytes change but the
-    /// 343 disk bytes of the sector.
+    /// Writes a physical sector of a track; every other sector keeps its content. In nibble order no bytes change but
+    /// the 343 disk bytes of the sector.
     ///
     /// # Errors
     /// `Number` for a track past 34 or a sector past 15, or where the image has not 280 blocks; `NoSector` where a
@@ -159,8 +193,10 @@ impl<A: Allocator> Image<A> {
         sector: u8,
         content: &[u8; SECTOR_BYTES],
     ) -> Result<(), ImageError>
-        ensures written { OnOk result (self.new.sectors ≡ slice_set self.old.sectors (16 * track + sector) (Some content.now)) }
-        ensures tracks { OnOk result (self.old.order ≡ Order.Nibble → WritesTrack self.old.bytes self.new.bytes track sector content.now) }
+        ensures written { OnOk result
+            (self.new.sectors ≡ slice_set self.old.sectors (16 * track + sector) (Some content.now)) }
+        ensures tracks { OnOk result
+            (self.old.order ≡ Order.Nibble → WritesTrack self.old.bytes self.new.bytes track sector content.now) }
         ensures kept { self.new.kept ≡ self.old.kept }
         ensures order { self.new.order ≡ self.old.order }
         ensures long { length self.new.bytes ≡ length self.old.bytes }
@@ -256,7 +292,8 @@ impl<A: Allocator> Image<A> {
     pub(crate) fn write_found(&mut self, track: u8, sector: u8, content: &[u8; SECTOR_BYTES])
         requires { HasSector self.old track sector }
         ensures written { self.new.sectors ≡ slice_set self.old.sectors (16 * track + sector) (Some content.now) }
-        ensures tracks { self.old.order ≡ Order.Nibble → WritesTrack self.old.bytes self.new.bytes track sector content.now }
+        ensures tracks { self.old.order ≡ Order.Nibble
+            → WritesTrack self.old.bytes self.new.bytes track sector content.now }
         ensures kept { self.new.kept ≡ self.old.kept }
         ensures order { self.new.order ≡ self.old.order }
         ensures long { length self.new.bytes ≡ length self.old.bytes }
@@ -313,8 +350,8 @@ impl<A: Allocator> Image<A> {
         self.bytes.len()
     }
 
-    /// The 256 bytes of a physical sector of a track, to be written where they lie; what is written there changes this sector
-    /// alone (`a_lent_sector_is_one`). No byte where `sector_ref` lends none.
+    /// The 256 bytes of a physical sector of a track, to be written where they lie; what is written there changes this
+    /// sector alone (`a_lent_sector_is_one`). No byte where `sector_ref` lends none.
     pub fn sector_mut(&mut self, track: u8, sector: u8) -> &mut [u8]
         ensures* writes_back { sem 𝓛 (LendsSector A.row A.Allocator self.entry track sector result) }
         ensures content { CanLend self.old track sector → sector_in self.old.sectors track sector ≡ Some result.now }

@@ -1,12 +1,12 @@
 // Laws of images.
 ghost use Rattle.std.specs.Prelude.{◌≡◌, ◌<◌, ◌+◌, ◌*◌, ℕ, List, Option, Some, length, slice_set};
-ghost use Rattle.sector_order.specs.Order.{IsImageLength};
+ghost use Rattle.a2_device.specs.Order.{IsImageLength};
 ghost use Rattle.a2_image.specs.Image.{DiskImage, CanLend, HoldsSectors, block_count};
 ghost use Rattle.a2_image.specs.KeptBytes.{HoldsKept};
 ghost use Rattle.a2_image.specs.Lending.{with_lent};
 ghost use Rattle.a2_image.specs.Blocks.{block_in, bytes_of_block};
 
-use sector_order::Order;
+use a2_device::Order;
 
 /// A law: the bytes of an image hold one list of sectors at most.
 pub fn sectors_are_one()
@@ -35,5 +35,6 @@ pub fn a_lent_sector_is_one()
         → IsImageLength image.order (length image.bytes)
         → HoldsSectors image.order image.bytes image.sectors
         → CanLend image track sector → length content ≡ 256
-        → (with_lent image track sector content).sectors ≡ slice_set image.sectors (16 * track + sector) (Some content) }
+        → (with_lent image track sector content).sectors
+        ≡ slice_set image.sectors (16 * track + sector) (Some content) }
 {}

@@ -7,12 +7,12 @@ ghost use Rattle.a2_image.specs.Lending.{is_lent, lent_range};
 use crate::Image;
 use crate::image::SECTOR_BYTES;
 use crate::plain::{lent_plain, stored_number};
-use sector_order::{BLOCK_BYTES, DISK_BLOCKS, Order, SECTORS, TRACKS};
+use a2_device::{BLOCK_BYTES, DISK_BLOCKS, Order, SECTORS, TRACKS};
 use std::alloc::Allocator;
 
 impl<A: Allocator> Image<A> {
-    /// The 256 bytes of a physical sector of a track, as they lie in the image. `None` in nibble order, for a track past
-    /// 34 or a sector past 15, and where the image has not 280 blocks.
+    /// The 256 bytes of a physical sector of a track, as they lie in the image. `None` in nibble order, for a track
+    /// past 34 or a sector past 15, and where the image has not 280 blocks.
     pub fn sector_ref(&self, track: u8, sector: u8) -> Option<&[u8]>
         ensures value { IfSome result (λ content. sector_in self.now.sectors track sector ≡ Some content.now) }
         ensures long { IfSome result (λ content. length content.now ≡ 256) }
@@ -24,8 +24,8 @@ impl<A: Allocator> Image<A> {
         Some(lent_plain(self.stored(), self.order(), track, sector))
     }
 
-    /// The 512 bytes of a block, as they lie in the image. `None` in another order than that of ProDOS, and for a number
-    /// from `blocks()` on.
+    /// The 512 bytes of a block, as they lie in the image. `None` in another order than that of ProDOS, and for a
+    /// number from `blocks()` on.
     pub fn block_ref(&self, number: u32) -> Option<&[u8]>
         ensures value { IfSome result (λ content. block_in self.now number ≡ Some content.now) }
         ensures long { IfSome result (λ content. length content.now ≡ 512) }

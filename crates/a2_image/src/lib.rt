@@ -1,12 +1,12 @@
 //! Images of 5.25-inch disks: 35 tracks of 16 sectors of 256 bytes, in memory.
 //!
-//! The model of an image is its order, its bytes, its sectors and the bytes that no write may change (`specs/Image.antt`).
-//! The sectors are a list, one for each track and physical sector, whatever the order: nothing above this crate needs to
-//! know how an image is laid out. A write may change a byte of a sector alone (`specs/KeptBytes.antt`): in nibble order one of
-//! the 343 disk bytes of its field, in another order any byte.
-//! Invariant: an image has a length of its order, and its sectors are those that its bytes hold. An image in nibble order
-//! keeps the field of each sector from its opening on, so no later call searches a track; a write leaves every field
-//! where it was.
+//! The model of an image is its order, its bytes, its sectors and the bytes that no write may change
+//! (`specs/Image.antt`). The sectors are a list, one for each track and physical sector, whatever the order: nothing
+//! above this crate needs to know how an image is laid out. A write may change a byte of a sector alone
+//! (`specs/KeptBytes.antt`): in nibble order one of the 343 disk bytes of its field, in another order any byte.
+//! Invariant: an image has a length of its order, and its sectors are those that its bytes hold. An image in nibble
+//! order keeps the field of each sector from its opening on, so no later call searches a track; a write leaves every
+//! field where it was.
 #![tactic(auto)]
 
 mod blocks;

@@ -9,8 +9,8 @@ ghost use Rattle.a2_image.specs.Converting.{AreMadeFields};
 
 use crate::SECTOR_BYTES;
 use crate::part::replace;
+use a2_device::TRACKS;
 use a2_nibble::{Field, SECTORS, TRACK_LEN, fields_of_track, read_field, write_field};
-use sector_order::TRACKS;
 use std::alloc::{AllocError, Allocator};
 
 // How many sectors, and fields, a disk has.

@@ -4,7 +4,7 @@ ghost use Rattle.a2_image.specs.Image.{number_in, sector_in, sectors_by};
 
 use crate::SECTOR_BYTES;
 use crate::part::replace;
-use sector_order::Order;
+use a2_device::Order;
 
 // How many sectors such an image has before this one.
 pub(crate) fn stored_number(order: Order, track: u8, sector: u8) -> usize
@@ -51,7 +51,8 @@ pub(crate) fn write_plain(
 )
     requires whole { length bytes.old ≡ 143360 }
     requires exists { (track < 35) × (sector < 16) }
-    ensures { sectors_by order bytes.new ≡ slice_set (sectors_by order bytes.old) (16 * track + sector) (Some content.now) }
+    ensures { sectors_by order bytes.new
+        ≡ slice_set (sectors_by order bytes.old) (16 * track + sector) (Some content.now) }
 {
     let start = SECTOR_BYTES * stored_number(order, track, sector);
     replace(bytes, start, content);

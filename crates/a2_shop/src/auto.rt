@@ -1,11 +1,10 @@
 // `auto` as a file system or an order.
 use crate::stop::Stop;
-use front_words::{AutoOption, asks_auto, in_place};
+use a2_device::Order;
 use image_readings::{Choice, best_reading, file_system_word, order_word};
-use image_volume::order_of;
-use sector_order::Order;
 use shop_jobs::{FileSystem, Job, image_order, volume_of};
-use shop_words::parse_words;
+use shop_replies::order_of;
+use shop_words::{AutoOption, asks_auto, in_place, parse_words};
 use std::alloc::{AllocError, Global};
 
 /// Whether a value of the words is `auto`.
@@ -25,15 +24,15 @@ fn put_in_place(
     in_place(alloc, put.as_slice(), AutoOption::Order, order_word(order))
 }
 
-/// The job of words with DOS 3.3 and DOS order in the place of each `auto`: what is wrong with the other words is told first,
-/// and the job says which image it is.
+/// The job of words with DOS 3.3 and DOS order in the place of each `auto`: what is wrong with the
+/// other words is told first, and the job says which image it is.
 pub fn standing_job(alloc: Global, words: &[String]) -> Result<Job, Stop> {
     let words = put_in_place(alloc, words, FileSystem::Dos, Order::Dos)?;
     Ok(parse_words(alloc, words.as_slice())?)
 }
 
-/// The job of words with the best reading of the image in the place of each `auto`, of the readings that have what the other
-/// words give.
+/// The job of words with the best reading of the image in the place of each `auto`, of the readings
+/// that have what the other words give.
 pub fn settled_job(
     alloc: Global,
     words: &[String],

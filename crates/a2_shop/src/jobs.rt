@@ -2,15 +2,13 @@
 use crate::placing::run_in_its_file;
 use crate::reading::run_on_units;
 use crate::stop::Stop;
-use image_volume::order_of;
-use job_endings::{Ending, Found, settle};
-use job_files::{JobFiles, OpenImage, extra_bytes, is_in_its_file};
-use job_reply::{Failure, Refusal, Reply, most_bytes};
-use sector_order::Order;
+use a2_device::Order;
 use shop_commands::{is_in_place, reply_to};
+use shop_files::{Ending, Found, JobFiles, OpenImage, extra_bytes, is_in_its_file, settle};
 use shop_jobs::{
     Job, certificate_path, image_order, image_path, is_on_standard_input, out_path, volume_of,
 };
+use shop_replies::{Failure, Refusal, Reply, most_bytes, order_of};
 use std::io::Write;
 
 // The most bytes that are read of an image, but for one that shows that there are more.
@@ -22,7 +20,8 @@ fn most_of(job: &Job) -> u32 {
     most_bytes(order) as u32
 }
 
-/// Looks where the files of a job lead. Two roles that one file has, of which one is written, are refused as words are.
+/// Looks where the files of a job lead. Two roles that one file has, of which one is written, are
+/// refused as words are.
 pub fn files_of(rt: &HostRuntime, job: &Job) -> Result<JobFiles, Stop> {
     let Ok(files) = JobFiles::of(rt, job) else {
         return Err(Stop::Failed(Failure::Memory));
@@ -52,7 +51,8 @@ pub fn open_image(
     }
 }
 
-/// Whether a job is to change its image in a file that it is not changed in, as the words say: no look at the file is needed.
+/// Whether a job is to change its image in a file that it is not changed in, as the words say: no
+/// look at the file is needed.
 pub fn is_out_of_place(job: &Job) -> bool {
     let is_kept = match volume_of(job) {
         Some(volume) => !is_on_standard_input(job) && is_in_its_file(volume),
@@ -80,7 +80,8 @@ fn hand_out<T: Write>(
     settle(out, certificate, status, told.as_slice(), text)
 }
 
-/// Does a job that is none in place on the bytes of its image, tells it and writes its output files.
+/// Does a job that is none in place on the bytes of its image, tells it and writes its output
+/// files.
 pub fn run_on_bytes<T: Write>(
     rt: &HostRuntime,
     job: &Job,
@@ -96,7 +97,8 @@ pub fn run_on_bytes<T: Write>(
     hand_out(rt, job, files, reply, text)
 }
 
-// Does a job on its image: in place, or on the units of its file that it needs, or on all of its bytes.
+// Does a job on its image: in place, or on the units of its file that it needs, or on all of its
+// bytes.
 fn run_on_image<T: Write>(
     rt: &HostRuntime,
     job: &Job,
@@ -114,7 +116,8 @@ fn run_on_image<T: Write>(
     Ok(run_on_bytes(rt, job, files, bytes, text))
 }
 
-/// Opens the image that a job names and does the job. The image is held, with its lock, until all is told and written.
+/// Opens the image that a job names and does the job. The image is held, with its lock, until all
+/// is told and written.
 pub fn run_opened<T: Write>(rt: &HostRuntime, job: &Job, text: &mut T) -> Result<Ending, Stop> {
     let files = files_of(rt, job)?;
     if is_out_of_place(job) {

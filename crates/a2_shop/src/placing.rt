@@ -6,13 +6,12 @@ ghost use Rattle.shop_commands.specs.Answer.{is_in_place as in_place};
 ghost use Rattle.shop_commands.specs.OnDevice.{HasUnitsFor};
 
 use a2_device::Device;
+use a2_media::{FileDevice, FileError, SystemFile};
 use device_jobs::Outcome;
-use file_device::{FileDevice, FileError, SystemFile};
-use job_endings::{Ending, Output, Unwritten};
-use job_files::{ImageDevice, JobFiles, OpenImage, extra_bytes};
-use job_reply::{Failure, Refusal, Reply};
 use shop_commands::run_job_in_place;
+use shop_files::{Ending, ImageDevice, JobFiles, OpenImage, Output, Unwritten, extra_bytes};
 use shop_jobs::{Job, certificate_path, volume_of};
+use shop_replies::{Failure, Refusal, Reply};
 use std::io::Write;
 
 // Why the file of an image has no units to be changed.
@@ -37,8 +36,8 @@ fn is_put_onto_disk(certificate: &mut Output<'_>, bytes: &[u8]) -> bool {
     certificate.write_all(bytes).is_ok() && certificate.flush_to_disk().is_ok()
 }
 
-// Tells that a volume is in order, and puts its certificate into its place. What is told is true of the image, so it is told
-// where the certificate can't be written too.
+// Tells that a volume is in order, and puts its certificate into its place. What is told is true of
+// the image, so it is told where the certificate can't be written too.
 fn end_in_order<T: Write>(
     outcome: Outcome,
     is_on_disk: bool,
@@ -83,7 +82,8 @@ fn run_on_device<T: Write>(
     text: &mut T,
 ) -> Ending
     requires job { in_place (job_view job.now) ≡ true }
-    requires units { HasUnitsFor (job_view job.now) (⟦<FileDevice<SystemFile> as Device>⟧.state device) }
+    requires units { HasUnitsFor (job_view job.now)
+        (⟦<FileDevice<SystemFile> as Device>⟧.state device) }
 {
     let extra = match extra_bytes(rt, job) {
         Ok(extra) => extra,

@@ -4,18 +4,16 @@ use crate::jobs::{files_of, is_out_of_place, open_image, run_on_bytes, run_opene
 use crate::placing::run_in_its_file;
 use crate::stop::Stop;
 use crate::streams::take_closed_streams;
+use a2_device::Order;
 use explanations::Overheard;
-use front_words::{asks_explain, asks_version, without_explain};
 use image_readings::{Choice, best_reading, file_system_word, order_word};
-use image_volume::order_of;
-use job_endings::{Found, explain, warn_of_order};
-use job_files::{JobFiles, OpenImage};
-use job_reply::{Failure, Refusal, Reply, most_bytes, written};
-use sector_order::Order;
 use shop_commands::{is_in_place, job_of_words};
+use shop_files::{Found, JobFiles, OpenImage, explain, warn_of_order};
 use shop_jobs::{
     Job, certificate_path, image_order, image_path, is_on_standard_input, out_path, volume_of,
 };
+use shop_replies::{Failure, Refusal, Reply, most_bytes, order_of, written};
+use shop_words::{asks_explain, asks_version, without_explain};
 use std::alloc::Global;
 use std::io::{self, BufWriter, ErrorKind, IsTerminal, Write};
 
@@ -140,8 +138,9 @@ fn run_standing<T: Write>(
     run_settled(rt, words, standing, read, found, text)
 }
 
-// Does what words ask for on the image in memory, so that `auto` can be settled by it, and notes what becomes known of it. A job is
-// owned where little is done with it: each exit that it leaves by is proved with all of its parts.
+// Does what words ask for on the image in memory, so that `auto` can be settled by it, and notes
+// what becomes known of it. A job is owned where little is done with it: each exit that it leaves
+// by is proved with all of its parts.
 fn run_in_memory<T: Write>(
     rt: &HostRuntime,
     words: &[String],
@@ -194,7 +193,8 @@ fn run_explained<T: Write>(rt: &HostRuntime, words: &[String], text: &mut T) -> 
 fn greet(rt: &HostRuntime, words: &[String]) {
     if words.is_empty() && rt.stdin().is_terminal() {
         let _ = eprintln!(rt;
-            "a2shop waits for the image of a DOS 3.3 disk on standard input; `a2shop --help` tells the commands."
+            "a2shop waits for the image of a DOS 3.3 disk on standard input; `a2shop --help` \
+                tells the commands."
         );
     }
 }
@@ -221,8 +221,9 @@ fn run_telling<T: Write>(rt: &HostRuntime, text: &mut T) -> u8 {
     run_plain(rt, words.as_slice(), text)
 }
 
-/// Does what the program's words ask for, and answers its status. Standard output is written through a buffer, so that a listing is
-/// not written a line at a time. What a write that failed has left in the buffer is not written again.
+/// Does what the program's words ask for, and answers its status. Standard output is written
+/// through a buffer, so that a listing is not written a line at a time. What a write that failed
+/// has left in the buffer is not written again.
 pub fn run(rt: &HostRuntime) -> u8 {
     let Ok(streams) = take_closed_streams(rt) else {
         return Reply::failed(Failure::Input).tell(&mut rt.stdout());

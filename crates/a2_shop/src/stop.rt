@@ -1,7 +1,7 @@
 // Why there is no job to be done.
-use job_files::Clash;
-use job_reply::{Failure, Reply, written};
 use shop_commands::tell_words_fault;
+use shop_files::Clash;
+use shop_replies::{Failure, Reply, written};
 use shop_words::WordsFault;
 use std::alloc::AllocError;
 use std::io::Write;

@@ -6,13 +6,15 @@ use std::os::fd::AsRawFd;
 /// The last of the three streams of a program.
 const STANDARD_ERROR: i32 = 2;
 
-/// What takes the descriptors of closed streams: no file that is opened later gets one, and what is written to one fails.
+/// What takes the descriptors of closed streams: no file that is opened later gets one, and what is
+/// written to one fails.
 #[derive(Drop)]
 pub struct Streams {
     _taken: [Option<File>; 3],
 }
 
-// A file that is read as empty and can't be written, or where the system has none, a folder, which can't be read either.
+// A file that is read as empty and can't be written, or where the system has none, a folder, which
+// can't be read either.
 fn open_nothing(rt: &HostRuntime) -> io::Result<File> {
     match File::open(rt, "/dev/null") {
         Ok(file) => Ok(file),

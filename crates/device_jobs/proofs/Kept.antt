@@ -5,17 +5,17 @@ use Rattle.std.specs.declared.alloc.Global.{Global}
 use Rattle.a2_device.specs.Device.{DeviceState}
 use Rattle.vol_format.specs.Meaning.{Meaning}
 use Rattle.file_formats.specs.Files.{FileMeaning}
-use Rattle.edit_writes.specs.declared.error.EditError.{EditError}
-use Rattle.edit_writes.specs.declared.error.EditError.TheVariants as edits
+use Rattle.edit_formats.specs.declared.error.EditError.{EditError}
+use Rattle.edit_formats.specs.declared.error.EditError.TheVariants as edits
 use Rattle.vol_mover.specs.Optimizing.{IsRefused}
 use Rattle.vol_mover.specs.declared.report.OptError.{OptError}
 use Rattle.vol_mover.specs.declared.report.OptError.TheVariants.{Open, Step, Memory}
-use Rattle.vol_opening.specs.declared.error.OpenError.TheVariants as opens
-use Rattle.job_reply.specs.declared.refusal.Failure.TheVariants as failures
-use Rattle.job_reply.specs.declared.refusal.Refusal.TheVariants as refusals
-use Rattle.job_reply.specs.declared.reply.Reply.{Reply}
-use Rattle.job_reply.specs.Reply.{failed, refused}
-use Rattle.image_volume.specs.Volume.{form_of, meaning_of}
+use Rattle.vol_mover.specs.declared.error.OpenError.TheVariants as opens
+use Rattle.shop_replies.specs.declared.refusal.Failure.TheVariants as failures
+use Rattle.shop_replies.specs.declared.refusal.Refusal.TheVariants as refusals
+use Rattle.shop_replies.specs.declared.reply.Reply.{Reply}
+use Rattle.shop_replies.specs.Reply.{failed, refused}
+use Rattle.shop_replies.specs.Volume.{form_of, meaning_of}
 use Rattle.shop_jobs.specs.declared.job.FileSystem.{FileSystem}
 use Rattle.volume_jobs.specs.EditRules.{EditRules}
 use Rattle.volume_jobs.specs.FileSystems.{edits_of, files_of}

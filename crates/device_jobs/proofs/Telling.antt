@@ -2,8 +2,8 @@
 use Rattle.std.proofs.Common.{◌≡◌, ◌∙◌, ℕ, List, ◌++◌, inl, inr, refl, sym}
 use Rattle.std.specs.Prelude.{Option}
 use Rattle.std.specs.Io.KnownBytes.{Appends}
-use Rattle.job_reply.specs.Reply.{IsWritten}
-use Rattle.job_reply.proofs.Appended.{appends_both, front_before, front_behind}
+use Rattle.shop_replies.specs.Reply.{IsWritten}
+use Rattle.shop_replies.proofs.Appended.{appends_both, front_before, front_behind}
 
 module _ (old mid new : Option (List ℕ)) (front rear : List ℕ) where
   then_written : (result : ℕ) → Appends old mid front → IsWritten 0 rear result mid new → IsWritten 0 (front ++ rear) result old new

@@ -5,12 +5,12 @@ use Rattle.vol_format.specs.Meaning.{Meaning}
 use Rattle.file_listings.specs.DosText.{Text}
 use Rattle.file_formats.specs.Files.{FileMeaning}
 use Rattle.shop_jobs.specs.declared.job.FileSystem.{FileSystem}
-use Rattle.job_reply.specs.declared.refusal.Refusal.TheVariants as refusals
-use Rattle.job_reply.specs.declared.refusal.Failure.TheVariants as failures
-use Rattle.job_reply.specs.declared.reply.Reply.{Reply}
-use Rattle.job_reply.specs.Reply.{failed, refused}
+use Rattle.shop_replies.specs.declared.refusal.Refusal.TheVariants as refusals
+use Rattle.shop_replies.specs.declared.refusal.Failure.TheVariants as failures
+use Rattle.shop_replies.specs.declared.reply.Reply.{Reply}
+use Rattle.shop_replies.specs.Reply.{failed, refused}
 use Rattle.volume_jobs.specs.EditRules.{EditRules}
-use Rattle.image_volume.specs.Volume.{form_of}
+use Rattle.shop_replies.specs.Volume.{form_of}
 use Rattle.volume_jobs.specs.VolumeReply.{NamesPlaces}
 use Rattle.volume_jobs.specs.Work.{WorkView, Optimize, Change, Save}
 use Rattle.device_jobs.specs.EditOutcome.{IsEditOutcome}

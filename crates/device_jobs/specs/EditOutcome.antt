@@ -6,9 +6,9 @@ use Rattle.file_listings.specs.DosText.{Text}
 use Rattle.file_formats.specs.Files.{FileMeaning}
 use Rattle.edit_formats.specs.Edited.{HasChanged}
 use Rattle.edit_formats.specs.Renamed.{IsRenameRefusal}
-use Rattle.edit_writes.specs.Writes.{HasEdited}
-use Rattle.edit_writes.specs.declared.error.EditError.{EditError}
-use Rattle.edit_writes.specs.declared.error.EditError.TheVariants.{Device}
+use Rattle.edit_formats.specs.Writes.{HasEdited}
+use Rattle.edit_formats.specs.declared.error.EditError.{EditError}
+use Rattle.edit_formats.specs.declared.error.EditError.TheVariants.{Device}
 use Rattle.shop_jobs.specs.Job.{EditView}
 use Rattle.volume_jobs.specs.EditReply.{AreWritesOf, IsCause, IsOldOrEdited, edited_files}
 use Rattle.volume_jobs.specs.EditRules.{EditRules}

@@ -8,9 +8,9 @@ use Rattle.vol_mover.specs.Optimizing.{IsNoFailure, IsRefused}
 use Rattle.vol_mover.specs.Report.{IsReported}
 use Rattle.vol_mover.specs.declared.report.OptError.{OptError}
 use Rattle.vol_mover.specs.declared.report.OptError.TheVariants.{Open, Step, Memory}
-use Rattle.job_reply.specs.declared.refusal.Failure.TheVariants as failures
-use Rattle.job_reply.specs.declared.reply.Reply.{Reply}
-use Rattle.job_reply.specs.Reply.{failed}
+use Rattle.shop_replies.specs.declared.refusal.Failure.TheVariants as failures
+use Rattle.shop_replies.specs.declared.reply.Reply.{Reply}
+use Rattle.shop_replies.specs.Reply.{failed}
 use Rattle.reading_jobs.specs.PlanReply.{TellsOpening}
 use Rattle.device_jobs.specs.declared.outcome.Outcome.{Outcome}
 use Rattle.device_jobs.specs.declared.outcome.Outcome.TheVariants.{Optimized, Changed, Unfinished}

@@ -1,7 +1,7 @@
 -- What became of work that changes a volume where it stands, and how it is told.
 use Rattle.std.specs.Prelude.{ℕ, Bool, codes, if◌then◌else◌}
 use Rattle.file_listings.specs.DosText.{Text}
-use Rattle.job_reply.specs.Reply.{status_of, text_of}
+use Rattle.shop_replies.specs.Reply.{status_of, text_of}
 use Rattle.volume_jobs.specs.OptimizeReply.{report_text}
 use Rattle.device_jobs.specs.declared.outcome.Outcome.{Outcome}
 use Rattle.device_jobs.specs.declared.outcome.Outcome.TheVariants.{Optimized, Changed, Unfinished}

@@ -4,11 +4,11 @@ use Rattle.a2_device.specs.Device.{DeviceState}
 use Rattle.vol_format.specs.Meaning.{Meaning}
 use Rattle.file_listings.specs.DosText.{Text}
 use Rattle.shop_jobs.specs.declared.job.FileSystem.{FileSystem}
-use Rattle.job_reply.specs.declared.refusal.Refusal.TheVariants as refusals
-use Rattle.job_reply.specs.declared.refusal.Failure.TheVariants as failures
-use Rattle.job_reply.specs.declared.reply.Reply.{Reply}
-use Rattle.job_reply.specs.Reply.{failed, refused}
-use Rattle.image_volume.specs.Volume.{form_of}
+use Rattle.shop_replies.specs.declared.refusal.Refusal.TheVariants as refusals
+use Rattle.shop_replies.specs.declared.refusal.Failure.TheVariants as failures
+use Rattle.shop_replies.specs.declared.reply.Reply.{Reply}
+use Rattle.shop_replies.specs.Reply.{failed, refused}
+use Rattle.shop_replies.specs.Volume.{form_of}
 use Rattle.volume_jobs.specs.VolumeReply.{NamesPlaces}
 use Rattle.device_jobs.specs.Units.{OfReserved}
 

@@ -2,15 +2,15 @@
 use Rattle.std.specs.Prelude.{◌≡◌, ◌⊎◌, ◌<◌, ◌≤◌, ℕ, List, length, IfErr, IfSome, IsTrue, OnOk, Result, Err}
 use Rattle.a2_device.specs.Device.{DeviceState}
 use Rattle.vol_format.specs.Meaning.{Meaning}
-use Rattle.edit_writes.specs.Writes.{HasEdited}
-use Rattle.edit_writes.specs.declared.error.EditError.{EditError}
-use Rattle.edit_writes.specs.declared.error.EditError.TheVariants.{Device}
-use Rattle.file_saving.specs.Saved.{IsSaveRefusal}
+use Rattle.edit_formats.specs.Writes.{HasEdited}
+use Rattle.edit_formats.specs.declared.error.EditError.{EditError}
+use Rattle.edit_formats.specs.declared.error.EditError.TheVariants.{Device}
+use Rattle.file_edits.specs.Saved.{IsSaveRefusal}
 use Rattle.given_file.specs.Content.{GivenView, IsTooLongForHead, most_input}
 use Rattle.save_formats.specs.Saves.{SaveMeaning}
-use Rattle.job_reply.specs.declared.refusal.Refusal.TheVariants as refusals
-use Rattle.job_reply.specs.declared.refusal.Failure.TheVariants as failures
-use Rattle.job_reply.specs.Reply.{failed, refused}
+use Rattle.shop_replies.specs.declared.refusal.Refusal.TheVariants as refusals
+use Rattle.shop_replies.specs.declared.refusal.Failure.TheVariants as failures
+use Rattle.shop_replies.specs.Reply.{failed, refused}
 use Rattle.volume_jobs.specs.Refusals.{refusal_of_edit}
 use Rattle.volume_jobs.specs.SaveReply.{AreSaveWrites, HasGivenSaved, IsOldOrGivenSaved, IsSaveCause}
 use Rattle.device_jobs.specs.EditOutcome.{TellsEdit}

@@ -3,7 +3,7 @@ use Rattle.std.specs.Prelude.{Bool, Option, List}
 use Rattle.vol_format.specs.Meaning.{Meaning}
 use Rattle.file_listings.specs.DosText.{Text}
 use Rattle.shop_jobs.specs.declared.job.FileSystem.{FileSystem}
-use Rattle.image_volume.specs.Volume.{form_of, meaning_of}
+use Rattle.shop_replies.specs.Volume.{form_of, meaning_of}
 use Rattle.volume_jobs.specs.VolumeReply.{ReservesNamed}
 
 -- this is said of what the units mean, where the words reserve these places

@@ -3,6 +3,7 @@ ghost use Rattle.std.specs.Prelude.{◌≡◌};
 ghost use Rattle.shop_jobs.specs.Job.{edit_view};
 ghost use Rattle.volume_jobs.specs.EditRules.{edit_rules};
 ghost use Rattle.device_jobs.specs.EditOutcome.{IsEditOutcome};
+ghost use Rattle.vol_format.specs.Fits.{Fits};
 
 use crate::outcome::Outcome;
 use a2_device::Device;
@@ -19,9 +20,9 @@ pub fn edit_in_place<D: Device, F: SavableFormat>(
     edit: &Edit,
     name: &[u8],
 ) -> Outcome
-    requires unit { (D.state device.old).unit_size ≡ (F.meaning format.now).unit_size }
-    requires places { (F.meaning format.now).Takes (D.state device.old).places }
-    ensures { IsEditOutcome (edit_view edit.now) name.now (F.files format.now) (edit_rules (F.edits format.now) (F.names format.now) (F.erasures format.now) (F.saves format.now))
+    requires fits { Fits (F.meaning format.now) (D.state device.old) }
+    ensures { IsEditOutcome (edit_view edit.now) name.now (F.files format.now)
+        (edit_rules (F.edits format.now) (F.names format.now) (F.erasures format.now) (F.saves format.now))
         (F.meaning format.now) (D.state device.old) (D.state device.new) result }
 {
     match edit_file(alloc, device, format, edit, name) {

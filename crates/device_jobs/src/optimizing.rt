@@ -1,11 +1,12 @@
 // The work that brings the files of a volume into order where they stand.
 ghost use Rattle.std.specs.Prelude.{◌≡◌};
 ghost use Rattle.device_jobs.specs.OptimizeOutcome.{IsOptimizeOutcome, TellsError};
+ghost use Rattle.vol_format.specs.Fits.{Fits};
 
 use crate::outcome::Outcome;
 use a2_device::Device;
-use job_reply::{Failure, Reply};
 use reading_jobs::unopened_reply;
+use shop_replies::{Failure, Reply};
 use std::alloc::Global;
 use vol_format::WritableFormat;
 use vol_mover::{OptError, Options, optimize};
@@ -29,8 +30,7 @@ pub fn optimize_in_place<D: Device, F: WritableFormat>(
     reclaim: bool,
     limit: u64,
 ) -> (Outcome, D)
-    requires unit { (D.state device).unit_size ≡ (F.meaning format.now).unit_size }
-    requires places { (F.meaning format.now).Takes (D.state device).places }
+    requires fits { Fits (F.meaning format.now) (D.state device) }
     ensures { IsOptimizeOutcome reclaim limit (F.meaning format.now) (D.state device) (D.state result.1) result.0 }
 {
     match optimize(alloc, device, format, Options { reclaim }, limit) {

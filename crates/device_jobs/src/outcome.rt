@@ -1,11 +1,11 @@
 // What became of work that changes a volume where it stands.
 ghost use Rattle.std.specs.Prelude.{◌≡◌};
-ghost use Rattle.job_reply.specs.Reply.{IsWritten};
+ghost use Rattle.shop_replies.specs.Reply.{IsWritten};
 ghost use Rattle.volume_jobs.specs.OptimizeReply.{report_text};
 ghost use Rattle.device_jobs.specs.Outcome.{outcome_status, outcome_text};
 
 use crate::report_line::line_of;
-use job_reply::{FAILED, Reply, written};
+use shop_replies::{FAILED, Reply, written};
 use std::io::Write;
 use vol_mover::Report;
 
@@ -34,7 +34,8 @@ fn tell_report<T: Write>(report: &Report, text: &mut T) -> u8
 impl Outcome {
     /// Writes the text of an outcome and answers its status, 4 where the writer fails. Takes no memory.
     pub fn tell<T: Write>(self, text: &mut T) -> u8
-        ensures { IsWritten (outcome_status self) (outcome_text self) result (T.contents text.old) (T.contents text.new) }
+        ensures { IsWritten (outcome_status self) (outcome_text self) result (T.contents text.old)
+            (T.contents text.new) }
     {
         match self {
             Outcome::Optimized(report) => tell_report(&report, text),

@@ -37,7 +37,8 @@ fn end_word(finished: bool) -> &'static str
 
 /// The line of a report, with its end.
 pub fn line_of(report: &Report) -> ArrayString<MOST>
-    ensures { result.bytes ≡ line (report_line report.now.moves report.now.rings report.now.misplaced report.now.map_writes report.now.finished) }
+    ensures { result.bytes ≡ line
+        (report_line report.now.moves report.now.rings report.now.misplaced report.now.map_writes report.now.finished) }
 {
     let mut line = ArrayString::new();
     put_number(&mut line, "moves ", report.moves);

@@ -1,8 +1,8 @@
 -- The chain of catalog sectors, as it stands in a store (Beneath Apple DOS, chapter 4).
 use Rattle.std.specs.Prelude.{◌≡◌, ◌≢◌, ◌⊎◌, ◌≤◌, ℕ, ◌+◌, List, [], ◌∷◌, slice_index, AllPairs, Contains}
 use Rattle.a2_device.specs.Device.{unit_at}
-use Rattle.vol_parts.specs.declared.fault.Fault.{Fault}
-use Rattle.vol_parts.specs.declared.fault.Fault.TheVariants.{CatalogLink}
+use Rattle.a2_device.specs.declared.fault.Fault.{Fault}
+use Rattle.a2_device.specs.declared.fault.Fault.TheVariants.{CatalogLink}
 
 -- a link names a sector of track 17, from 1 to 15
 abbrev pub IsLink : List ℕ → Type 0

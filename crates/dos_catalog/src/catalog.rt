@@ -1,20 +1,40 @@
 // The chain of catalog sectors.
-ghost use Rattle.std.specs.Prelude.{◌≡◌, ◌≢◌, ◌⊎◌, ◌<◌, ◌++◌, [], ◌∷◌, ◌+◌, ℕ, List, true, false, length, slice_get, OnOk, IfOk, IfErr, IfSome, IfNone, IsTrue};
+ghost use Rattle.std.specs.Prelude.{
+  ◌≡◌,
+  ◌≢◌,
+  ◌⊎◌,
+  ◌<◌,
+  ◌++◌,
+  [],
+  ◌∷◌,
+  ◌+◌,
+  ℕ,
+  List,
+  true,
+  false,
+  length,
+  slice_get,
+  OnOk,
+  IfOk,
+  IfErr,
+  IfSome,
+  IfNone,
+  IsTrue,
+};
 ghost use Rattle.std.specs.Option.{option_or};
 ghost use Rattle.a2_device.specs.Device.{OnlyReads, unit_at};
 ghost use Rattle.a2_device.specs.Reading.{met_device};
-ghost use Rattle.vol_parts.specs.declared.fault.Fault.{Fault};
-ghost use Rattle.vol_parts.specs.declared.fault.WalkError.TheVariants.{Fault as AFault};
+ghost use Rattle.a2_device.specs.declared.fault.Fault.{Fault};
+ghost use Rattle.a2_device.specs.declared.fault.WalkError.TheVariants.{Fault as AFault};
 ghost use Rattle.dos_catalog.specs.Entry.{entries_of, entries_in, free_slots_in};
 ghost use Rattle.dos_catalog.specs.Catalog.{IsLink, IsCatalog, CatalogFaultAt, linked};
 ghost use Rattle.dos_catalog.specs.Walk.{is_met, first_free_of};
 
 use crate::Entry;
 use crate::entry::ENTRIES;
-use a2_device::Device;
+use a2_device::{Device, Fault, WalkError};
 use dos_vtoc::{VTOC_PLACE, Vtoc};
 use std::alloc::{AllocError, Allocator, Global};
-use vol_parts::{Fault, WalkError};
 
 /// The track of the VTOC and of the catalog.
 const CATALOG_TRACK: u8 = 17;
@@ -59,8 +79,10 @@ fn first_free(place: u32, unit: &[u8; 256]) -> Option<(u32, u32)>
 
 // The sector that a link names, unless it is none of the catalog's or was met before.
 fn next_sector(unit: &[u8; 256], met: &[bool; 16]) -> Option<u8>
-    ensures some { IfSome result (λ sector. IsLink unit.now × (272 + sector ≡ linked unit.now) × (sector < 16) × (is_met met.now sector ≡ false)) }
-    ensures none { IfNone result ((¬ IsLink unit.now) ⊎ (IsLink unit.now × (sector : ℕ) × (linked unit.now ≡ 272 + sector) × (is_met met.now sector ≡ true))) }
+    ensures some { IfSome result (λ sector. IsLink unit.now × (272 + sector ≡ linked unit.now) × (sector < 16)
+        × (is_met met.now sector ≡ false)) }
+    ensures none { IfNone result ((¬ IsLink unit.now)
+        ⊎ (IsLink unit.now × (sector : ℕ) × (linked unit.now ≡ 272 + sector) × (is_met met.now sector ≡ true))) }
 {
     let sector = unit[2];
     if unit[1] != CATALOG_TRACK || sector == 0 || sector > 15 || met[sector as usize] {
@@ -100,7 +122,8 @@ impl<A: Allocator> Catalog<A> {
         ensures sectors { OnOk result (self.new.sectors.items ≡ self.old.sectors.items ++ place ∷ []) }
         ensures entries { OnOk result (self.new.entries.items ≡ self.old.entries.items ++ entries_of place unit.new) }
         ensures free { OnOk result (self.new.free ≡ option_or self.old.free (first_free_of place unit.new)) }
-        ensures unit { IsTrue (D.state device.old).honest → OnOk result (unit.new ≡ unit_at (D.state device.old).store place) }
+        ensures unit { IsTrue (D.state device.old).honest
+            → OnOk result (unit.new ≡ unit_at (D.state device.old).store place) }
     {
         if device.read(place, unit).is_err() {
             return Err(WalkError::Device);
@@ -112,8 +135,8 @@ impl<A: Allocator> Catalog<A> {
     /// Walks over the catalog of the volume that has this VTOC.
     ///
     /// # Errors
-    /// `Fault` with `CatalogLink`, which names the sector with a link that is none of track 17, sectors 1 to 15, or leads
-    /// to a sector already met; `Device` where a read fails; `Memory`.
+    /// `Fault` with `CatalogLink`, which names the sector with a link that is none of track 17, sectors 1 to 15, or
+    /// leads to a sector already met; `Device` where a read fails; `Memory`.
     pub fn walk<D: Device>(alloc: A, device: &mut D, vtoc: &Vtoc) -> Result<Catalog<A>, WalkError>
     where
         A: Copy,
@@ -127,10 +150,12 @@ impl<A: Allocator> Catalog<A> {
             → IfOk result (λ catalog. IsCatalog (D.state device.old).store (sectors_of_catalog catalog)
             × (entries_of_catalog catalog ≡ entries_in (D.state device.old).store (sectors_of_catalog catalog))) }
         ensures free { IsTrue (D.state device.old).honest → vtoc.now ≡ unit_at (D.state device.old).store 272
-            → IfOk result (λ catalog. free_slot_of_catalog catalog ≡ slice_get (free_slots_in (D.state device.old).store (sectors_of_catalog catalog)) 0) }
+            → IfOk result (λ catalog. free_slot_of_catalog catalog
+            ≡ slice_get (free_slots_in (D.state device.old).store (sectors_of_catalog catalog)) 0) }
         ensures refused { IsTrue (D.state device.old).honest → vtoc.now ≡ unit_at (D.state device.old).store 272
             → IfErr result (λ e. (fault : Fault) → e ≡ AFault fault
-            → CatalogFaultAt (D.state device.old).store fault × ((sectors : List ℕ) → ¬ IsCatalog (D.state device.old).store sectors)) }
+            → CatalogFaultAt (D.state device.old).store fault
+            × ((sectors : List ℕ) → ¬ IsCatalog (D.state device.old).store sectors)) }
     {
         let mut unit = *vtoc.bytes();
         let mut holder = VTOC_PLACE;

@@ -2,9 +2,9 @@
 use Rattle.std.specs.Prelude.{◌≡◌, ◌⊎◌, ◌<◌, ◌≤◌, ℕ, zero, suc, ◌+◌, ◌*◌, ◌/◌, ◌%◌, ◌==◌, nat_lt, if◌then◌else◌, Bool, true, List, length, slice_index}
 use Rattle.std.proofs.Common.{refl, sym, ◌∙◌, ap, subst, arith, inl, inr}
 use Rattle.std.proofs.lemmas.Bool.Decides.{nat_tests}
-use Rattle.vol_parts.specs.declared.part.Part.{Part}
-use Rattle.vol_parts.specs.declared.part.PartKind.{PartKind}
-use Rattle.vol_parts.specs.declared.part.PartKind.TheVariants.{List as AList, Body}
+use Rattle.a2_device.specs.declared.part.Part.{Part}
+use Rattle.a2_device.specs.declared.part.PartKind.{PartKind}
+use Rattle.a2_device.specs.declared.part.PartKind.TheVariants.{List as AList, Body}
 use Rattle.dos_vtoc.specs.Vtoc.{link_of}
 use Rattle.dos_catalog.specs.declared.slot.NewEntry.{NewEntry}
 use Rattle.dos_tslist.specs.Pointers.{pair_offset, pointer_of, pair_of}
@@ -12,7 +12,7 @@ use Rattle.vol_format.specs.declared.link.Link.{Link}
 use Rattle.vol_format.specs.declared.link.Link.TheVariants.{Null, To}
 use Rattle.dos_format.specs.Dos.{link_to, list_link, dos_child, dos_pointers, dos_meaning, CanNameDos}
 use Rattle.dos_format.specs.lemmas.DosBytes.{stored, link_to-place}
-use Rattle.edit_laws.specs.Built.{Planned, part_of, place_of, unit_of, built_link, IsBuilt}
+use Rattle.vol_laws.specs.Built.{Planned, part_of, place_of, unit_of, built_link, IsBuilt}
 use Rattle.dos_entries.specs.Plan.{NamesAt, IsDosPlan}
 use Rattle.dos_entries.specs.Slots.{new_listed}
 

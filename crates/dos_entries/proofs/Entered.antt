@@ -4,7 +4,7 @@ use Rattle.std.proofs.Common.{refl, sym, ◌∙◌, ap, arith, subst, inl, inr, 
 use Rattle.std.proofs.lemmas.Bool.Decides.{nat_tests}
 use Rattle.std.proofs.lemmas.List.{take_at, get_or-set_same}
 use Rattle.a2_device.specs.Device.{unit_at}
-use Rattle.vol_parts.specs.declared.part.PartKind.TheVariants.{List as AList}
+use Rattle.a2_device.specs.declared.part.PartKind.TheVariants.{List as AList}
 use Rattle.dos_catalog.specs.declared.slot.NewEntry.{NewEntry}
 use Rattle.dos_catalog.specs.Entry.{entry_at, is_in_use, entries_in}
 use Rattle.dos_catalog.specs.Catalog.{IsCatalog}
@@ -14,7 +14,7 @@ use Rattle.vol_format.specs.Directory.{Directory, entries}
 use Rattle.dos_format.specs.Dos.{dos_entry, dos_directory, DescribesDos, CanNameDos}
 use Rattle.dos_format.specs.lemmas.DosBytes.{link_to-place}
 use Rattle.dos_format.specs.lemmas.DosDirectory.{length-numbered}
-use Rattle.edit_laws.specs.Inserted.{inserted}
+use Rattle.vol_laws.specs.Inserted.{inserted}
 use Rattle.dos_entries.specs.Slots.{IsFreeSlot, number_of_slot, new_listed, entry_written}
 use Rattle.dos_entries.proofs.OneMore.{number_within, more_described}
 use Rattle.dos_entries.proofs.SlotWrites.{fills, says_of, below_last}

@@ -16,12 +16,12 @@ use Rattle.dos_format.specs.lemmas.DosChain.{HaveSameLinks, catalog_same}
 use Rattle.dos_format.specs.lemmas.DosDirectory.{length-numbered, entry_of-dos, no_list}
 use Rattle.dos_format.specs.lemmas.DosEntries.{each_entry, each_in_use, on_track, entries_apart}
 use Rattle.dos_format.specs.lemmas.DosRoots.{each_stored}
-use Rattle.edit_laws.specs.Entered.{HasSameRest}
-use Rattle.edit_laws.specs.Inserted.{inserted, shifted_entry}
+use Rattle.vol_laws.specs.Entered.{HasSameRest}
+use Rattle.vol_laws.specs.Inserted.{inserted, shifted_entry}
 use Rattle.dos_entries.specs.Slots.{IsUsedSlot, number_of_slot}
 use Rattle.dos_entries.specs.Rewriting.{sector_of_entry, entry_erased}
 use Rattle.dos_entries.specs.Erasing.{HasErased}
-use Rattle.edit_laws.proofs.Inserting.{insert_here, length-insert_at}
+use Rattle.vol_laws.proofs.Inserting.{insert_here, length-insert_at}
 use Rattle.dos_entries.proofs.OneMore.{IsFilled, number_within, directory_more}
 use Rattle.dos_entries.proofs.SlotWrites.{empties, says_of, on_catalog, below_last, sector_written}
 use Rattle.dos_entries.proofs.Windows.{IsSameOutside}

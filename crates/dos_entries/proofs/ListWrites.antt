@@ -3,11 +3,11 @@ use Rattle.std.specs.Prelude.{◌≡◌, ◌≢◌, ◌<◌, ◌≤◌, ℕ, ◌
 use Rattle.std.proofs.Common.{sym, ◌∙◌, ap, subst, arith, inl, inr}
 use Rattle.std.proofs.lemmas.Bool.{cases_eq, cases_lt}
 use Rattle.std.proofs.lemmas.List.{get_or-replicate}
-use Rattle.vol_parts.specs.declared.part.Part.{Part}
+use Rattle.a2_device.specs.declared.part.Part.{Part}
 use Rattle.dos_catalog.specs.Writes.{with_place}
 use Rattle.dos_tslist.specs.Pointers.{pair_offset, link_offset}
 use Rattle.dos_format.specs.lemmas.DosBytes.{byte-with_place_other, track-with_place, sector-with_place}
-use Rattle.edit_laws.specs.Built.{Planned, part_of, place_of}
+use Rattle.vol_laws.specs.Built.{Planned, part_of, place_of}
 use Rattle.dos_entries.specs.Plan.{NamesAt, HasPairs, HasLink, HaveSameParts}
 
 module _ (count : ℕ) (planned : List Planned) (n : ℕ) where

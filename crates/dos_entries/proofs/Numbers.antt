@@ -2,14 +2,14 @@
 use Rattle.std.specs.Prelude.{◌≡◌, ◌<◌, ◌≤◌, ◌+◌, ◌*◌, ℕ, zero, suc, nat_lt, ◌||◌, if◌then◌else◌, Bool, true, false, List, [], ◌∷◌, length, map, Option, Some, None, slice_set}
 use Rattle.std.proofs.Common.{refl, sym, ◌∙◌, ap, arith, add-zero}
 use Rattle.std.proofs.lemmas.Bool.Decides.{nat_tests}
-use Rattle.vol_parts.specs.declared.part.PartKind.{PartKind}
-use Rattle.vol_parts.specs.declared.part.PartKind.TheVariants.{List as AList}
+use Rattle.a2_device.specs.declared.part.PartKind.{PartKind}
+use Rattle.a2_device.specs.declared.part.PartKind.TheVariants.{List as AList}
 use Rattle.dos_catalog.specs.declared.entry.Entry.{Entry}
 use Rattle.dos_tslist.specs.Reach.{entry_pointer}
 use Rattle.vol_format.specs.declared.link.Link.{Link}
 use Rattle.vol_format.specs.declared.link.Link.TheVariants.{Wild, To}
 use Rattle.dos_format.specs.Dos.{link_to, dos_entry, numbered}
-use Rattle.edit_laws.specs.Inserted.{insert_at, shifted, shifted_link, shifted_entry}
+use Rattle.vol_laws.specs.Inserted.{insert_at, shifted, shifted_link, shifted_entry}
 
 pub numbered_set : (all : List Entry) (from k : ℕ) (entry : Entry) → numbered from (slice_set all k entry) ≡ slice_set (numbered from all) k (dos_entry (from + k) entry)
 numbered_set [] from k entry = refl

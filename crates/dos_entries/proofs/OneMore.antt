@@ -13,9 +13,9 @@ use Rattle.vol_format.specs.Directory.{Listed}
 use Rattle.dos_format.specs.Dos.{dos_entry, numbered, dos_directory, DescribesDos}
 use Rattle.dos_format.specs.lemmas.DosChain.{HaveSameLinks, catalog_same, sectors_on_track}
 use Rattle.dos_format.specs.lemmas.DosDirectory.{no_list}
-use Rattle.edit_laws.specs.Inserted.{insert_at, inserted, shifted_entry}
+use Rattle.vol_laws.specs.Inserted.{insert_at, inserted, shifted_entry}
 use Rattle.dos_entries.specs.Slots.{number_of_slot}
-use Rattle.edit_laws.proofs.Filling.{filter_filled, flat_filled, index_within, length-filter_take}
+use Rattle.vol_laws.proofs.Filling.{filter_filled, flat_filled, index_within, length-filter_take}
 use Rattle.dos_entries.proofs.Numbers.{numbered_more}
 
 -- Two stores that differ in one slot of one sector alone, which has no entry in use in the first and one in the second.

@@ -10,7 +10,7 @@ use Rattle.dos_format.specs.lemmas.DosDirectory.{length-numbered, entry_of-dos, 
 use Rattle.dos_format.specs.lemmas.DosEntries.{on_track}
 use Rattle.dos_format.specs.lemmas.DosMarks.{track_inside}
 use Rattle.dos_format.specs.lemmas.DosWritable.{entry_on_track}
-use Rattle.edit_laws.specs.Entered.{HasSameRest}
+use Rattle.vol_laws.specs.Entered.{HasSameRest}
 use Rattle.dos_entries.specs.Rewriting.{place_of_entry, slot_of_entry}
 
 -- a write to a unit of the system leaves the others

@@ -13,7 +13,7 @@ use Rattle.dos_format.specs.lemmas.DosDirectory.{length-numbered, entry_of-dos, 
 use Rattle.dos_format.specs.lemmas.DosEntries.{on_track}
 use Rattle.dos_format.specs.lemmas.DosRoots.{IsStored, each_stored}
 use Rattle.dos_format.specs.lemmas.DosSlots.{same_window}
-use Rattle.edit_laws.specs.Inserted.{rewritten}
+use Rattle.vol_laws.specs.Inserted.{rewritten}
 use Rattle.dos_entries.specs.Rewriting.{with_kind, with_name, place_of_entry, slot_of_entry, sector_of_entry, kind_written, name_written}
 use Rattle.dos_entries.proofs.Windows.{IsSameOutside, length-with_bytes, byte_before, byte_within, byte_behind, window_cell, length-window}
 use Rattle.dos_entries.proofs.Rewritten.{rewritten_at}

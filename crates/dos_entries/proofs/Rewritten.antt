@@ -4,7 +4,7 @@ use Rattle.std.proofs.Common.{sym, ◌∙◌, ap, arith, subst, get_or, inl, inr
 use Rattle.std.proofs.lemmas.Bool.{cases_eq}
 use Rattle.std.proofs.lemmas.List.{length-set, get_or-take, get_or-drop, get_or-set_same, get_or-set_other}
 use Rattle.a2_device.specs.Device.{unit_at}
-use Rattle.vol_parts.specs.declared.part.PartKind.TheVariants.{List as AList}
+use Rattle.a2_device.specs.declared.part.PartKind.TheVariants.{List as AList}
 use Rattle.dos_vtoc.specs.Vtoc.{HasGeometry}
 use Rattle.dos_catalog.specs.declared.entry.Entry.{Entry}
 use Rattle.dos_catalog.specs.Entry.{entry_at, is_in_use, entries_in}
@@ -20,7 +20,7 @@ use Rattle.dos_format.specs.lemmas.DosDirectory.{entry_of-dos, no_list}
 use Rattle.dos_format.specs.lemmas.DosEntries.{each_in_use, on_track, entries_apart}
 use Rattle.dos_format.specs.lemmas.DosRoots.{IsStored, each_stored}
 use Rattle.dos_format.specs.lemmas.DosTurned.{with_entry, entries_turned, one_turned}
-use Rattle.edit_laws.specs.Inserted.{rewritten}
+use Rattle.vol_laws.specs.Inserted.{rewritten}
 use Rattle.dos_entries.proofs.Numbers.{numbered_set}
 use Rattle.dos_entries.proofs.Windows.{IsSameOutside, other_slot}
 

@@ -12,11 +12,11 @@ use Rattle.vol_format.specs.Directory.{Directory, is_system}
 use Rattle.dos_format.specs.Dos.{DescribesDos, dos_meaning, dos_with_free}
 use Rattle.dos_format.specs.lemmas.DosChain.{IsOnTrack, HaveSameLinks, catalog_same, sectors_on_track}
 use Rattle.dos_format.specs.lemmas.DosMarks.{track_inside}
-use Rattle.write_laws.specs.Marked.{with_marks}
-use Rattle.write_laws.specs.declared.mark.Mark.{Mark}
+use Rattle.vol_laws.specs.Marked.{with_marks}
+use Rattle.vol_laws.specs.declared.mark.Mark.{Mark}
 use Rattle.dos_entries.specs.SameCatalog.{HasSameCatalog}
 use Rattle.dos_entries.specs.Slots.{IsFreeSlot, number_of_slot}
-use Rattle.edit_laws.specs.Inserted.{index_in_all}
+use Rattle.vol_laws.specs.Inserted.{index_in_all}
 
 -- a unit written outside the system
 pub outside_leaves : (data_disk : Bool) (reserved : List Bool) (store : List (List ℕ)) (directory : Directory) (place : ℕ) (unit : List ℕ)

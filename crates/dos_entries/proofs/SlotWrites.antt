@@ -11,7 +11,7 @@ use Rattle.vol_format.specs.Directory.{Directory, is_system}
 use Rattle.dos_format.specs.Dos.{dos_directory, DescribesDos}
 use Rattle.dos_format.specs.lemmas.DosChain.{IsOnTrack, sectors_on_track}
 use Rattle.dos_format.specs.lemmas.DosMarks.{track_inside}
-use Rattle.edit_laws.specs.Entered.{HasSameRest}
+use Rattle.vol_laws.specs.Entered.{HasSameRest}
 use Rattle.dos_entries.proofs.OneMore.{IsFilled}
 use Rattle.dos_entries.proofs.Places.{system_written}
 use Rattle.dos_entries.proofs.Windows.{IsSameOutside, other_slot}

@@ -2,8 +2,8 @@
 use Rattle.std.specs.Prelude.{◌≡◌, ◌≤◌, ℕ, Bool, List}
 use Rattle.vol_format.specs.Directory.{Directory, entries, entry_of}
 use Rattle.dos_format.specs.Dos.{DescribesDos}
-use Rattle.edit_laws.specs.Entered.{HasSameRest}
-use Rattle.edit_laws.specs.Inserted.{inserted}
+use Rattle.vol_laws.specs.Entered.{HasSameRest}
+use Rattle.vol_laws.specs.Inserted.{inserted}
 
 -- A directory with one entry less describes the store; with the deleted entry among its entries, under its number, they are those that there were.
 pub record HasErased (data_disk : Bool) (reserved : List Bool) (directory : Directory) (file : ℕ) (old new : List (List ℕ)) : Type 0 where

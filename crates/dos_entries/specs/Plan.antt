@@ -1,9 +1,9 @@
 -- The plan of a new file: its track/sector lists first, then the units of its body (Beneath Apple DOS, chapter 4).
 use Rattle.std.specs.Prelude.{◌≡◌, ◌≢◌, ◌⊎◌, ◌<◌, ◌≤◌, ℕ, ◌+◌, ◌*◌, ◌/◌, ◌%◌, List, length, slice_index}
-use Rattle.vol_parts.specs.declared.part.PartKind.TheVariants.{List as AList, Body}
+use Rattle.a2_device.specs.declared.part.PartKind.TheVariants.{List as AList, Body}
 use Rattle.dos_tslist.specs.Pointers.{pair_offset, link_offset}
 use Rattle.dos_format.specs.Dos.{CanNameDos}
-use Rattle.edit_laws.specs.Built.{Planned, part_of, place_of, unit_of}
+use Rattle.vol_laws.specs.Built.{Planned, part_of, place_of, unit_of}
 
 -- a track and a sector stand at a byte of a unit
 abbrev pub NamesAt : List ℕ → ℕ → ℕ → Type 0

@@ -2,13 +2,13 @@
 use Rattle.std.specs.Prelude.{◌≡◌, ◌<◌, ℕ, ◌/◌, ◌%◌, true, false, List, ◌∷◌, ◌++◌, [], length, take, map, filter, slice_set, Contains}
 use Rattle.std.specs.List.{range_with_len}
 use Rattle.a2_device.specs.Device.{unit_at}
-use Rattle.vol_parts.specs.declared.part.PartKind.TheVariants.{List as AList}
+use Rattle.a2_device.specs.declared.part.PartKind.TheVariants.{List as AList}
 use Rattle.dos_catalog.specs.declared.slot.NewEntry.{NewEntry}
 use Rattle.dos_catalog.specs.Entry.{entry_at, is_in_use, entries_of}
 use Rattle.dos_catalog.specs.Writes.{slot_offset, with_bytes, entry_bytes}
 use Rattle.vol_format.specs.declared.link.Link.TheVariants.{To}
 use Rattle.vol_format.specs.Directory.{Listed}
-use Rattle.edit_laws.specs.Inserted.{index_in_all}
+use Rattle.vol_laws.specs.Inserted.{index_in_all}
 
 -- a slot of a catalog sector, which has an entry in use, or none
 pub record IsUsedSlot (store : List (List ℕ)) (sectors : List ℕ) (place slot : ℕ) : Type 0 where

@@ -1,18 +1,23 @@
-//! One slot of the catalog of a DOS 3.3 volume that is filled, emptied or rewritten, and the lists and the body of a new file.
+//! One slot of the catalog of a DOS 3.3 volume that is filled, emptied or rewritten, and the lists and the body of a
+//! new file.
 //!
-//! Nothing here runs: each function is a law, with an empty body and its contract for the statement. `dos_catalog` writes a slot in a sector that is lent
-//! to it, and `dos_tslist` a pointer of a list. The laws say what the store with that sector means, for every directory that described it before:
+//! Nothing here runs: each function is a law, with an empty body and its contract for the statement. `dos_catalog`
+//! writes a slot in a sector that is lent to it, and `dos_tslist` a pointer of a list. The laws say what the store with
+//! that sector means, for every directory that described it before:
 //!
-//! - a new entry in a free slot is one entry more, with the number that the slot has among the entries in use (`specs/Slots.antt`, `entering`), and the
-//!   first free slot that a walk over the catalog answers is such a slot,
-//! - units of files and marks of places, written before that, leave the slot free and under the same number (`specs/SameCatalog.antt`, `elsewhere`),
+//! - a new entry in a free slot is one entry more, with the number that the slot has among the entries in use
+//!   (`specs/Slots.antt`, `entering`), and the first free slot that a walk over the catalog answers is such a slot,
+//! - units of files and marks of places, written before that, leave the slot free and under the same number
+//!   (`specs/SameCatalog.antt`, `elsewhere`),
 //! - an entry deleted is one entry less (`specs/Erasing.antt`, `erasing`),
 //! - a kind or a name written gives one entry that kind or that name (`specs/Rewriting.antt`, `rewriting`),
-//! - lists whose pairs and links name the planned places are, with the units of the body there, what an entry that points to the first list leads to;
-//!   and each pair or link that is written brings the unit of a list nearer to that (`specs/Plan.antt`, `planning`).
+//! - lists whose pairs and links name the planned places are, with the units of the body there, what an entry that
+//!   points to the first list leads to; and each pair or link that is written brings the unit of a list nearer to that
+//!   (`specs/Plan.antt`, `planning`).
 //!
-//! With each goes that the slot stands in a sector of the system, so that the units of the files are as they were. These are the premises of the laws of
-//! `edit_laws`, of which one more asks that a unit means the same in a file of any number (`formats`).
+//! With each goes that the slot stands in a sector of the system, so that the units of the files are as they were.
+//! These are the premises of the laws of `vol_laws`, of which one more asks that a unit means the same in a file of
+//! any number (`formats`).
 #![tactic(auto)]
 
 mod elsewhere;

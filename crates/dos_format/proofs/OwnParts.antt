@@ -3,9 +3,9 @@ use Rattle.std.specs.Prelude.{◌≡◌, ◌↔◌, ◌<◌, ℕ, zero, suc, ◌
 use Rattle.std.proofs.Common.{sym, ◌∙◌, ap, arith, subst}
 use Rattle.std.proofs.lemmas.Option.{slice_get_within, get_or_from_slice_get}
 use Rattle.a2_device.specs.Device.{unit_at}
-use Rattle.vol_parts.specs.declared.part.Part.{Part}
-use Rattle.vol_parts.specs.declared.part.PartKind.{PartKind}
-use Rattle.vol_parts.specs.declared.part.PartKind.TheVariants.{List as AList, Master, Index, Body}
+use Rattle.a2_device.specs.declared.part.Part.{Part}
+use Rattle.a2_device.specs.declared.part.PartKind.{PartKind}
+use Rattle.a2_device.specs.declared.part.PartKind.TheVariants.{List as AList, Master, Index, Body}
 use Rattle.dos_vtoc.specs.Vtoc.{link_of}
 use Rattle.dos_catalog.specs.declared.entry.Entry.{Entry}
 use Rattle.dos_catalog.specs.Entry.{entries_in}
@@ -17,7 +17,7 @@ use Rattle.vol_format.specs.declared.link.Link.{Link}
 use Rattle.vol_format.specs.declared.link.Link.TheVariants.{Wild, To}
 use Rattle.vol_format.specs.Directory.{Directory, Listed, entries, root_of}
 use Rattle.vol_format.specs.Reach.{Reach, at_root, at_child}
-use Rattle.vol_files.specs.Layout.{IsPartsOfFile}
+use Rattle.vol_format.specs.Layout.{IsPartsOfFile}
 use Rattle.dos_format.specs.Dos.{DescribesDos, dos_child, dos_meaning, link_to, list_link}
 use Rattle.dos_format.specs.lemmas.DosDirectory.{length-numbered, entry_of-dos}
 use Rattle.dos_format.specs.lemmas.DosLaws.{link_to-To, list_link_cases, dos_child-To}

@@ -7,7 +7,7 @@ use Rattle.std.proofs.lemmas.List.FromFn.{get_or-map-range_with_len, filter_of_m
 use Rattle.dos_vtoc.specs.Vtoc.{is_free as is_vtoc_free, order_of}
 use Rattle.dos_catalog.specs.declared.entry.Entry.{Entry}
 use Rattle.dos_tslist.specs.Reach.{entry_pointer}
-use Rattle.vol_parts.specs.declared.part.PartKind.TheVariants.{List as AList}
+use Rattle.a2_device.specs.declared.part.PartKind.TheVariants.{List as AList}
 use Rattle.vol_format.specs.declared.link.Link.{Link}
 use Rattle.vol_format.specs.Directory.{Listed, entries, entry_of, root_of, is_system, is_free}
 use Rattle.dos_format.specs.Dos.{link_to, dos_entry, is_dos_system, first_available, dos_available, dos_free, dos_directory}

@@ -8,12 +8,12 @@ ghost use Rattle.dos_format.specs.Dos.{is_dos_system, dos_available, link_to, do
 ghost use Rattle.std.specs.Prelude.{IfErr};
 ghost use Rattle.a2_device.specs.Device.{OnlyReads, unit_at};
 ghost use Rattle.a2_device.specs.Reading.{met_device};
-ghost use Rattle.vol_parts.specs.declared.fault.Fault.{Fault};
-ghost use Rattle.vol_parts.specs.declared.fault.Fault.TheVariants.{Geometry};
-ghost use Rattle.vol_parts.specs.declared.fault.WalkError.TheVariants.{Fault as AFault};
+ghost use Rattle.a2_device.specs.declared.fault.Fault.{Fault};
+ghost use Rattle.a2_device.specs.declared.fault.Fault.TheVariants.{Geometry};
+ghost use Rattle.a2_device.specs.declared.fault.WalkError.TheVariants.{Fault as AFault};
 ghost use Rattle.dos_vtoc.specs.Vtoc.{HasGeometry};
 
-use a2_device::Device;
+use a2_device::{Device, Fault, Part, PartKind, WalkError};
 use dos_catalog::{Catalog, Entry};
 use dos_tslist::{PAIRS, next, pair};
 use dos_vtoc::{VTOC_PLACE, Vtoc};
@@ -21,7 +21,6 @@ use reserved_places::Reserved;
 use std::alloc::{AllocError, Allocator, Global};
 use std::marker::Model;
 use vol_format::{Format, Holder, Link, PlaceOrder};
-use vol_parts::{Fault, Part, PartKind, WalkError};
 
 /// The places of a volume: 35 tracks of 16 sectors.
 const PLACES: u32 = 560;
@@ -155,7 +154,8 @@ impl<A: Allocator + Copy> Format for Dos33<A> {
 
     ghost readable = { λ f. dos_is_readable f.data_disk f.reserved };
 
-    ghost rooted = { λ f v. dos_is_directory f.data_disk f.reserved (vtoc_of v) (entries_of_catalog (catalog_of v)) v.on_track };
+    ghost rooted = { λ f v.
+        dos_is_directory f.data_disk f.reserved (vtoc_of v) (entries_of_catalog (catalog_of v)) v.on_track };
 
     fn volume<D: Device>(&self, device: &mut D) -> Result<DosVolume<A>, WalkError> {
         let vtoc = read_vtoc(device)?;
@@ -234,7 +234,8 @@ pub fn read_vtoc<D: Device>(device: &mut D) -> Result<Vtoc, WalkError>
     requires places { (D.state device.old).places ≡ 560 }
 
     ensures device { OnlyReads (met_device result) (D.state device.old) (D.state device.new) }
-    ensures value { IsTrue (D.state device.old).honest → IfOk result (λ vtoc. (vtoc ≡ unit_at (D.state device.old).store 272) × HasGeometry vtoc) }
+    ensures value { IsTrue (D.state device.old).honest
+        → IfOk result (λ vtoc. (vtoc ≡ unit_at (D.state device.old).store 272) × HasGeometry vtoc) }
     ensures refused { IsTrue (D.state device.old).honest → IfErr result (λ e. (fault : Fault) → e ≡ AFault fault
         → (fault ≡ Geometry 272) × ¬ HasGeometry (unit_at (D.state device.old).store 272)) }
 {

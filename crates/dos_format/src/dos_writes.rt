@@ -3,16 +3,16 @@ ghost use Rattle.std.specs.Prelude.{◌≡◌, ◌<◌, ℕ, length, IfSome, IfN
 ghost use Rattle.dos_format.specs.DosHolders.{IsListBefore, dos_slot};
 
 use crate::dos::{Dos33, DosVolume};
+use a2_device::{Part, PartKind};
 use dos_catalog::set_pointer;
 use dos_tslist::{PAIRS, set_next, set_pair};
 use dos_vtoc::{VTOC_PLACE, set_free, set_used};
 use std::alloc::Allocator;
 use vol_format::{Format, Holder, WritableFormat};
 use vol_layout::Layout;
-use vol_parts::{Part, PartKind};
 
-// The list that names part k: the nearest list before it, if that is of the same file. A list names at most 122 units of
-// the body, so in the parts of a volume it is at most that many parts away.
+// The list that names part k: the nearest list before it, if that is of the same file. A list names at most 122 units
+// of the body, so in the parts of a volume it is at most that many parts away.
 fn list_before(parts: &[Part], k: u32) -> Option<u32>
     requires { k < length parts.now }
     ensures some { IfSome result (λ list. IsListBefore parts.now k list) }

@@ -1,8 +1,8 @@
 //! The formats of volumes: DOS 3.3.
 //!
-//! `Dos33` says what the units of a DOS 3.3 volume mean (`specs/Dos.antt`), over the map, the catalog and the lists that the crates below
-//! read, and meets the laws of `vol_format`: those of reading (`specs/lemmas/DosLaws.antt`), of moves (`specs/lemmas/DosMovable.antt`) and of writes to the
-//! system's sectors (`specs/lemmas/DosWritable.antt`).
+//! `Dos33` says what the units of a DOS 3.3 volume mean (`specs/Dos.antt`), over the map, the catalog and the lists
+//! that the crates below read, and meets the laws of `vol_format`: those of reading (`specs/lemmas/DosLaws.antt`), of
+//! moves (`specs/lemmas/DosMovable.antt`) and of writes to the system's sectors (`specs/lemmas/DosWritable.antt`).
 #![tactic(auto)]
 
 mod dos;

@@ -7,17 +7,17 @@ use Rattle.std.proofs.lemmas.List.Elements.{Contains-append_left, Contains-appen
 use Rattle.std.proofs.lemmas.List.Quantifiers.{all_pairs_push}
 use Rattle.std.proofs.lemmas.List.{get_or-set_same, get_or-set_other, get_or_default}
 use Rattle.a2_device.specs.Device.{unit_at}
-use Rattle.vol_parts.specs.declared.part.Part.{Part}
-use Rattle.vol_parts.specs.declared.part.PartKind.{PartKind}
-use Rattle.vol_parts.specs.declared.part.PartKind.TheVariants.{List as AList, Body, Master, Index}
-use Rattle.vol_parts.specs.declared.fault.Fault.{Fault}
-use Rattle.vol_parts.specs.declared.fault.Fault.TheVariants.{Geometry, CatalogLink, DirLink, MapPointer, StorageType, OutOfRange, InSystem, Shared, MarkedFree}
+use Rattle.a2_device.specs.declared.part.Part.{Part}
+use Rattle.a2_device.specs.declared.part.PartKind.{PartKind}
+use Rattle.a2_device.specs.declared.part.PartKind.TheVariants.{List as AList, Body, Master, Index}
+use Rattle.a2_device.specs.declared.fault.Fault.{Fault}
+use Rattle.a2_device.specs.declared.fault.Fault.TheVariants.{Geometry, CatalogLink, DirLink, MapPointer, StorageType, OutOfRange, InSystem, Shared, MarkedFree}
 use Rattle.dos_vtoc.specs.Vtoc.{link_of}
 use Rattle.dos_tslist.specs.Pointers.{pair_of}
 use Rattle.dos_tslist.specs.Reach.{InFile, PlacedAt, ListAt, BodyAt, IsPartsOf, HasNoWild, FileFaultAt, rank, rank_of, is_wild, place_named}
 use Rattle.dos_tslist.specs.Walk.{IsWalked, IsRefusedAt, IsPairing, IsAtList, pointed, part_of}
-use Rattle.vol_parts.proofs.Tables.{only_one, first_one, tabled, empty_table}
-use Rattle.vol_parts.specs.Table.{IsTable}
+use Rattle.a2_device.proofs.Tables.{only_one, first_one, tabled, empty_table}
+use Rattle.a2_device.specs.Table.{IsTable}
 
 -- two lists of one number stand at one place
 pub one_list : (store : List (List ℕ)) (first : Option (ℕ × ℕ)) (number list other : ℕ) → ListAt store first number list → ListAt store first number other → list ≡ other

@@ -1,11 +1,11 @@
 -- What is known at each moment of a walk over a file.
 use Rattle.std.specs.Prelude.{◌≡◌, ◌≢◌, ◌⊎◌, ◌↔◌, ◌<◌, ℕ, suc, ◌+◌, ◌*◌, Bool, true, false, List, [], ◌∷◌, Option, Some, None, not, count_by, ◌≤◌, slice_index_or, AllPairs, Contains}
 use Rattle.a2_device.specs.Device.{unit_at}
-use Rattle.vol_parts.specs.Table.{IsTable}
-use Rattle.vol_parts.specs.declared.part.Part.{Part}
-use Rattle.vol_parts.specs.declared.part.PartKind.{PartKind}
-use Rattle.vol_parts.specs.declared.fault.Fault.{Fault}
-use Rattle.vol_parts.specs.declared.fault.Fault.TheVariants.{OutOfRange, Shared}
+use Rattle.a2_device.specs.Table.{IsTable}
+use Rattle.a2_device.specs.declared.part.Part.{Part}
+use Rattle.a2_device.specs.declared.part.PartKind.{PartKind}
+use Rattle.a2_device.specs.declared.fault.Fault.{Fault}
+use Rattle.a2_device.specs.declared.fault.Fault.TheVariants.{OutOfRange, Shared}
 use Rattle.dos_vtoc.specs.Vtoc.{link_of}
 use Rattle.dos_tslist.specs.Pointers.{pair_of}
 use Rattle.dos_tslist.specs.Reach.{InFile, ListAt, rank, is_wild, place_named}

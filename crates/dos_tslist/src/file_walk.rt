@@ -1,24 +1,64 @@
 // The parts of one file.
-ghost use Rattle.std.specs.Prelude.{◌≡◌, ◌≢◌, ◌⊎◌, ◌<◌, ◌≤◌, ◌+◌, ◌*◌, ◌++◌, [], ◌∷◌, ℕ, suc, List, Option, Some, true, false, not, length, count_by, OnOk, IfOk, IfErr, IfSome, IsTrue, All, AllPairs, Contains, slice_index_or, slice_index, slice_set, vec_items};
+ghost use Rattle.std.specs.Prelude.{
+  ◌≡◌,
+  ◌≢◌,
+  ◌⊎◌,
+  ◌<◌,
+  ◌≤◌,
+  ◌+◌,
+  ◌*◌,
+  ◌++◌,
+  [],
+  ◌∷◌,
+  ℕ,
+  suc,
+  List,
+  Option,
+  Some,
+  true,
+  false,
+  not,
+  length,
+  count_by,
+  OnOk,
+  IfOk,
+  IfErr,
+  IfSome,
+  IsTrue,
+  All,
+  AllPairs,
+  Contains,
+  slice_index_or,
+  slice_index,
+  slice_set,
+  vec_items,
+};
 ghost use Rattle.a2_device.specs.Device.{OnlyReads, unit_at};
 ghost use Rattle.a2_device.specs.Reading.{met_device};
-ghost use Rattle.vol_parts.specs.declared.part.Part.{Part};
-ghost use Rattle.vol_parts.specs.declared.part.PartKind.TheVariants.{List as AList, Body};
-ghost use Rattle.vol_parts.specs.declared.fault.Fault.{Fault};
-ghost use Rattle.vol_parts.specs.declared.fault.Fault.TheVariants.{OutOfRange, Shared};
-ghost use Rattle.vol_parts.specs.declared.fault.WalkError.TheVariants.{Fault as AFault, Device as ADevice};
+ghost use Rattle.a2_device.specs.declared.part.Part.{Part};
+ghost use Rattle.a2_device.specs.declared.part.PartKind.TheVariants.{List as AList, Body};
+ghost use Rattle.a2_device.specs.declared.fault.Fault.{Fault};
+ghost use Rattle.a2_device.specs.declared.fault.Fault.TheVariants.{OutOfRange, Shared};
+ghost use Rattle.a2_device.specs.declared.fault.WalkError.TheVariants.{Fault as AFault, Device as ADevice};
 ghost use Rattle.dos_vtoc.specs.Vtoc.{link_of};
 ghost use Rattle.dos_tslist.specs.Pointers.{pair_of};
-ghost use Rattle.dos_tslist.specs.Reach.{IsPartsOf, HasNoWild, FileFaultAt, ListAt, entry_pointer, is_wild, place_named};
+ghost use Rattle.dos_tslist.specs.Reach.{
+  IsPartsOf,
+  HasNoWild,
+  FileFaultAt,
+  ListAt,
+  entry_pointer,
+  is_wild,
+  place_named,
+};
 ghost use Rattle.dos_tslist.specs.Walk.{pointed, part_of, IsWalked, IsRefusedAt, IsPairing};
-ghost use Rattle.vol_parts.specs.Table.{IsTable};
+ghost use Rattle.a2_device.specs.Table.{IsTable};
 
 use crate::pointers::pointer_at;
 use crate::{PAIRS, next, pair};
-use a2_device::Device;
+use a2_device::{Device, Fault, Part, PartKind, WalkError};
 use dos_catalog::Entry;
 use std::alloc::{AllocError, Allocator, Global};
-use vol_parts::{Fault, Part, PartKind, WalkError};
 
 const PLACES: usize = 560;
 
@@ -64,7 +104,8 @@ impl<A: Allocator> FileWalk<A> {
         ensures file { self.new.file ≡ self.old.file }
         ensures size { length self.new.met ≡ 560 }
         ensures met { OnOk result (self.new.met ≡ slice_set self.old.met place true) }
-        ensures parts { OnOk result (self.new.parts.items ≡ self.old.parts.items ++ part_of self.old.file kind number place ∷ []) }
+        ensures parts { OnOk result
+            (self.new.parts.items ≡ self.old.parts.items ++ part_of self.old.file kind number place ∷ []) }
     {
         self.met[place as usize] = true;
         self.parts.push(Part {
@@ -90,10 +131,14 @@ impl<A: Allocator> FileWalk<A> {
         ensures tame { IfOk result (λ _. is_wild pointer ≡ false) }
         ensures named { IfOk result (λ place. place ≡ place_named pointer) }
         ensures within { IfOk result (λ place. IfSome place (λ p. p < 560)) }
-        ensures parts { IfOk result (λ _. self.new.parts.items ≡ self.old.parts.items ++ pointed self.old.file kind number (place_named pointer)) }
-        ensures table { IfOk result (λ _. IsTable self.old.met self.old.parts.items → IsTable self.new.met self.new.parts.items) }
-        ensures unmet { IfOk result (λ _. count_by not self.new.met + length (pointed self.old.file kind number (place_named pointer)) ≡ count_by not self.old.met) }
-        ensures refused { IfErr result (λ e. (fault : Fault) → e ≡ AFault fault → IsRefusedAt self.old.met holder pointer fault) }
+        ensures parts { IfOk result (λ _.
+            self.new.parts.items ≡ self.old.parts.items ++ pointed self.old.file kind number (place_named pointer)) }
+        ensures table { IfOk result (λ _. IsTable self.old.met self.old.parts.items
+            → IsTable self.new.met self.new.parts.items) }
+        ensures unmet { IfOk result (λ _. count_by not self.new.met + length
+            (pointed self.old.file kind number (place_named pointer)) ≡ count_by not self.old.met) }
+        ensures refused { IfErr result (λ e. (fault : Fault) → e ≡ AFault fault
+            → IsRefusedAt self.old.met holder pointer fault) }
     {
         if is_outside(pointer) {
             return Err(WalkError::Fault(Fault::OutOfRange(holder)));
@@ -114,10 +159,15 @@ impl<A: Allocator> FileWalk<A> {
         ensures file { self.new.file ≡ self.old.file }
         ensures size { length self.new.met ≡ 560 }
         ensures no_device { IfErr result (λ e. e ≢ ADevice) }
-        ensures pairing { OnOk result (IsPairing self.old.file number holder unit.now self.old.met self.new.met self.old.parts.items self.new.parts.items 122) }
-        ensures refused { (store : List (List ℕ)) (first : Option (ℕ × ℕ)) (entry : ℕ) → unit_at store holder ≡ unit.now → ListAt store first number holder
-            → IsTable self.old.met self.old.parts.items → IsWalked store self.old.file first (123 * number + 1) self.old.parts.items
-            → IfErr result (λ e. (fault : Fault) → e ≡ AFault fault → FileFaultAt store self.old.file first entry fault) }
+        ensures pairing { OnOk result
+            (IsPairing self.old.file number holder unit.now self.old.met self.new.met
+            self.old.parts.items self.new.parts.items 122) }
+        ensures refused { (store : List (List ℕ)) (first : Option (ℕ × ℕ)) (entry : ℕ) → unit_at store holder ≡ unit.now
+            → ListAt store first number holder
+            → IsTable self.old.met self.old.parts.items
+            → IsWalked store self.old.file first (123 * number + 1) self.old.parts.items
+            → IfErr result (λ e. (fault : Fault) → e ≡ AFault fault
+            → FileFaultAt store self.old.file first entry fault) }
     {
         for index in 0..PAIRS {
             self.follow(
@@ -138,7 +188,8 @@ fn read_list<D: Device>(device: &mut D, place: u32, unit: &mut [u8; 256]) -> Res
 
     ensures device { OnlyReads (met_device result) (D.state device.old) (D.state device.new) }
     ensures no_fault { IfErr result (λ e. (fault : Fault) → e ≢ AFault fault) }
-    ensures unit { IsTrue (D.state device.old).honest → OnOk result (unit.new ≡ unit_at (D.state device.old).store place) }
+    ensures unit { IsTrue (D.state device.old).honest
+        → OnOk result (unit.new ≡ unit_at (D.state device.old).store place) }
 {
     if device.read(place, unit).is_err() {
         return Err(WalkError::Device);
@@ -146,13 +197,13 @@ fn read_list<D: Device>(device: &mut D, place: u32, unit: &mut [u8; 256]) -> Res
     Ok(())
 }
 
-/// The parts of one file in order: its first track/sector list, the units that the list's pairs name by their number, the
-/// second list, its units, and so on. `file` is the number that the parts get.
+/// The parts of one file in order: its first track/sector list, the units that the list's pairs name by their number,
+/// the second list, its units, and so on. `file` is the number that the parts get.
 ///
 /// # Errors
 /// `Fault` with `OutOfRange`, which names the list with a pointer that names no place of the disk (for the entry's own
-/// pointer, the entry's sector), or `Shared`, which names a place that the file reaches twice; `Device` where a read fails;
-/// `Memory`.
+/// pointer, the entry's sector), or `Shared`, which names a place that the file reaches twice; `Device` where a read
+/// fails; `Memory`.
 pub fn walk<A: Allocator, D: Device>(
     alloc: A,
     device: &mut D,
@@ -163,8 +214,10 @@ pub fn walk<A: Allocator, D: Device>(
     requires places { (D.state device.old).places ≡ 560 }
 
     ensures device { OnlyReads (met_device result) (D.state device.old) (D.state device.new) }
-    ensures parts { IsTrue (D.state device.old).honest → IfOk result (λ parts. IsPartsOf (D.state device.old).store file (entry_pointer entry.now) (vec_items parts)) }
-    ensures tame { IsTrue (D.state device.old).honest → IfOk result (λ _. HasNoWild (D.state device.old).store (entry_pointer entry.now)) }
+    ensures parts { IsTrue (D.state device.old).honest
+        → IfOk result (λ parts. IsPartsOf (D.state device.old).store file (entry_pointer entry.now) (vec_items parts)) }
+    ensures tame { IsTrue (D.state device.old).honest
+        → IfOk result (λ _. HasNoWild (D.state device.old).store (entry_pointer entry.now)) }
     ensures once { IfOk result (λ parts. AllPairs (λ part later. part.place ≢ later.place) (vec_items parts)) }
     ensures within { IfOk result (λ parts. All (λ (part : Part). part.place < 560) (vec_items parts)) }
     ensures refused { IsTrue (D.state device.old).honest → IfErr result (λ e. (fault : Fault) → e ≡ AFault fault

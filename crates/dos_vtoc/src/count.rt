@@ -39,7 +39,8 @@ pub(crate) fn free_in_map(vtoc: &[u8; 256]) -> u32
 // How many sectors are free on the four tracks whose bytes begin here.
 fn free_in_group(vtoc: &[u8], at: usize) -> u32
     requires { at + 16 ≤ length vtoc.now }
-    ensures { result ≡ ones_of_track vtoc.now at + ones_of_track vtoc.now (at + 4) + ones_of_track vtoc.now (at + 8) + ones_of_track vtoc.now (at + 12) }
+    ensures { result ≡ ones_of_track vtoc.now at + ones_of_track vtoc.now (at + 4) + ones_of_track vtoc.now
+        (at + 8) + ones_of_track vtoc.now (at + 12) }
 {
     let used = u8x16::from_slice(&vtoc[at..]) & u8x16::from_array(USED);
     used.count_ones().strict_reduce_sum() as u32

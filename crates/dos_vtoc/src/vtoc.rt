@@ -1,11 +1,40 @@
 // The sector that says what is free.
-ghost use Rattle.std.specs.Prelude.{◌≡◌, ◌≢◌, ◌<◌, ◌↔◌, ◌^◌, ◌%◌, ℕ, true, false, IsOk, IfOk, IfErr, IfSome, IfNone, IsTrue, slice_index};
-ghost use Rattle.dos_vtoc.specs.Vtoc.{HasGeometry, IsFreeFrom, IsNextFree, link_of, volume_number, byte_of_place, is_free, free_count_of, marked, released, order_of};
+ghost use Rattle.std.specs.Prelude.{
+  ◌≡◌,
+  ◌≢◌,
+  ◌<◌,
+  ◌↔◌,
+  ◌^◌,
+  ◌%◌,
+  ℕ,
+  true,
+  false,
+  IsOk,
+  IfOk,
+  IfErr,
+  IfSome,
+  IfNone,
+  IsTrue,
+  slice_index,
+};
+ghost use Rattle.dos_vtoc.specs.Vtoc.{
+  HasGeometry,
+  IsFreeFrom,
+  IsNextFree,
+  link_of,
+  volume_number,
+  byte_of_place,
+  is_free,
+  free_count_of,
+  marked,
+  released,
+  order_of,
+};
 
 use crate::count::free_in_map;
 use crate::marks::{FREE_BITS, set_free, set_used};
+use a2_device::Fault;
 use std::marker::Model;
-use vol_parts::Fault;
 
 /// The place of the VTOC: track 17, sector 0.
 pub const VTOC_PLACE: u32 = 272;

@@ -3,12 +3,12 @@ use Rattle.std.specs.Prelude.{◌≡◌, ◌⊎◌, ◌<◌, ℕ, zero, suc, ◌
 use Rattle.std.proofs.Common.{refl, sym, ◌∙◌, ap, subst, arith, inl, inr}
 use Rattle.a2_device.specs.Device.{DeviceState, OnlyReads, FailsRead, counted, written}
 use Rattle.vol_format.specs.Meaning.{Meaning}
-use Rattle.vol_files.specs.Files.{File}
-use Rattle.edit_writes.specs.declared.error.EditError.{EditError}
-use Rattle.edit_writes.specs.declared.error.EditError.TheVariants.{Device}
+use Rattle.vol_format.specs.Files.{File}
+use Rattle.edit_formats.specs.declared.error.EditError.{EditError}
+use Rattle.edit_formats.specs.declared.error.EditError.TheVariants.{Device}
 use Rattle.edit_formats.specs.Edited.{HasChanged, IsOldOrChanged}
-use Rattle.edit_laws.specs.Writes.{Write}
-use Rattle.edit_writes.specs.Writes.{HasEdited, StopsIn, RefusesWrite, device_after, no_write}
+use Rattle.vol_laws.specs.Writes.{Write}
+use Rattle.edit_formats.specs.Writes.{HasEdited, StopsIn, RefusesWrite, device_after, no_write}
 
 -- a read that failed leaves the store, and a write that was refused leaves the old unit or the new one
 pub read_keeps : (old new : DeviceState) → IsTrue old.honest → OnlyReads true old new → new.store ≡ old.store

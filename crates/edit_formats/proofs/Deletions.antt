@@ -4,25 +4,25 @@ use Rattle.std.proofs.Common.{sym, ◌∙◌, subst, arith}
 use Rattle.std.proofs.lemmas.Bool.{eqb-true}
 use Rattle.std.proofs.lemmas.List.Elements.{All-map, All-filter, All-append, All-contains_itself}
 use Rattle.a2_device.specs.Device.{DeviceState, IsWhole}
-use Rattle.vol_parts.specs.declared.part.Part.{Part}
+use Rattle.a2_device.specs.declared.part.Part.{Part}
 use Rattle.vol_format.specs.Accepted.{IsAccepted}
 use Rattle.vol_format.specs.Directory.{Directory, entries, entry_of, is_directory}
 use Rattle.vol_format.specs.Laws.{IsReadable, IsMovable}
 use Rattle.vol_format.specs.Meaning.{Meaning}
 use Rattle.vol_format.specs.Reach.{IsPartsOf}
 use Rattle.vol_check.specs.Told.{Told, IsToldOf}
-use Rattle.vol_files.proofs.Lists.{in_filter, out_of_filter, in_map, out_of_map}
-use Rattle.edit_laws.proofs.EntryNumbers.{parts_of_number}
-use Rattle.edit_laws.specs.Deletion.{IsDeletion}
-use Rattle.edit_writes.specs.declared.writes.Prepared.{Prepared}
-use Rattle.edit_writes.specs.Prepared.{write_of}
+use Rattle.vol_format.proofs.Lists.{in_filter, out_of_filter, in_map, out_of_map}
+use Rattle.vol_laws.proofs.EntryNumbers.{parts_of_number}
+use Rattle.vol_laws.specs.Deletion.{IsDeletion}
+use Rattle.edit_formats.specs.declared.writes.Prepared.{Prepared}
+use Rattle.edit_formats.specs.Prepared.{write_of}
 use Rattle.file_formats.specs.Files.{FileMeaning}
-use Rattle.edit_writes.specs.declared.error.EditError.{EditError}
-use Rattle.edit_writes.specs.declared.error.EditError.TheVariants.{Device}
+use Rattle.edit_formats.specs.declared.error.EditError.{EditError}
+use Rattle.edit_formats.specs.declared.error.EditError.TheVariants.{Device}
 use Rattle.edit_formats.specs.Deleted.{HasFirstUnprotected, HasPlacesOf, IsDeleteRefusal, IsDeleteTold, places_of_file}
 use Rattle.edit_formats.specs.Erasing.{EraseMeaning, HasWholeUnits, IsErasable}
-use Rattle.edit_writes.specs.Markings.{AreMarked}
-use Rattle.edit_writes.proofs.MarkingWrites.{same_number}
+use Rattle.edit_formats.specs.Markings.{AreMarked}
+use Rattle.edit_formats.proofs.MarkingWrites.{same_number}
 use Rattle.edit_formats.proofs.WholeDelete.{whole_delete}
 
 -- what follows of a value that is told

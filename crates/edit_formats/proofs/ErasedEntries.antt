@@ -12,13 +12,13 @@ use Rattle.vol_format.specs.Directory.{Listed, entries}
 use Rattle.dos_format.specs.Dos.{dos_directory}
 use Rattle.pro_format.specs.Pro.{no_slot}
 use Rattle.pro_entries.proofs.EntrySlots.{each_slot_of}
-use Rattle.edit_laws.specs.Writes.{Write}
+use Rattle.vol_laws.specs.Writes.{Write}
 use Rattle.file_formats.proofs.DosEntries.{entry_read}
-use Rattle.vol_parts.specs.declared.fault.Fault.{Fault}
-use Rattle.vol_parts.specs.declared.fault.WalkError.{WalkError}
-use Rattle.vol_parts.specs.declared.fault.WalkError.TheVariants as walk
-use Rattle.edit_writes.specs.declared.error.EditError.{EditError}
-use Rattle.edit_writes.specs.declared.error.EditError.TheVariants.{Check}
+use Rattle.a2_device.specs.declared.fault.Fault.{Fault}
+use Rattle.a2_device.specs.declared.fault.WalkError.{WalkError}
+use Rattle.a2_device.specs.declared.fault.WalkError.TheVariants as walk
+use Rattle.edit_formats.specs.declared.error.EditError.{EditError}
+use Rattle.edit_formats.specs.declared.error.EditError.TheVariants.{Check}
 use Rattle.edit_formats.specs.DosErasing.{dos_erasing}
 use Rattle.edit_formats.specs.ProErasing.{ErasesEntry, pro_erasing}
 use Rattle.edit_formats.specs.Renamed.{refusal_of_walk}

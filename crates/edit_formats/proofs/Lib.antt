@@ -6,3 +6,8 @@ pub mod NameWrites
 pub mod NamedEntries
 pub mod ErasedEntries
 pub mod Deletions
+pub mod Edits
+mod Making
+mod Nearest
+mod MarkedUnits
+pub mod MarkingWrites

@@ -5,20 +5,20 @@ use Rattle.std.proofs.lemmas.List.{take_more}
 use Rattle.a2_device.specs.Device.{DeviceState, OnlyReads, written}
 use Rattle.vol_format.specs.Laws.{IsReadable, IsMovable, IsWritable}
 use Rattle.vol_format.specs.Meaning.{Meaning}
-use Rattle.edit_laws.specs.EditLaws.{IsFileFree}
-use Rattle.edit_laws.specs.Deleted.{HasEntryErased, HasFileDeleted}
-use Rattle.edit_laws.specs.Lists.{IsFirst}
-use Rattle.edit_laws.specs.Writes.{Write, store_after}
-use Rattle.edit_laws.proofs.Fronts.{after_both}
-use Rattle.edit_laws.proofs.WholeDeletion as whole
+use Rattle.vol_laws.specs.EditLaws.{IsFileFree}
+use Rattle.vol_laws.specs.Deleted.{HasEntryErased, HasFileDeleted}
+use Rattle.vol_laws.specs.Lists.{IsFirst}
+use Rattle.vol_laws.specs.Writes.{Write, store_after}
+use Rattle.vol_laws.proofs.Fronts.{after_both}
+use Rattle.vol_laws.proofs.WholeDeletion as whole
 use Rattle.file_formats.specs.Files.{FileMeaning}
-use Rattle.edit_writes.specs.declared.error.EditError.{EditError}
-use Rattle.edit_writes.specs.declared.error.EditError.TheVariants.{Device}
+use Rattle.edit_formats.specs.declared.error.EditError.{EditError}
+use Rattle.edit_formats.specs.declared.error.EditError.TheVariants.{Device}
 use Rattle.edit_formats.specs.Deleted.{IsDeleteEdit, IsOldOrErased}
 use Rattle.edit_formats.specs.Edited.{HasChanged}
 use Rattle.edit_formats.specs.Erasing.{EraseMeaning, HasWholeUnits}
 use Rattle.edit_formats.specs.Lists.{without_named}
-use Rattle.edit_writes.specs.Writes.{HasEdited, StopsIn, device_after, no_write}
+use Rattle.edit_formats.specs.Writes.{HasEdited, StopsIn, device_after, no_write}
 use Rattle.edit_formats.proofs.Changed.{read_keeps, write_leaves}
 
 -- the store of a device after some writes

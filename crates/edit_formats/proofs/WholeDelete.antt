@@ -6,15 +6,15 @@ use Rattle.a2_device.specs.Device.{DeviceState}
 use Rattle.vol_format.specs.Directory.{Directory, map_place}
 use Rattle.vol_format.specs.Laws.{IsReadable}
 use Rattle.vol_format.specs.Meaning.{Meaning}
-use Rattle.edit_laws.specs.Deletion.{IsOwnPlace, IsDeletion}
-use Rattle.edit_laws.specs.Markings.{Marking}
-use Rattle.edit_laws.specs.Writes.{Write}
-use Rattle.edit_writes.specs.declared.writes.Prepared.{Prepared}
-use Rattle.edit_writes.specs.Prepared.{write_of}
+use Rattle.vol_laws.specs.Deletion.{IsOwnPlace, IsDeletion}
+use Rattle.vol_laws.specs.Markings.{Marking}
+use Rattle.vol_laws.specs.Writes.{Write}
+use Rattle.edit_formats.specs.declared.writes.Prepared.{Prepared}
+use Rattle.edit_formats.specs.Prepared.{write_of}
 use Rattle.edit_formats.specs.Deleted.{HasPlacesOf}
 use Rattle.edit_formats.specs.Erasing.{IsErasing}
-use Rattle.edit_writes.specs.Markings.{marked_in, HasMarkOf, AreMarked}
-use Rattle.edit_writes.proofs.MarkingWrites.{markings, markings_are, markings_rising, of_markings, marked_here, marking_each, marking_some}
+use Rattle.edit_formats.specs.Markings.{marked_in, HasMarkOf, AreMarked}
+use Rattle.edit_formats.proofs.MarkingWrites.{markings, markings_are, markings_rising, of_markings, marked_here, marking_each, marking_some}
 
 module _ {A : Type 0} (format : Meaning) (laws : IsReadable format) (directory : Directory) (file : ℕ) (places : List ℕ) (old : DeviceState) (start writes : List (Prepared A))
     (honest : IsTrue old.honest) (erasing : IsErasing format directory file old.store (map write_of start))

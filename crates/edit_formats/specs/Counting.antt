@@ -3,7 +3,7 @@ use Rattle.std.specs.Prelude.{ℕ, ◌+◌, ◌-◌, ◌==◌, min, if◌then◌
 use Rattle.a2_device.specs.Device.{unit_at}
 use Rattle.pro_dir.specs.Entry.{word}
 use Rattle.pro_dir.specs.Writes.{with_bytes, word_bytes}
-use Rattle.edit_laws.specs.Writes.{Write}
+use Rattle.vol_laws.specs.Writes.{Write}
 use Rattle.edit_formats.specs.declared.counting.FileCount.{FileCount}
 use Rattle.edit_formats.specs.declared.counting.FileCount.TheVariants.{More, Less}
 

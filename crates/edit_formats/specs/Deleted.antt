@@ -1,16 +1,16 @@
 -- What deleting a file leaves of a volume, and why it is refused.
 use Rattle.std.specs.Prelude.{◌≡◌, ◌⊎◌, ◌↔◌, ◌<◌, ℕ, ◌==◌, true, false, List, length, map, filter, All, Contains, Result, Ok, Err}
-use Rattle.vol_parts.specs.declared.part.Part.{Part}
+use Rattle.a2_device.specs.declared.part.Part.{Part}
 use Rattle.vol_format.specs.Accepted.{IsAccepted}
 use Rattle.vol_format.specs.Directory.{Directory, entry_of, root_of}
 use Rattle.vol_format.specs.Meaning.{Meaning}
-use Rattle.edit_laws.specs.Entered.{IsTaken}
-use Rattle.edit_laws.specs.Deleted.{HasEntryErased}
-use Rattle.edit_laws.specs.Deletion.{IsDeletion}
-use Rattle.edit_laws.specs.Writes.{Write}
+use Rattle.vol_laws.specs.Entered.{IsTaken}
+use Rattle.vol_laws.specs.Deleted.{HasEntryErased}
+use Rattle.vol_laws.specs.Deletion.{IsDeletion}
+use Rattle.vol_laws.specs.Writes.{Write}
 use Rattle.file_formats.specs.Files.{FileMeaning, IsFirstNamed}
-use Rattle.edit_writes.specs.declared.error.EditError.{EditError}
-use Rattle.edit_writes.specs.declared.error.EditError.TheVariants.{Check, NotFound, Locked, Device, Memory}
+use Rattle.edit_formats.specs.declared.error.EditError.{EditError}
+use Rattle.edit_formats.specs.declared.error.EditError.TheVariants.{Check, NotFound, Locked, Device, Memory}
 use Rattle.edit_formats.specs.Erasing.{EraseMeaning}
 use Rattle.edit_formats.specs.Renamed.{HasFirst}
 

@@ -3,7 +3,7 @@ use Rattle.std.specs.Prelude.{◌≡◌, ℕ, nat_le, List, [], ◌∷◌, slice
 use Rattle.vol_format.specs.Directory.{Directory}
 use Rattle.dos_catalog.specs.Writes.{erased}
 use Rattle.dos_entries.specs.Rewriting.{place_of_entry, slot_of_entry, sector_of_entry}
-use Rattle.edit_laws.specs.Writes.{Write}
+use Rattle.vol_laws.specs.Writes.{Write}
 use Rattle.edit_formats.specs.Erasing.{EraseMeaning}
 
 -- its track goes into the last byte of its name, and FF comes in its place

@@ -1,14 +1,14 @@
 -- What edits leave of a volume.
 use Rattle.std.specs.Prelude.{◌≡◌, ◌⊎◌, ◌↔◌, ℕ, Bool, List, [], ◌∷◌}
 use Rattle.a2_device.specs.Device.{unit_at}
-use Rattle.vol_files.specs.Files.{File, HasFiles}
+use Rattle.vol_format.specs.Files.{File, HasFiles}
 use Rattle.vol_format.specs.Accepted.{IsAccepted, IsVolume}
 use Rattle.vol_format.specs.Directory.{Directory, entry_of}
 use Rattle.vol_format.specs.Meaning.{Meaning}
 use Rattle.file_formats.specs.Files.{FileMeaning, IsFirstNamed, NamesNone}
 use Rattle.edit_formats.specs.Edits.{EditMeaning}
-use Rattle.edit_laws.specs.Deleted.{IsLostOn}
-use Rattle.edit_laws.specs.Writes.{Write}
+use Rattle.vol_laws.specs.Deleted.{IsLostOn}
+use Rattle.vol_laws.specs.Writes.{Write}
 
 -- The one write that locks or unlocks the first file that a path names, of an accepted volume: into the entry of that file.
 pub record IsLockEdit (format : Meaning) (files : FileMeaning) (edits : EditMeaning) (store : List (List ℕ)) (path : List ℕ) (on : Bool) (writes : List Write) : Type 0 where

@@ -3,7 +3,7 @@ use Rattle.std.specs.Prelude.{◌≡◌, ◌<◌, ℕ, Bool, false, List, length
 use Rattle.a2_device.specs.Device.{unit_at}
 use Rattle.vol_format.specs.Directory.{Directory, Listed, entries, entry_of, is_directory}
 use Rattle.vol_format.specs.Meaning.{Meaning}
-use Rattle.edit_laws.specs.Inserted.{rewritten}
+use Rattle.vol_laws.specs.Inserted.{rewritten}
 
 -- `locked on bytes` are the bytes of an entry, without those of its pointer, once its file is locked or unlocked; `with_lock on entry unit` is the unit of a directory
 -- in which this entry stands, once that is written into its slot.

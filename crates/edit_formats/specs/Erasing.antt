@@ -3,9 +3,9 @@ use Rattle.std.specs.Prelude.{◌≡◌, ◌≢◌, ◌<◌, ◌≤◌, ℕ, Boo
 use Rattle.a2_device.specs.Device.{unit_at}
 use Rattle.vol_format.specs.Directory.{Directory, entries, entry_of, is_directory, map_place}
 use Rattle.vol_format.specs.Meaning.{Meaning}
-use Rattle.edit_laws.specs.Entered.{HasSameRest}
-use Rattle.edit_laws.specs.Inserted.{inserted}
-use Rattle.edit_laws.specs.Writes.{Write, store_after}
+use Rattle.vol_laws.specs.Entered.{HasSameRest}
+use Rattle.vol_laws.specs.Inserted.{inserted}
+use Rattle.vol_laws.specs.Writes.{Write, store_after}
 
 -- all units of a store have the size that the format asks for
 abbrev pub HasWholeUnits : Meaning → List (List ℕ) → Type 0

@@ -13,3 +13,7 @@ pub mod ProNames
 pub mod Renamed
 pub mod Deleted
 pub mod lemmas
+pub mod Refusal
+pub mod Writes
+pub mod Prepared
+pub mod Markings

@@ -1,7 +1,7 @@
 -- What an edit does to the list of the files of a volume.
 use Rattle.std.specs.Prelude.{ℕ, Bool, if◌then◌else◌, List, [], ◌∷◌}
-use Rattle.vol_files.specs.Files.{File}
-use Rattle.edit_laws.specs.Lists.{without_first}
+use Rattle.vol_format.specs.Files.{File}
+use Rattle.vol_laws.specs.Lists.{without_first}
 use Rattle.file_formats.specs.Files.{FileMeaning}
 use Rattle.edit_formats.specs.Edits.{EditMeaning}
 

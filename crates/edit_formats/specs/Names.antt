@@ -3,7 +3,7 @@ use Rattle.std.specs.Prelude.{◌≡◌, ◌<◌, ℕ, Bool, true, false, List, 
 use Rattle.a2_device.specs.Device.{unit_at}
 use Rattle.vol_format.specs.Directory.{Directory, Listed, entries, entry_of, is_directory}
 use Rattle.vol_format.specs.Meaning.{Meaning}
-use Rattle.edit_laws.specs.Inserted.{rewritten}
+use Rattle.vol_laws.specs.Inserted.{rewritten}
 
 -- `may_have new`: a file may get this name. `HasBeside store directory file new`: an entry in use of the directory in which entry `file` stands has this name as it is stored; the
 -- entry itself is one of them, and directories are. `keeps bytes`: an entry with these bytes keeps its name. `path new path bytes` and `bytes new bytes` are what an entry

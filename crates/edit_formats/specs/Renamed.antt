@@ -1,18 +1,18 @@
 -- What renaming a file leaves of a volume, and why it is refused.
 use Rattle.std.specs.Prelude.{◌≡◌, ℕ, Bool, true, false, List, [], ◌∷◌, Result, Ok, Err}
 use Rattle.a2_device.specs.Device.{unit_at}
-use Rattle.vol_parts.specs.declared.fault.WalkError.{WalkError}
-use Rattle.vol_parts.specs.declared.fault.WalkError.TheVariants as walk
-use Rattle.vol_files.specs.Files.{File}
+use Rattle.a2_device.specs.declared.fault.WalkError.{WalkError}
+use Rattle.a2_device.specs.declared.fault.WalkError.TheVariants as walk
+use Rattle.vol_format.specs.Files.{File}
 use Rattle.vol_format.specs.Accepted.{IsAccepted}
 use Rattle.vol_format.specs.Directory.{Directory, entry_of}
 use Rattle.vol_format.specs.Meaning.{Meaning}
 use Rattle.file_formats.specs.Files.{FileMeaning, IsFirstNamed}
-use Rattle.edit_writes.specs.declared.error.EditError.{EditError}
-use Rattle.edit_writes.specs.declared.error.EditError.TheVariants.{Check, NotFound, Name, Exists, Locked, Device, Memory}
+use Rattle.edit_formats.specs.declared.error.EditError.{EditError}
+use Rattle.edit_formats.specs.declared.error.EditError.TheVariants.{Check, NotFound, Name, Exists, Locked, Device, Memory}
 use Rattle.edit_formats.specs.Lists.{with_first}
 use Rattle.edit_formats.specs.Names.{NameMeaning}
-use Rattle.edit_laws.specs.Writes.{Write}
+use Rattle.vol_laws.specs.Writes.{Write}
 
 -- the list with a new name of the first file that the path names: in its path and in the bytes of its entry
 abbrev pub with_new_name : FileMeaning → NameMeaning → List ℕ → List ℕ → List File → List File

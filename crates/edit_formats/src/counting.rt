@@ -1,13 +1,13 @@
 // The writes of a block of a ProDOS directory, with the count of files in its header.
 ghost use Rattle.std.specs.Prelude.{◌≡◌, ◌<◌, length, map, All, IfOk, IfErr, IsTrue};
 ghost use Rattle.a2_device.specs.Device.{OnlyReads};
-ghost use Rattle.edit_writes.specs.declared.writes.Prepared.{Prepared};
+ghost use Rattle.edit_formats.specs.declared.writes.Prepared.{Prepared};
 ghost use Rattle.edit_formats.specs.Counting.{counted_writes, counting};
-ghost use Rattle.edit_writes.specs.Prepared.{write_of};
-ghost use Rattle.edit_writes.specs.Refusal.{told_device, IsPrepareRefusal};
+ghost use Rattle.edit_formats.specs.Prepared.{write_of};
+ghost use Rattle.edit_formats.specs.Refusal.{told_device, IsPrepareRefusal};
 
+use crate::{EditError, Prepared, alone, behind, copy_unit};
 use a2_device::Device;
-use edit_writes::{EditError, Prepared, alone, behind, copy_unit};
 use pro_dir::{count, set_count};
 use std::alloc::Allocator;
 
@@ -33,7 +33,8 @@ fn counting<A: Allocator>(mut block: Vec<u8, A>, by: FileCount) -> Vec<u8, A>
     block
 }
 
-/// The writes of a block of a directory, and of the key block of that directory with its files counted anew: one where both are one block.
+/// The writes of a block of a directory, and of the key block of that directory with its files counted anew: one where
+/// both are one block.
 ///
 /// # Errors
 /// `Device` where the key block can't be read; `Memory`.
@@ -50,10 +51,13 @@ pub fn counted_writes<D: Device, A: Allocator + Copy>(
     requires key { key < (D.state device.old).places }
     ensures device { OnlyReads (told_device result) (D.state device.old) (D.state device.new) }
     ensures refused { IfErr result IsPrepareRefusal }
-    ensures inside { IfOk result (λ writes. All (λ (write : Prepared A). write.place < (D.state device.old).places) writes.items) }
-    ensures sizes { IfOk result (λ writes. All (λ (write : Prepared A). length write.unit.items ≡ (D.state device.old).unit_size) writes.items) }
+    ensures inside { IfOk result (λ writes.
+        All (λ (write : Prepared A). write.place < (D.state device.old).places) writes.items) }
+    ensures sizes { IfOk result (λ writes.
+        All (λ (write : Prepared A). length write.unit.items ≡ (D.state device.old).unit_size) writes.items) }
     ensures counted { IsTrue (D.state device.old).honest
-        → IfOk result (λ writes. map write_of writes.items ≡ counted_writes by block.place block.unit.items key (D.state device.old).store) }
+        → IfOk result (λ writes.
+        map write_of writes.items ≡ counted_writes by block.place block.unit.items key (D.state device.old).store) }
 {
     let Prepared { place, unit } = block;
     if place == key {

@@ -3,12 +3,11 @@ ghost use Rattle.std.specs.Prelude.{◌≡◌, ◌<◌, length};
 ghost use Rattle.dos_catalog.specs.Writes.{erased};
 ghost use Rattle.edit_formats.specs.DosEdits.{dos_locked};
 
-use crate::EditableFormat;
 use crate::dos_naming::{dos_name, has_name, is_dos_name, is_locked};
+use crate::{EditError, EditableFormat, Prepared, alone, copy_unit};
 use a2_device::Device;
 use dos_catalog::{erase, set_kind, set_name};
 use dos_format::{Dos33, DosVolume};
-use edit_writes::{EditError, Prepared, alone, copy_unit};
 use std::alloc::Allocator;
 
 /// Where an entry has its kind.

@@ -57,7 +57,8 @@ pub fn dos_name(name: &[u8]) -> [u8; 30]
 
 /// Whether some entry of a catalog has a name, as it is stored.
 pub fn has_name(entries: &[Entry], name: &[u8; 30]) -> bool
-    ensures { result ≡ list_any (λ (entry : CatalogEntry). bytes_eq (slice_range entry.bytes 3 33) name.now) entries.now }
+    ensures { result ≡ list_any (λ (entry : CatalogEntry). bytes_eq
+        (slice_range entry.bytes 3 33) name.now) entries.now }
 {
     entries.iter().any(|entry| entry.name() == name.as_slice())
 }

@@ -1,6 +1,6 @@
 // The trait of formats whose files can be changed.
+use crate::{EditError, Prepared};
 use a2_device::Device;
-use edit_writes::{EditError, Prepared};
 use file_formats::FileFormat;
 use std::alloc::Allocator;
 use vol_format::WritableFormat;
@@ -9,14 +9,15 @@ use vol_format::WritableFormat;
 pub trait EditableFormat: WritableFormat + FileFormat {
     ghost use Rattle.std.specs.Prelude.{◌≡◌, ◌≢◌, ◌<◌, true, length, map, All, Err, IfErr, IfOk, IsTrue};
     ghost use Rattle.a2_device.specs.Device.{OnlyReads};
+    ghost use Rattle.vol_format.specs.Fits.{Fits};
     ghost use Rattle.vol_format.specs.Directory.{entries, entry_of};
-    ghost use Rattle.edit_laws.specs.EditLaws.{IsFileFree};
-    ghost use Rattle.edit_writes.specs.declared.writes.Prepared.{Prepared};
+    ghost use Rattle.vol_laws.specs.EditLaws.{IsFileFree};
+    ghost use Rattle.edit_formats.specs.declared.writes.Prepared.{Prepared};
     ghost use Rattle.edit_formats.specs.Edits.{EditMeaning, IsLockable};
     ghost use Rattle.edit_formats.specs.Erasing.{EraseMeaning, IsErasable};
     ghost use Rattle.edit_formats.specs.Names.{NameMeaning, IsNamable};
-    ghost use Rattle.edit_writes.specs.Prepared.{write_of};
-    ghost use Rattle.edit_writes.specs.Refusal.{told_device};
+    ghost use Rattle.edit_formats.specs.Prepared.{write_of};
+    ghost use Rattle.edit_formats.specs.Refusal.{told_device};
     ghost use Rattle.edit_formats.specs.Renamed.{IsAnswer, IsReadRefusal};
 
     ghost edits: { Self → EditMeaning };
@@ -26,7 +27,8 @@ pub trait EditableFormat: WritableFormat + FileFormat {
         requires file { file < entries (Self.directory self.now volume.now) }
         requires slot { (Self.meaning self.now).HasSlot true (entry_of (Self.directory self.now volume.now) file).slot }
         requires unit { length unit.old ≡ (Self.meaning self.now).unit_size }
-        ensures { unit.new ≡ (edits self.now).with_lock on (entry_of (Self.directory self.now volume.now) file) unit.old };
+        ensures { unit.new
+            ≡ (edits self.now).with_lock on (entry_of (Self.directory self.now volume.now) file) unit.old };
 
     // names
 
@@ -48,14 +50,15 @@ pub trait EditableFormat: WritableFormat + FileFormat {
         file: u32,
         name: &[u8],
     ) -> Result<bool, EditError>
-        requires unit { (D.state device.old).unit_size ≡ (Self.meaning self.now).unit_size }
-        requires places { (Self.meaning self.now).Takes (D.state device.old).places }
+        requires fits { Fits (Self.meaning self.now) (D.state device.old) }
         requires file { file < entries (Self.directory self.now volume.now) }
         requires name { (names self.now).may_have name.now ≡ true }
         ensures device { OnlyReads (told_device result) (D.state device.old) (D.state device.new) }
         ensures refused { IfErr result IsReadRefusal }
-        ensures told { IsTrue (D.state device.old).honest → (Self.meaning self.now).Describes (D.state device.old).store (Self.directory self.now volume.now)
-            → IsAnswer ((names self.now).HasBeside (D.state device.old).store (Self.directory self.now volume.now) file name.now) result };
+        ensures told { IsTrue (D.state device.old).honest
+            → (Self.meaning self.now).Describes (D.state device.old).store (Self.directory self.now volume.now)
+            → IsAnswer ((names self.now).HasBeside (D.state device.old).store
+            (Self.directory self.now volume.now) file name.now) result };
 
     /// Whether an entry keeps its name.
     fn keeps_name(&self, volume: &Self::Volume, file: u32) -> bool
@@ -68,7 +71,8 @@ pub trait EditableFormat: WritableFormat + FileFormat {
         requires slot { (Self.meaning self.now).HasSlot true (entry_of (Self.directory self.now volume.now) file).slot }
         requires unit { length unit.old ≡ (Self.meaning self.now).unit_size }
         requires name { (names self.now).may_have name.now ≡ true }
-        ensures { unit.new ≡ (names self.now).with_name name.now (entry_of (Self.directory self.now volume.now) file) unit.old };
+        ensures { unit.new
+            ≡ (names self.now).with_name name.now (entry_of (Self.directory self.now volume.now) file) unit.old };
 
     // erasing
 
@@ -90,8 +94,7 @@ pub trait EditableFormat: WritableFormat + FileFormat {
         volume: &Self::Volume,
         file: u32,
     ) -> Result<Vec<Prepared<A>, A>, EditError>
-        requires unit { (D.state device.old).unit_size ≡ (Self.meaning self.now).unit_size }
-        requires places { (Self.meaning self.now).Takes (D.state device.old).places }
+        requires fits { Fits (Self.meaning self.now) (D.state device.old) }
         requires file { file < entries (Self.directory self.now volume.now) }
         requires place { (entry_of (Self.directory self.now volume.now) file).place < (D.state device.old).places }
         requires slot { (Self.meaning self.now).HasSlot true (entry_of (Self.directory self.now volume.now) file).slot }
@@ -99,13 +102,18 @@ pub trait EditableFormat: WritableFormat + FileFormat {
         // every device
         ensures device { OnlyReads (told_device result) (D.state device.old) (D.state device.new) }
         ensures refused { IfErr result IsReadRefusal }
-        ensures inside { IfOk result (λ writes. All (λ (write : Prepared A). write.place < (D.state device.old).places) writes.items) }
-        ensures sizes { IfOk result (λ writes. All (λ (write : Prepared A). length write.unit.items ≡ (D.state device.old).unit_size) writes.items) }
+        ensures inside { IfOk result (λ writes.
+            All (λ (write : Prepared A). write.place < (D.state device.old).places) writes.items) }
+        ensures sizes { IfOk result (λ writes.
+            All (λ (write : Prepared A). length write.unit.items ≡ (D.state device.old).unit_size) writes.items) }
 
         // an honest device that has the directory
-        ensures erases { IsTrue (D.state device.old).honest → (Self.meaning self.now).Describes (D.state device.old).store (Self.directory self.now volume.now)
-            → IfOk result (λ writes. (erasures self.now).Erases (D.state device.old).store (Self.directory self.now volume.now) file (map write_of writes.items)) }
-        ensures described { IsTrue (D.state device.old).honest → (Self.meaning self.now).Describes (D.state device.old).store (Self.directory self.now volume.now)
+        ensures erases { IsTrue (D.state device.old).honest
+            → (Self.meaning self.now).Describes (D.state device.old).store (Self.directory self.now volume.now)
+            → IfOk result (λ writes. (erasures self.now).Erases (D.state device.old).store
+            (Self.directory self.now volume.now) file (map write_of writes.items)) }
+        ensures described { IsTrue (D.state device.old).honest
+            → (Self.meaning self.now).Describes (D.state device.old).store (Self.directory self.now volume.now)
             → result ≢ Err EditError.Check };
 
     ghost file_free: { (format : Self) → IsFileFree (Self.meaning format) };

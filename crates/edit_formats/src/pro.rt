@@ -2,12 +2,11 @@
 ghost use Rattle.std.specs.Prelude.{◌≡◌};
 ghost use Rattle.edit_formats.specs.ProEdits.{pro_locked};
 
-use crate::EditableFormat;
 use crate::pro_erasing::{entry_of, erase_entry};
 use crate::pro_naming::{has_name_beside, is_pro_name, pro_name, refusal};
+use crate::{EditError, EditableFormat, Prepared};
 use a2_device::Device;
 use bitflags::Flags;
-use edit_writes::{EditError, Prepared};
 use pro_dir::{Access, VolumeDir, set_access, set_name};
 use pro_format::{ProVolume, Prodos};
 use std::alloc::Allocator;

@@ -3,13 +3,13 @@ ghost use Rattle.std.specs.Prelude.{◌≡◌, ◌≤◌, ◌<◌, ◌&&◌, nat
 ghost use Rattle.std.specs.List.{list_all};
 ghost use Rattle.pro_dir.specs.Parents.{entry_in};
 ghost use Rattle.pro_dir.specs.Paths.{folded};
-ghost use Rattle.vol_parts.specs.declared.fault.WalkError.{WalkError};
+ghost use Rattle.a2_device.specs.declared.fault.WalkError.{WalkError};
 ghost use Rattle.edit_formats.specs.ProNames.{is_letter, is_name_byte, is_pro_name, is_name_in, pro_name};
 ghost use Rattle.edit_formats.specs.Renamed.{refusal_of_walk};
 
-use edit_writes::EditError;
+use crate::EditError;
+use a2_device::WalkError;
 use pro_dir::Entry;
-use vol_parts::WalkError;
 
 /// The bytes of a name.
 const NAME_BYTES: usize = 15;
@@ -64,7 +64,8 @@ pub fn is_name_in(key: u32, name: &[u8], entries: &[Entry]) -> bool
 // Whether an entry that stands in the directory of this one has a name.
 pub(crate) fn has_name_beside(entries: &[Entry], file: u32, name: &[u8]) -> bool
     requires { length name.now ≤ 15 }
-    ensures { result ≡ (nat_lt file (length entries.now) && is_name_in (entry_in entries.now file).directory (folded name.now) entries.now) }
+    ensures { result ≡ (nat_lt file (length entries.now) && is_name_in (entry_in entries.now file).directory
+        (folded name.now) entries.now) }
 {
     let Some(own) = entries.get(file as usize) else {
         return false;

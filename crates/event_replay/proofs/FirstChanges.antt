@@ -10,10 +10,10 @@ use Rattle.vol_layout.specs.declared.moves.Move.{Move}
 use Rattle.vol_format.specs.Directory.{Directory, map_place}
 use Rattle.vol_format.specs.Laws.{IsDirectory}
 use Rattle.vol_format.specs.Meaning.{Meaning}
-use Rattle.write_laws.specs.declared.mark.Mark.{Mark}
-use Rattle.plan_writes.specs.Tasks.{ChangesMap, Course, Task, Map, Copy, Pointer, at_first, course_after, lost_after, moves_of, place_of, without}
-use Rattle.plan_writes.specs.Writes.{beside, change, freed, outside, releases, used, with_mark, writes_after, writes_of}
-use Rattle.plan_writes.proofs.Counts.{AreByUnit, few_changes, few_releases}
+use Rattle.vol_laws.specs.declared.mark.Mark.{Mark}
+use Rattle.vol_mover.specs.Tasks.{ChangesMap, Course, Task, Map, Copy, Pointer, at_first, course_after, lost_after, moves_of, place_of, without}
+use Rattle.vol_mover.specs.Writes.{beside, change, freed, outside, releases, used, with_mark, writes_after, writes_of}
+use Rattle.vol_mover.proofs.Counts.{AreByUnit, few_changes, few_releases}
 use Rattle.vol_mover.specs.Begun.{first_lost, start_of}
 use Rattle.vol_mover.specs.Present.{IsSession, Present}
 use Rattle.event_replay.specs.Held.{HasBegun, BeginsWork, MarksOnly, OnlyMarks, map_writes}

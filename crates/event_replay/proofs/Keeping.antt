@@ -10,9 +10,9 @@ use Rattle.vol_format.specs.Laws.{IsMovable, IsReadable}
 use Rattle.vol_format.specs.Meaning.{Meaning}
 use Rattle.vol_format.specs.Standing.{lost_places}
 use Rattle.vol_check.proofs.Lost.{lost_are}
-use Rattle.vol_files.specs.Files.{File, HasFiles}
-use Rattle.vol_files.proofs.Kept.{same_files}
-use Rattle.vol_files.proofs.OneList.{one_layout}
+use Rattle.vol_format.specs.Files.{File, HasFiles}
+use Rattle.vol_format.proofs.Kept.{same_files}
+use Rattle.vol_format.proofs.OneList.{one_layout}
 use Rattle.vol_mover.specs.Steps.{MovesOne}
 use Rattle.vol_mover.specs.Volume.{SameVolume}
 use Rattle.vol_mover.proofs.Volumes.{same_volume-refl, same_volume-trans}

@@ -5,14 +5,14 @@ use Rattle.std.proofs.Common.{refl, sym, ◌∙◌, ap, subst, arith, inl, inr, 
 use Rattle.std.proofs.lemmas.Bool.Decides.{nat_tests}
 use Rattle.std.proofs.lemmas.List.{get_or-map, length-map}
 use Rattle.std.proofs.lemmas.List.FromFn.{length-map-range_with_len, get_or-map-range_with_len, fill_by_all}
-use Rattle.vol_parts.specs.declared.part.Part.{Part}
+use Rattle.a2_device.specs.declared.part.Part.{Part}
 use Rattle.vol_format.specs.Accepted.{IsAccepted}
 use Rattle.vol_format.specs.Directory.{Directory}
 use Rattle.vol_format.specs.Laws.{IsDirectory, IsMovable}
 use Rattle.vol_format.specs.Meaning.{Meaning}
 use Rattle.vol_format.specs.Reach.{Reach, Before}
 use Rattle.vol_format.specs.Standing.{Stands, index_in, layout_of, no_part, part_now}
-use Rattle.vol_files.specs.Layout.{HasLayout}
+use Rattle.vol_format.specs.Layout.{HasLayout}
 
 -- the place of a number has that number, where no place is there twice
 index_back : (xs : List ℕ) (n : ℕ) → AllPairs (λ place later. place ≢ later) xs → n < length xs → index_in xs (slice_index xs n) ≡ n

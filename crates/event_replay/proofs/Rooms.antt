@@ -2,7 +2,7 @@
 use Rattle.std.specs.Prelude.{◌≡◌, ◌≢◌, ◌⊎◌, ℕ, ◌+◌, List, [], length, replicate}
 use Rattle.std.proofs.Common.{sym, ◌∙◌, ap, subst, arith, inl, inr}
 use Rattle.std.proofs.lemmas.List.{length-replicate, length-set}
-use Rattle.vol_parts.specs.declared.part.Part.{Part}
+use Rattle.a2_device.specs.declared.part.Part.{Part}
 use Rattle.vol_layout.specs.Layouts.{misplaced}
 use Rattle.vol_layout.specs.Rings.{IsDeficit}
 use Rattle.vol_layout.specs.declared.moves.Move.{Move}
@@ -12,10 +12,10 @@ use Rattle.vol_format.specs.Laws.{IsReadable}
 use Rattle.vol_format.specs.Meaning.{Meaning}
 use Rattle.vol_format.specs.Reach.{IsPartsOf}
 use Rattle.vol_format.specs.Standing.{layout_of}
-use Rattle.vol_files.specs.Layout.{HasLayout}
-use Rattle.vol_files.proofs.OneList.{one_parts}
-use Rattle.vol_opening.specs.declared.error.OpenError.{OpenError}
-use Rattle.vol_opening.specs.declared.error.OpenError.TheVariants.{Check, Lost, NoFreePlace, Device, Memory}
+use Rattle.vol_format.specs.Layout.{HasLayout}
+use Rattle.vol_format.proofs.OneList.{one_parts}
+use Rattle.vol_mover.specs.declared.error.OpenError.{OpenError}
+use Rattle.vol_mover.specs.declared.error.OpenError.TheVariants.{Check, Lost, NoFreePlace, Device, Memory}
 use Rattle.vol_mover.specs.Steps.{MovesOne}
 use Rattle.vol_mover.proofs.Deficits.{no_moves}
 use Rattle.event_replay.specs.Moments.{Moment}

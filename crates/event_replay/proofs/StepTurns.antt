@@ -6,8 +6,8 @@ use Rattle.vol_format.specs.Directory.{Directory}
 use Rattle.vol_format.specs.Laws.{IsMovable, IsReadable}
 use Rattle.vol_format.specs.Meaning.{Meaning}
 use Rattle.vol_format.specs.Standing.{IsLost}
-use Rattle.vol_files.specs.Layout.{HasLayout}
-use Rattle.plan_writes.specs.Tasks.{Task, Map, Copy, Pointer, course_after}
+use Rattle.vol_format.specs.Layout.{HasLayout}
+use Rattle.vol_mover.specs.Tasks.{Task, Map, Copy, Pointer, course_after}
 use Rattle.vol_mover.specs.Open.{IsOpen}
 use Rattle.vol_mover.specs.Present.{Present, IsSession}
 use Rattle.vol_mover.specs.Steps.{IsNextWrite, IsStep, RefusesWrite, advanced}

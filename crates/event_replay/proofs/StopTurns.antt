@@ -7,9 +7,9 @@ use Rattle.vol_format.specs.Accepted.{IsAccepted}
 use Rattle.vol_format.specs.Laws.{IsMovable}
 use Rattle.vol_format.specs.Meaning.{Meaning}
 use Rattle.vol_format.specs.Reach.{IsPartsOf}
-use Rattle.vol_opening.specs.Refused.{IsRefusal, is_device_error}
-use Rattle.vol_opening.specs.declared.error.OpenError.{OpenError}
-use Rattle.vol_opening.specs.declared.error.OpenError.TheVariants.{Check, Lost, NoFreePlace, Device, Memory}
+use Rattle.vol_mover.specs.Refused.{IsRefusal, is_device_error}
+use Rattle.vol_mover.specs.declared.error.OpenError.{OpenError}
+use Rattle.vol_mover.specs.declared.error.OpenError.TheVariants.{Check, Lost, NoFreePlace, Device, Memory}
 use Rattle.vol_mover.specs.Begun.{IsBegun, TakesWrites, first_lost, start_of}
 use Rattle.vol_mover.specs.Present.{Present}
 use Rattle.event_replay.specs.Holds.{Holds, ASession, ADevice, OpensHolds, OpensToOrder, device_of}

@@ -6,7 +6,7 @@ use Rattle.a2_device.specs.Device.{DeviceState, OnlyReads, last_count}
 use Rattle.event_replay.specs.Volumes.{HasRoom}
 use Rattle.vol_format.specs.Laws.{IsMovable, IsReadable}
 use Rattle.vol_format.specs.Meaning.{Meaning}
-use Rattle.vol_files.specs.Files.{File, HasFiles}
+use Rattle.vol_format.specs.Files.{File, HasFiles}
 use Rattle.file_formats.specs.Files.{FileMeaning}
 use Rattle.event_replay.specs.Held.{HasRun, IsAt, IsDeviceAt, RanFrom, RanTo}
 use Rattle.event_replay.specs.Holds.{Holds, TurnsHolds, device_of}

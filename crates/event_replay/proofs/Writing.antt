@@ -5,8 +5,8 @@ use Rattle.vol_layout.specs.Plans.{moved}
 use Rattle.vol_format.specs.Directory.{Directory, IsSameFrame}
 use Rattle.vol_format.specs.Laws.{IsMovable, IsReadable}
 use Rattle.vol_format.specs.Meaning.{Meaning}
-use Rattle.vol_files.specs.Layout.{HasLayout}
-use Rattle.plan_writes.specs.Tasks.{ChangesMap, Course, Task, Map, Copy, Pointer, IsAgenda, IsFewLost, course_after}
+use Rattle.vol_format.specs.Layout.{HasLayout}
+use Rattle.vol_mover.specs.Tasks.{ChangesMap, Course, Task, Map, Copy, Pointer, IsAgenda, IsFewLost, course_after}
 use Rattle.vol_mover.specs.Open.{IsOpen}
 use Rattle.vol_mover.specs.Present.{Present, IsSession}
 use Rattle.vol_mover.specs.Steps.{IsNextWrite, MovesOne}

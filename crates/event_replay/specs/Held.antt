@@ -3,8 +3,8 @@ use Rattle.std.specs.Prelude.{◌≡◌, ◌⊎◌, ◌≤◌, ℕ, ◌+◌, Boo
 use Rattle.a2_device.specs.Device.{DeviceState, last_count}
 use Rattle.vol_format.specs.Accepted.{IsVolume}
 use Rattle.vol_format.specs.Meaning.{Meaning}
-use Rattle.write_laws.specs.declared.mark.Mark.{Mark}
-use Rattle.plan_writes.specs.Tasks.{ChangesMap, Course, Task, Map}
+use Rattle.vol_laws.specs.declared.mark.Mark.{Mark}
+use Rattle.vol_mover.specs.Tasks.{ChangesMap, Course, Task, Map}
 use Rattle.vol_mover.specs.Present.{Present, IsSession}
 use Rattle.event_replay.specs.Holds.{Holds, ASession, ADevice, device_of}
 use Rattle.event_replay.specs.Moments.{Moment, Opened, SessionState, Open, Closed, Absent, first_moment}

@@ -3,10 +3,10 @@ use Rattle.std.specs.Prelude.{◌≡◌, ◌≢◌, ◌<◌, ◌⊎◌, ℕ, Lis
 use Rattle.a2_device.specs.Device.{DeviceState, OnlyReads}
 use Rattle.vol_format.specs.Directory.{Directory}
 use Rattle.vol_format.specs.Meaning.{Meaning}
-use Rattle.vol_opening.specs.Refused.{IsRefusal, is_device_error}
-use Rattle.vol_opening.specs.declared.error.OpenError.{OpenError}
-use Rattle.vol_opening.specs.declared.error.OpenError.TheVariants.{Memory as OpenMemory}
-use Rattle.plan_writes.specs.Tasks.{Course}
+use Rattle.vol_mover.specs.Refused.{IsRefusal, is_device_error}
+use Rattle.vol_mover.specs.declared.error.OpenError.{OpenError}
+use Rattle.vol_mover.specs.declared.error.OpenError.TheVariants.{Memory as OpenMemory}
+use Rattle.vol_mover.specs.Tasks.{Course}
 use Rattle.vol_mover.specs.Begun.{IsBegun}
 use Rattle.vol_mover.specs.Present.{Present, IsSession}
 use Rattle.vol_mover.specs.Shown.{present}

@@ -3,8 +3,8 @@ use Rattle.std.specs.Prelude.{◌≡◌, ◌⊎◌, ◌≤◌, ℕ, ◌+◌, tru
 use Rattle.std.specs.List.{AllZip}
 use Rattle.a2_device.specs.Device.{DeviceState, last_count}
 use Rattle.vol_format.specs.Meaning.{Meaning}
-use Rattle.vol_files.specs.Files.{File, HasFiles}
-use Rattle.vol_opening.specs.declared.error.OpenError.{OpenError}
+use Rattle.vol_format.specs.Files.{File, HasFiles}
+use Rattle.vol_mover.specs.declared.error.OpenError.{OpenError}
 use Rattle.vol_mover.specs.Volume.{SameVolume}
 use Rattle.file_cmds.specs.FileList.{IsTextOfFirst}
 use Rattle.file_formats.specs.Files.{FileMeaning}

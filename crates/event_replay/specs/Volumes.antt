@@ -1,6 +1,6 @@
 -- What is told of the stores of a replay.
 use Rattle.std.specs.Prelude.{◌≡◌, ◌⊎◌, ◌↔◌, ◌≤◌, ◌<◌, ℕ, ◌+◌, true, List, length, slice_set, All, Contains}
-use Rattle.vol_parts.specs.declared.part.Part.{Part}
+use Rattle.a2_device.specs.declared.part.Part.{Part}
 use Rattle.vol_layout.specs.Layouts.{IsTarget}
 use Rattle.vol_layout.specs.Rings.{IsDeficit}
 use Rattle.move_plan.specs.Planning.{LacksFreePlace}
@@ -9,12 +9,12 @@ use Rattle.vol_format.specs.Directory.{Directory}
 use Rattle.vol_format.specs.Meaning.{Meaning}
 use Rattle.vol_format.specs.Reach.{IsPartsOf}
 use Rattle.vol_format.specs.Standing.{IsLost, layout_of, lost_places}
-use Rattle.vol_files.specs.Layout.{HasLayout}
+use Rattle.vol_format.specs.Layout.{HasLayout}
 use Rattle.vol_check.specs.Answer.{AreFaults}
-use Rattle.vol_opening.specs.Refused.{RefusesAccepted}
-use Rattle.vol_opening.specs.declared.error.OpenError.{OpenError}
-use Rattle.vol_opening.specs.declared.error.OpenError.TheVariants.{Check, NoFreePlace}
-use Rattle.vol_opening.specs.declared.opening.Options.{Options}
+use Rattle.vol_mover.specs.Refused.{RefusesAccepted}
+use Rattle.vol_mover.specs.declared.error.OpenError.{OpenError}
+use Rattle.vol_mover.specs.declared.error.OpenError.TheVariants.{Check, NoFreePlace}
+use Rattle.vol_mover.specs.declared.opening.Options.{Options}
 use Rattle.vol_mover.specs.Begun.{TakesWrites}
 use Rattle.vol_mover.specs.Steps.{MovesOne}
 use Rattle.vol_mover.specs.Volume.{SameVolume}

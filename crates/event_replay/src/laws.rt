@@ -1,10 +1,10 @@
 // What holds of volumes, of their layouts and of runs.
 ghost use Rattle.std.specs.Prelude.{ℕ, List};
-ghost use Rattle.vol_parts.specs.declared.part.Part.{Part};
+ghost use Rattle.a2_device.specs.declared.part.Part.{Part};
 ghost use Rattle.vol_format.specs.Accepted.{IsAccepted};
 ghost use Rattle.vol_format.specs.Directory.{Directory};
 ghost use Rattle.vol_format.specs.Standing.{Stands};
-ghost use Rattle.vol_files.specs.Layout.{HasLayout};
+ghost use Rattle.vol_format.specs.Layout.{HasLayout};
 
 use vol_format::WritableFormat;
 

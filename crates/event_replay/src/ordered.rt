@@ -93,7 +93,8 @@ impl<D: Device> FailsToOrder for Ordered<D> {
     ghost use Rattle.event_replay.specs.lemmas.Meeting.{orders_are_met};
 
     ghost meets_orders = { λ s. let within = s.device.device in
-        orders_are_met s.device.read_order s.device.writes s.device.faults within.failed (D.state within.device) s.ordered_at
+        orders_are_met s.device.read_order s.device.writes s.device.faults within.failed
+        (D.state within.device) s.ordered_at
         s.device.write_order s.none_tried };
 
     fn order_read(&mut self) {

@@ -1,6 +1,6 @@
 // A step of a session, unless an order to fail a read is met before it.
 ghost use Rattle.std.specs.Prelude.{◌≡◌, IsTrue, IsFalse};
-ghost use Rattle.plan_writes.specs.Tasks.{Course};
+ghost use Rattle.vol_mover.specs.Tasks.{Course};
 ghost use Rattle.vol_mover.specs.Present.{IsSession};
 ghost use Rattle.vol_mover.specs.Shown.{present};
 ghost use Rattle.event_replay.specs.Holds.{ReadsNext, StepsSession, StepsToOrder};

@@ -5,6 +5,7 @@ ghost use Rattle.event_replay.specs.Holds.{AnswersRead, ChangesHolds, IsSound, O
 ghost use Rattle.event_replay.specs.Holds.{ReadsFileToOrder, ReadsHolds, StepsHolds, TurnsHolds};
 ghost use Rattle.event_replay.specs.Holds.{device_of, held, holds};
 ghost use Rattle.event_replay.specs.Orders.{read_ordered, write_ordered};
+ghost use Rattle.vol_format.specs.Fits.{Fits};
 
 use crate::ordered::FailsToOrder;
 use crate::stepping::step;
@@ -50,9 +51,9 @@ fn read_body<D: Device, F: FileFormat, A: Allocator + Copy>(
     format: &F,
     path: &[u8],
 ) -> Answer<A>
-    requires unit { (D.state device.old).unit_size ≡ (F.meaning format.now).unit_size }
-    requires places { (F.meaning format.now).Takes (D.state device.old).places }
-    ensures { ReadsDevice (F.meaning format.now) (F.files format.now) path.now (D.state device.old) result (D.state device.new) }
+    requires fits { Fits (F.meaning format.now) (D.state device.old) }
+    ensures { ReadsDevice (F.meaning format.now) (F.files format.now) path.now (D.state device.old) result
+        (D.state device.new) }
 {
     match read(alloc, device, format, path, false) {
         Ok(bytes) => Answer::Bytes(bytes),
@@ -67,8 +68,7 @@ fn read_to_order<D: FailsToOrder, F: FileFormat, A: Allocator + Copy>(
     format: &F,
     path: &[u8],
 ) -> Answer<A>
-    requires unit { (D.state device.old).unit_size ≡ (F.meaning format.now).unit_size }
-    requires places { (F.meaning format.now).Takes (D.state device.old).places }
+    requires fits { Fits (F.meaning format.now) (D.state device.old) }
     ensures { ReadsFileToOrder (F.meaning format.now) (F.files format.now) path.now (D.state device.old) result
         (D.state device.new) }
 {
@@ -89,11 +89,11 @@ fn is_memory<A: Allocator>(error: &OpenError<A>) -> bool
 impl<'a, D: Device, F: WritableFormat + FileFormat, A: Allocator + Copy> Replay<'a, D, F, A> {
     // Opens a session, which reclaims lost places; the device, where there is no memory for it.
     pub(crate) fn open(alloc: A, device: D, format: &'a F) -> Result<(Self, Answer<A>), D>
-        requires unit { (D.state device).unit_size ≡ (F.meaning format.now).unit_size }
-        requires places { (F.meaning format.now).Takes (D.state device).places }
+        requires fits { Fits (F.meaning format.now) (D.state device) }
         ensures sound { IfOk result (λ made. IsSound F.meaning D.state F.directory made.0) }
         ensures format { IfOk result (λ made. made.0.format.now ≡ format.now) }
-        ensures opens { IfOk result (λ made. OpensHolds (F.meaning format.now) (D.state device) made.1 (holds D.state F.directory made.0)) }
+        ensures opens { IfOk result (λ made.
+            OpensHolds (F.meaning format.now) (D.state device) made.1 (holds D.state F.directory made.0)) }
         ensures device { IfErr result (λ left. OnlyReads false (D.state device) (D.state left)) }
     {
         match Session::open(alloc, device, format, Options { reclaim: true }) {
@@ -138,7 +138,8 @@ impl<'a, D: FailsToOrder, F: WritableFormat + FileFormat, A: Allocator + Copy> R
         requires { IsSound F.meaning D.state F.directory self }
         ensures sound { IsSound F.meaning D.state F.directory result.0 }
         ensures format { result.0.format.now ≡ self.entry.format.now }
-        ensures steps { StepsHolds (F.meaning self.entry.format.now) (holds D.state F.directory self.entry) result.1 (holds D.state F.directory result.0) }
+        ensures steps { StepsHolds (F.meaning self.entry.format.now) (holds D.state F.directory self.entry) result.1
+            (holds D.state F.directory result.0) }
     {
         let Replay {
             alloc,
@@ -165,7 +166,8 @@ impl<'a, D: FailsToOrder, F: WritableFormat + FileFormat, A: Allocator + Copy> R
         requires { IsSound F.meaning D.state F.directory self }
         ensures sound { IsSound F.meaning D.state F.directory result.0 }
         ensures format { result.0.format.now ≡ self.entry.format.now }
-        ensures reads { ReadsHolds (F.meaning self.entry.format.now) (F.files self.entry.format.now) path.now (holds D.state F.directory self.entry) result.1 (holds D.state F.directory result.0) }
+        ensures reads { ReadsHolds (F.meaning self.entry.format.now) (F.files self.entry.format.now) path.now
+            (holds D.state F.directory self.entry) result.1 (holds D.state F.directory result.0) }
     {
         let Replay {
             alloc,
@@ -226,7 +228,8 @@ impl<'a, D: FailsToOrder, F: WritableFormat + FileFormat, A: Allocator + Copy> R
         requires { IsSound F.meaning D.state F.directory self }
         ensures sound { IsSound F.meaning D.state F.directory result }
         ensures format { result.format.now ≡ self.entry.format.now }
-        ensures ordered { ChangesHolds read_ordered (holds D.state F.directory self.entry) (holds D.state F.directory result) }
+        ensures ordered { ChangesHolds read_ordered (holds D.state F.directory self.entry)
+            (holds D.state F.directory result) }
     {
         let Replay {
             alloc,
@@ -261,7 +264,8 @@ impl<'a, D: FailsToOrder, F: WritableFormat + FileFormat, A: Allocator + Copy> R
         requires { IsSound F.meaning D.state F.directory self }
         ensures sound { IsSound F.meaning D.state F.directory result }
         ensures format { result.format.now ≡ self.entry.format.now }
-        ensures ordered { ChangesHolds (write_ordered took) (holds D.state F.directory self.entry) (holds D.state F.directory result) }
+        ensures ordered { ChangesHolds (write_ordered took) (holds D.state F.directory self.entry)
+            (holds D.state F.directory result) }
     {
         let Replay {
             alloc,
@@ -296,9 +300,12 @@ impl<'a, D: FailsToOrder, F: WritableFormat + FileFormat, A: Allocator + Copy> R
         requires { IsSound F.meaning D.state F.directory self }
         ensures sound { IfOk result (λ made. IsSound F.meaning D.state F.directory made.0) }
         ensures format { IfOk result (λ made. made.0.format.now ≡ self.entry.format.now) }
-        ensures turns { IfOk result (λ made. TurnsHolds (F.meaning self.entry.format.now) (F.files self.entry.format.now) event.now (holds D.state F.directory self.entry) made.1 (holds D.state F.directory made.0)) }
+        ensures turns { IfOk result (λ made.
+            TurnsHolds (F.meaning self.entry.format.now) (F.files self.entry.format.now) event.now
+            (holds D.state F.directory self.entry) made.1 (holds D.state F.directory made.0)) }
         ensures stop { IfErr result (λ _. event.now ≡ Event.Stop) }
-        ensures device { IfErr result (λ left. OnlyReads false (device_of (holds D.state F.directory self.entry)) (D.state left)) }
+        ensures device { IfErr result (λ left.
+            OnlyReads false (device_of (holds D.state F.directory self.entry)) (D.state left)) }
     {
         Ok(match event {
             Event::Step => self.step(),

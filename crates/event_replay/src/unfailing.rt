@@ -4,7 +4,8 @@ ghost use Rattle.event_replay.specs.Unfailing.{unfailing};
 
 use a2_device::{Device, DeviceError};
 
-/// Passes each call on. Nothing is known of it once the device in it has failed; until then, each of the writes that it counts stands.
+/// Passes each call on. Nothing is known of it once the device in it has failed; until then, each of the writes that it
+/// counts stands.
 #[derive(Drop)]
 pub(crate) struct Unfailing<D: Device> {
     device: D,
@@ -36,7 +37,8 @@ impl<D: Device> Device for Unfailing<D> {
 
     ghost state = { λ s. unfailing s.failed (D.state s.device) };
 
-    ghost whole = { λ s h. let honest = first_test _ _ h in record { all = (D.whole s.device honest).all; units = (D.whole s.device honest).units } };
+    ghost whole = { λ s h. let honest = first_test _ _ h in record
+        { all = (D.whole s.device honest).all; units = (D.whole s.device honest).units } };
 
     fn places(&self) -> u32 {
         self.device.places()

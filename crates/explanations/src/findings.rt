@@ -1,24 +1,25 @@
 // The table of what a job finds.
 use crate::explanation::Explanation;
 
-/// The explanations of what a job finds: faults of a volume, faults of a certificate and verdicts; and of words that are no job.
+/// The explanations of what a job finds: faults of a volume, faults of a certificate and verdicts; and of words that
+/// are no job.
 pub static FINDINGS: [Explanation; 23] = [
     Explanation {
         front: "FAULT Geometry",
-        meaning: "The header of the volume is not that of a volume of this size: the table of contents of a DOS disk does not tell 35 \
-            tracks of 16 sectors of 256 bytes, or a directory of ProDOS does not begin as one.",
+        meaning: "The header of the volume is not that of a volume of this size: the table of contents of a DOS disk \
+            does not tell 35 tracks of 16 sectors of 256 bytes, or a directory of ProDOS does not begin as one.",
         advice: "Often the file system or the order is the wrong one: ask `a2shop identify`.",
     },
     Explanation {
         front: "FAULT CatalogLink",
-        meaning: "The catalog of the DOS disk is a chain of sectors, and this one leads to none that can be the next: off track 17, or \
-            round to one that stood before.",
+        meaning: "The catalog of the DOS disk is a chain of sectors, and this one leads to none that can be the next: \
+            off track 17, or round to one that stood before.",
         advice: "Files that come behind it can't be listed. If the order may be the wrong one, ask `a2shop identify`.",
     },
     Explanation {
         front: "FAULT DirLink",
-        meaning: "A directory of the ProDOS volume is a chain of blocks, and this one leads to none that can be the next, or to a \
-            subdirectory that is none.",
+        meaning: "A directory of the ProDOS volume is a chain of blocks, and this one leads to none that can be the \
+            next, or to a subdirectory that is none.",
         advice: "Files that come behind it can't be listed. If the order may be the wrong one, ask `a2shop identify`.",
     },
     Explanation {
@@ -28,46 +29,52 @@ pub static FINDINGS: [Explanation; 23] = [
     },
     Explanation {
         front: "FAULT StorageType",
-        meaning: "An entry of a directory is of a kind that this program does not follow: neither a file of ProDOS nor a directory. \
-            Files with two forks are of such a kind.",
+        meaning: "An entry of a directory is of a kind that this program does not follow: neither a file of ProDOS nor \
+            a directory. Files with two forks are of such a kind.",
         advice: "The other files of the volume can still be read.",
     },
     Explanation {
         front: "FAULT OutOfRange",
         meaning: "This sector or block names a place that the disk does not have.",
-        advice: "The file to which it belongs is damaged. Copy the other files to another disk: `a2shop read` still reads them, \
-            but no command changes a volume that has a fault.",
+        advice: "The file to which it belongs is damaged. Copy the other files to another disk: `a2shop read` still \
+            reads them, but no command changes a volume that has a fault.",
     },
     Explanation {
         front: "FAULT InSystem",
-        meaning: "A file names a place that belongs to the system, as the tracks of DOS, a directory, a map, or a place that you reserved.",
-        advice: "Where the place is on track 1 or 2 of a DOS disk that does not start, add `--data-disk`. Where you reserved it, leave \
-            it out of the list.",
+        meaning: "A file names a place that belongs to the system, as the tracks of DOS, a directory, a map, or a \
+            place that you reserved.",
+        advice: "Where the place is on track 1 or 2 of a DOS disk that does not start, add `--data-disk`. Where you \
+            reserved it, leave it out of the list.",
     },
     Explanation {
         front: "FAULT Shared",
-        meaning: "Two files, or two parts of one file, name the same place: only one of them can be right about what stands there.",
-        advice: "Copy both files to another disk and look which of them is whole. No command changes a volume that has a fault.",
+        meaning: "Two files, or two parts of one file, name the same place: only one of them can be right about what \
+            stands there.",
+        advice: "Copy both files to another disk and look which of them is whole. No command changes a volume that \
+            has a fault.",
     },
     Explanation {
         front: "FAULT MarkedFree",
-        meaning: "A file has a part at a place that the volume's map has as free. The next file that is saved may be written over it.",
+        meaning: "A file has a part at a place that the volume's map has as free. The next file that is saved may be \
+            written over it.",
         advice: "Copy the files to another disk before anything is saved on this one.",
     },
     Explanation {
         front: "REFUSED Syntax",
-        meaning: "The file behind `--from` is no certificate. The number is that of the first line that can't stand there, from 1.",
+        meaning: "The file behind `--from` is no certificate. The number is that of the first line that can't stand \
+            there, from 1.",
         advice: "Name a file that `a2shop plan` wrote, unchanged.",
     },
     Explanation {
         front: "REFUSED OtherLayout",
         meaning: "The certificate is for a disk whose parts stand at other places than those of this one.",
-        advice: "Use the image from which the certificate was made, with the same `--reserve` and `--data-disk`. Once a disk is in \
-            order, its old certificate does not fit it any more.",
+        advice: "Use the image from which the certificate was made, with the same `--reserve` and `--data-disk`. Once \
+            a disk is in order, its old certificate does not fit it any more.",
     },
     Explanation {
         front: "REFUSED NotMisplaced",
-        meaning: "The certificate says of a part that it stands in the wrong place, and it stands in the right one. The number is the part's.",
+        meaning: "The certificate says of a part that it stands in the wrong place, and it stands in the right one. \
+            The number is the part's.",
         advice: "The certificate proves nothing. Make a new one by `a2shop plan`.",
     },
     Explanation {
@@ -77,14 +84,14 @@ pub static FINDINGS: [Explanation; 23] = [
     },
     Explanation {
         front: "REFUSED NotARing",
-        meaning: "The certificate says of some parts that each stands at the place of the next, and they do not. The number is that of \
-            the ring, from 0.",
+        meaning: "The certificate says of some parts that each stands at the place of the next, and they do not. The \
+            number is that of the ring, from 0.",
         advice: "The certificate proves nothing. Make a new one by `a2shop plan`.",
     },
     Explanation {
         front: "REFUSED IllegalMove",
-        meaning: "A move of the certificate goes to a place where a part stands, or that the disk does not have. The number is that of \
-            the move, from 0.",
+        meaning: "A move of the certificate goes to a place where a part stands, or that the disk does not have. The \
+            number is that of the move, from 0.",
         advice: "Do not make these moves. Make a new certificate by `a2shop plan`.",
     },
     Explanation {
@@ -94,7 +101,8 @@ pub static FINDINGS: [Explanation; 23] = [
     },
     Explanation {
         front: "REFUSED Sum",
-        meaning: "The numbers of the certificate do not add up: the bound, the misplaced parts with the rings, and the moves.",
+        meaning: "The numbers of the certificate do not add up: the bound, the misplaced parts with the rings, and \
+            the moves.",
         advice: "The certificate proves nothing. Make a new one by `a2shop plan`.",
     },
     Explanation {
@@ -104,11 +112,11 @@ pub static FINDINGS: [Explanation; 23] = [
     },
     Explanation {
         front: "ACCEPTED",
-        meaning: "The volume is sound: each part of each file stands alone, at a place that is marked as used. What stands in the \
-            files was not read, so a file may be damaged all the same. Lost places, if there are any, are marked as used and belong to \
-            no file; that is no fault.",
-        advice: "Nothing is to be done. Where places are lost, `a2shop plan` and `optimize` want `--reclaim`, to mark them as free, or \
-            `--reserve`, to keep them.",
+        meaning: "The volume is sound: each part of each file stands alone, at a place that is marked as used. What \
+            stands in the files was not read, so a file may be damaged all the same. Lost places, if there are any, \
+            are marked as used and belong to no file; that is no fault.",
+        advice: "Nothing is to be done. Where places are lost, `a2shop plan` and `optimize` want `--reclaim`, to mark \
+            them as free, or `--reserve`, to keep them.",
     },
     Explanation {
         front: "BEST",
@@ -118,13 +126,14 @@ pub static FINDINGS: [Explanation; 23] = [
     Explanation {
         front: "AMBIGUOUS",
         meaning: "The image may be read in more than one way, and none of them is better than all others.",
-        advice: "Compare the lines: the right way mostly has more entries, a longer chain and fewer lost places. Try `a2shop catalog` \
-            with each.",
+        advice: "Compare the lines: the right way mostly has more entries, a longer chain and fewer lost places. Try \
+            `a2shop catalog` with each.",
     },
     Explanation {
         front: "NONE",
         meaning: "There is no DOS 3.3 or ProDOS volume in the image, in none of the ways to read it.",
-        advice: "The image may be of another system, as Pascal or CP/M, be damaged, or not be an image of a whole disk.",
+        advice: "The image may be of another system, as Pascal or CP/M, be damaged, or not be an image of a whole \
+            disk.",
     },
     Explanation {
         front: "error:",

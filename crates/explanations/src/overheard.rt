@@ -7,10 +7,12 @@ ghost use Rattle.explanations.specs.Overheard.{Hears};
 use std::alloc::Global;
 use std::io::{self, Write};
 
-/// The most bytes that are kept of what was told, some 300,000 lines. The listing of a hostile volume may be far longer.
+/// The most bytes that are kept of what was told, some 300,000 lines. The listing of a hostile volume may be far
+/// longer.
 const MOST_HEARD: usize = 8_388_608;
 
-/// A writer that hands all on to another, and keeps a copy of what that one took, of its first 8,388,608 bytes at the most.
+/// A writer that hands all on to another, and keeps a copy of what that one took, of its first 8,388,608 bytes at the
+/// most.
 #[derive(Drop)]
 pub struct Overheard<W> {
     pub inner: W,
@@ -48,7 +50,8 @@ impl<W: Write> Write for Overheard<W> {
     fn write(&mut self, buf: &[u8]) -> io::Result<usize>
         ensures bound { WritesAtMost result buf.now }
         ensures bytes { WriteAppends (W.contents self.old.inner) (W.contents self.new.inner) result buf.now }
-        ensures told { IfOk result (λ count. Hears (option_map (λ v. v.items) self.old.told) (option_map (λ v. v.items) self.new.told) (take count buf.now)) }
+        ensures told { IfOk result (λ count. Hears (option_map (λ v. v.items) self.old.told)
+            (option_map (λ v. v.items) self.new.told) (take count buf.now)) }
         ensures untold { OnErr result (self.new.told ≡ self.old.told) }
     {
         let count = self.inner.write(buf)?;

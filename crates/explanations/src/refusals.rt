@@ -5,144 +5,157 @@ use crate::explanation::Explanation;
 pub static REFUSALS: [Explanation; 22] = [
     Explanation {
         front: "REFUSED InPlace",
-        meaning: "This image is not changed in its own file. That is done where the units of the volume stand in the file one after \
-            the other: a DOS 3.3 disk in DOS order, or a ProDOS volume in ProDOS order, in a file that has a name. Nothing was written.",
-        advice: "Say `--out FILE` in place of `--in-place`; or bring a copy into the other order with `a2shop convert`.",
+        meaning: "This image is not changed in its own file. That is done where the units of the volume stand in the \
+            file one after the other: a DOS 3.3 disk in DOS order, or a ProDOS volume in ProDOS order, in a file that \
+            has a name. Nothing was written.",
+        advice: "Say `--out FILE` in place of `--in-place`; or bring a copy into the other order with `a2shop \
+            convert`.",
     },
     Explanation {
         front: "REFUSED Length",
-        meaning: "The image has another length than an image in this order. A disk in DOS order or in ProDOS order has 143,360 bytes, \
-            in nibble order 232,960 bytes. A ProDOS volume of another size has 16 to 65,535 blocks of 512 bytes.",
-        advice: "Ask `a2shop identify` which ways to read the image there are. A file that is a little too long or too short was \
-            often cut or wrapped by another program: fetch it again.",
+        meaning: "The image has another length than an image in this order. A disk in DOS order or in ProDOS order has \
+            143,360 bytes, in nibble order 232,960 bytes. A ProDOS volume of another size has 16 to 65,535 blocks of \
+            512 bytes.",
+        advice: "Ask `a2shop identify` which ways to read the image there are. A file that is a little too long or too \
+            short was often cut or wrapped by another program: fetch it again.",
     },
     Explanation {
         front: "REFUSED Reserve",
-        meaning: "The word behind `--reserve` is no list of places. A place of a DOS disk is its track and its sector, as `3/14`; of a \
-            ProDOS volume it is a block, as `280`. Commas stand between the places, and no spaces.",
+        meaning: "The word behind `--reserve` is no list of places. A place of a DOS disk is its track and its sector, \
+            as `3/14`; of a ProDOS volume it is a block, as `280`. Commas stand between the places, and no spaces.",
         advice: "Write the list as `--reserve 3/14,4/0` or `--reserve 7,280`.",
     },
     Explanation {
         front: "REFUSED Type",
-        meaning: "The word behind `--type` is no type of this file system's files. DOS 3.3 takes one of the capital letters T, I, A, B, \
-            S and R: text, Integer BASIC, Applesoft, binary and two special types; ProDOS takes two hexadecimal digits. Nothing was \
-            written.",
-        advice: "Write it as `--type B` for a binary file of DOS 3.3; for ProDOS as `--type 04` for text, `06` for binary or `FC` for \
-            Applesoft.",
+        meaning: "The word behind `--type` is no type of this file system's files. DOS 3.3 takes one of the capital \
+            letters T, I, A, B, S and R: text, Integer BASIC, Applesoft, binary and two special types; ProDOS takes \
+            two hexadecimal digits. Nothing was written.",
+        advice: "Write it as `--type B` for a binary file of DOS 3.3; for ProDOS as `--type 04` for text, `06` for \
+            binary or `FC` for Applesoft.",
     },
     Explanation {
         front: "REFUSED Date",
-        meaning: "The word behind `--date` is no date and time, or one of a year that ProDOS does not keep: it keeps 1940 to 2039. \
-            Nothing was written.",
+        meaning: "The word behind `--date` is no date and time, or one of a year that ProDOS does not keep: it keeps \
+            1940 to 2039. Nothing was written.",
         advice: "Write it as `--date 1986-05-01T12:30`, or leave it out.",
     },
     Explanation {
         front: "REFUSED Check",
         meaning: "The volume has a fault, so this job could not be done without a guess. Nothing was written.",
-        advice: "Run `a2shop check` with the same `--fs` and `--order`: it tells each fault and its place. Where it tells very many, \
-            the order or the file system is often the wrong one: ask `a2shop identify`.",
+        advice: "Run `a2shop check` with the same `--fs` and `--order`: it tells each fault and its place. Where it \
+            tells very many, the order or the file system is often the wrong one: ask `a2shop identify`.",
     },
     Explanation {
         front: "REFUSED NotFound",
         meaning: "The volume has no file of this name, or, where a file was to be saved, no such directory.",
-        advice: "Run `a2shop catalog` to see the names. Names of DOS 3.3 are matched letter by letter; a file in a directory of ProDOS \
-            is named by its whole path, as `LETTERS/JUNE`.",
+        advice: "Run `a2shop catalog` to see the names. Names of DOS 3.3 are matched letter by letter; a file in a \
+            directory of ProDOS is named by its whole path, as `LETTERS/JUNE`.",
     },
     Explanation {
         front: "REFUSED Name",
         meaning: "No file may have the new name, or the name of the new file. Nothing was written.",
-        advice: "A name of DOS 3.3 has 1 to 30 characters from the space to the tilde and no comma, begins with a capital letter and \
-            does not end with a space. A name of ProDOS has 1 to 15 letters, digits and periods and begins with a letter; it is the last \
-            of the file's path, without a slash. To `a2shop rename` give that name alone, to `a2shop save` the whole path.",
+        advice: "A name of DOS 3.3 has 1 to 30 characters from the space to the tilde and no comma, begins with a \
+            capital letter and does not end with a space. A name of ProDOS has 1 to 15 letters, digits and periods and \
+            begins with a letter; it is the last of the file's path, without a slash. To `a2shop rename` give that \
+            name alone, to `a2shop save` the whole path.",
     },
     Explanation {
         front: "REFUSED Exists",
-        meaning: "The directory has an entry with the new name, or with the name of the new file: a file, a directory, or the very file \
-            that was to be renamed. Letters of either case are the same to ProDOS. No file is replaced by another, and nothing was \
-            written.",
-        advice: "Choose another name, or first rename or delete the entry that has it: `a2shop catalog` shows them. To save a file anew, \
-            delete the old one first.",
+        meaning: "The directory has an entry with the new name, or with the name of the new file: a file, a directory, \
+            or the very file that was to be renamed. Letters of either case are the same to ProDOS. No file is \
+            replaced by another, and nothing was written.",
+        advice: "Choose another name, or first rename or delete the entry that has it: `a2shop catalog` shows them. To \
+            save a file anew, delete the old one first.",
     },
     Explanation {
         front: "REFUSED Locked",
-        meaning: "The file is locked, so it is not deleted or renamed. A file of ProDOS counts as locked where its access bits do not \
-            let it be deleted, or renamed. Nothing was written.",
+        meaning: "The file is locked, so it is not deleted or renamed. A file of ProDOS counts as locked where its \
+            access bits do not let it be deleted, or renamed. Nothing was written.",
         advice: "Run `a2shop unlock` first, and this command on the image that it writes.",
     },
     Explanation {
         front: "REFUSED TooLong",
-        meaning: "The file is longer than a file of this file system can be. A file of DOS 3.3 has at most 560 sectors, and one of type A, \
-            I or B at most 65,535 bytes; a file of ProDOS has at most 32,768 blocks and 16,777,215 bytes. Nothing was written.",
-        advice: "Look whether `--from` names the right file. Cut a long one into several files, and save each under a name of its own.",
+        meaning: "The file is longer than a file of this file system can be. A file of DOS 3.3 has at most 560 \
+            sectors, and one of type A, I or B at most 65,535 bytes; a file of ProDOS has at most 32,768 blocks and \
+            16,777,215 bytes. Nothing was written.",
+        advice: "Look whether `--from` names the right file. Cut a long one into several files, and save each under a \
+            name of its own.",
     },
     Explanation {
         front: "REFUSED DirFull",
-        meaning: "The directory has no free entry: the catalog of a DOS disk mostly has 105 entries, the volume directory of ProDOS 51. \
-            This program makes no directory of ProDOS longer. Nothing was written.",
-        advice: "Delete a file with `a2shop delete`, and save on the image that it writes; or, in ProDOS, save into a subdirectory.",
+        meaning: "The directory has no free entry: the catalog of a DOS disk mostly has 105 entries, the volume \
+            directory of ProDOS 51. This program makes no directory of ProDOS longer. Nothing was written.",
+        advice: "Delete a file with `a2shop delete`, and save on the image that it writes; or, in ProDOS, save into a \
+            subdirectory.",
     },
     Explanation {
         front: "REFUSED VolumeFull",
-        meaning: "Fewer places are free on the volume than the file takes. It takes a sector or block for each of its lists or indexes \
-            too, beside those of its bytes. Nothing was written.",
-        advice: "Delete files that are not needed; the line `FREE` of `a2shop catalog` tells how many places are free. Where places are \
-            lost, `a2shop optimize --reclaim` marks them as free.",
+        meaning: "Fewer places are free on the volume than the file takes. It takes a sector or block for each of its \
+            lists or indexes too, beside those of its bytes. Nothing was written.",
+        advice: "Delete files that are not needed; the line `FREE` of `a2shop catalog` tells how many places are free. \
+            Where places are lost, `a2shop optimize --reclaim` marks them as free.",
     },
     Explanation {
         front: "REFUSED NoFreePlace",
-        meaning: "A part of a file stands in the wrong place, and every place of the volume has a part, so there is none over which \
-            the parts could be moved. Nothing was written.",
+        meaning: "A part of a file stands in the wrong place, and every place of the volume has a part, so there is \
+            none over which the parts could be moved. Nothing was written.",
         advice: "Take a file off a copy of the disk, or name fewer places behind `--reserve`, and try again.",
     },
     Explanation {
         front: "REFUSED InputTooLong",
-        meaning: "The file behind `--from` has more than 16,777,216 bytes, which is more than any certificate of a volume has, and more \
-            than any file of a volume.",
-        advice: "For `a2shop verify` name the file that `a2shop plan` wrote; for `a2shop save` look whether it is the right file.",
+        meaning: "The file behind `--from` has more than 16,777,216 bytes, which is more than any certificate of a \
+            volume has, and more than any file of a volume.",
+        advice: "For `a2shop verify` name the file that `a2shop plan` wrote; for `a2shop save` look whether it is the \
+            right file.",
     },
     Explanation {
         front: "REFUSED NoSector",
-        meaning: "A sector of the disk can't be found on its track, so the disk can't be written in another order. A track of disk bytes \
-            may be damaged, copy-protected or never formatted.",
+        meaning: "A sector of the disk can't be found on its track, so the disk can't be written in another order. A \
+            track of disk bytes may be damaged, copy-protected or never formatted.",
         advice: "Read the disk again, if you can. `a2shop catalog`, `check` and `read` still work on what can be read.",
     },
     Explanation {
         front: "REFUSED Lost",
-        meaning: "So many places are lost: the volume's map has them as used, and no file has them. They may be left over from a \
-            program that was stopped, or hold something that stands outside of all files, as a second system or a saved boot track.",
-        advice: "With `--reclaim` they are marked as free and may be written over. Use it where nothing outside of the files is worth \
-            keeping; else name the places that are to stay behind `--reserve`.",
+        meaning: "So many places are lost: the volume's map has them as used, and no file has them. They may be left \
+            over from a program that was stopped, or hold something that stands outside of all files, as a second \
+            system or a saved boot track.",
+        advice: "With `--reclaim` they are marked as free and may be written over. Use it where nothing outside of the \
+            files is worth keeping; else name the places that are to stay behind `--reserve`.",
     },
     Explanation {
         front: "REFUSED Ambiguous",
-        meaning: "`auto` found more than one way in which the image may be read, and none that is better than all others. Nothing was \
-            written.",
-        advice: "Run `a2shop identify` to see what is found in each way, and name the right one by `--fs` and `--order`.",
+        meaning: "`auto` found more than one way in which the image may be read, and none that is better than all \
+            others. Nothing was written.",
+        advice: "Run `a2shop identify` to see what is found in each way, and name the right one by `--fs` and \
+            `--order`.",
     },
     Explanation {
         front: "REFUSED Unknown",
-        meaning: "`auto` found no DOS 3.3 or ProDOS volume in the image, in none of the ways that its length and the other words allow. \
-            Nothing was written.",
-        advice: "Run `a2shop identify` to see each way. The image may be of another system, as Pascal or CP/M, be damaged, or not be \
-            an image of a whole disk.",
+        meaning: "`auto` found no DOS 3.3 or ProDOS volume in the image, in none of the ways that its length and the \
+            other words allow. Nothing was written.",
+        advice: "Run `a2shop identify` to see each way. The image may be of another system, as Pascal or CP/M, be \
+            damaged, or not be an image of a whole disk.",
     },
     Explanation {
         front: "FAILED Input",
-        meaning: "A file that the words name could not be opened or read; or another program works on the image and holds its lock; or \
-            it is to be changed, and is write-protected or was replaced meanwhile. Nothing was written.",
-        advice: "Look whether the name is spelled right, the file is there, it is no folder, and you may read it, and with `--in-place` \
-            write it. Where another program works on it, wait until that has ended.",
+        meaning: "A file that the words name could not be opened or read; or another program works on the image and \
+            holds its lock; or it is to be changed, and is write-protected or was replaced meanwhile. Nothing was \
+            written.",
+        advice: "Look whether the name is spelled right, the file is there, it is no folder, and you may read it, and \
+            with `--in-place` write it. Where another program works on it, wait until that has ended.",
     },
     Explanation {
         front: "FAILED Device",
-        meaning: "A sector that the job needs can't be read from the tracks of the image; or, with `--in-place`, the image's file could \
-            not be read or written, or what was written could not be put onto the disk.",
-        advice: "Read the disk again, if you can. A file that does not need the sector can still be read by `a2shop read`. With \
-            `--in-place` look whether the disk has room and is sound, and run `a2shop check` on the image.",
+        meaning: "A sector that the job needs can't be read from the tracks of the image; or, with `--in-place`, the \
+            image's file could not be read or written, or what was written could not be put onto the disk.",
+        advice: "Read the disk again, if you can. A file that does not need the sector can still be read by `a2shop \
+            read`. With `--in-place` look whether the disk has room and is sound, and run `a2shop check` on the \
+            image.",
     },
     Explanation {
         front: "FAILED Memory",
-        meaning: "There was not enough memory for the job. Nothing else is wrong with the image, as far as it was read.",
+        meaning: "There was not enough memory for the job. Nothing else is wrong with the image, as far as it was \
+            read.",
         advice: "Close other programs, or raise the limit of memory, and try again.",
     },
 ];

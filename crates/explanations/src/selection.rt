@@ -39,7 +39,8 @@ pub fn explained<'a>(
     table: &'a [Explanation],
     text: &[u8],
 ) -> Result<Vec<&'a Explanation>, AllocError>
-    ensures { IfOk result (λ rows. map (λ row. row.now) rows.items ≡ filter (λ row. begins_a_line row.front.now text.now) table.now) }
+    ensures { IfOk result (λ rows.
+        map (λ row. row.now) rows.items ≡ filter (λ row. begins_a_line row.front.now text.now) table.now) }
 {
     table
         .iter()

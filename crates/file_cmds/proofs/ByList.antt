@@ -6,8 +6,8 @@ use Rattle.std.proofs.lemmas.Bool.Decides.{nat_tests}
 use Rattle.vol_format.specs.Directory.{Directory, entries, entry_of, is_directory}
 use Rattle.vol_format.specs.Laws.{IsReadable}
 use Rattle.vol_format.specs.Meaning.{Meaning}
-use Rattle.vol_files.specs.Files.{Stored, File, IsFile, file_numbers, HasFiles}
-use Rattle.vol_files.proofs.Lists.{same_elements}
+use Rattle.vol_format.specs.Files.{Stored, File, IsFile, file_numbers, HasFiles}
+use Rattle.vol_format.proofs.Lists.{same_elements}
 use Rattle.file_formats.specs.Files.{FileMeaning, is_named, IsFirstNamed, NamesNone}
 use Rattle.file_cmds.specs.Text.{OwnFault, other_type, wild_root, wild_pointer, shared, AreUnitsOf, text_of}
 use Rattle.file_cmds.specs.Read.{IsTextAt, IsBroken, IsUnreadable, HasNoFile}

@@ -4,11 +4,11 @@ use Rattle.std.proofs.Common.{refl, sym, ◌∙◌, ap, subst, arith, get_or, �
 use Rattle.std.proofs.lemmas.List.{get_or-map, length-map}
 use Rattle.std.proofs.lemmas.List.Kept.{AllPairs-filter}
 use Rattle.a2_device.specs.Device.{unit_at}
-use Rattle.vol_parts.specs.declared.part.Part.{Part}
-use Rattle.vol_parts.specs.declared.part.PartKind.{PartKind}
-use Rattle.vol_parts.specs.declared.part.PartKind.TheVariants.{List as AList, Master, Index, Body}
-use Rattle.vol_parts.specs.declared.fault.Fault.{Fault}
-use Rattle.vol_parts.specs.declared.fault.Fault.TheVariants.{Geometry, CatalogLink, DirLink, MapPointer, StorageType, OutOfRange, InSystem, Shared, MarkedFree}
+use Rattle.a2_device.specs.declared.part.Part.{Part}
+use Rattle.a2_device.specs.declared.part.PartKind.{PartKind}
+use Rattle.a2_device.specs.declared.part.PartKind.TheVariants.{List as AList, Master, Index, Body}
+use Rattle.a2_device.specs.declared.fault.Fault.{Fault}
+use Rattle.a2_device.specs.declared.fault.Fault.TheVariants.{Geometry, CatalogLink, DirLink, MapPointer, StorageType, OutOfRange, InSystem, Shared, MarkedFree}
 use Rattle.vol_format.specs.declared.link.Link.TheVariants.{Null, Wild, OtherType, To}
 use Rattle.vol_format.specs.Directory.{Directory, entries, root_of, is_system}
 use Rattle.vol_format.specs.Meaning.{Meaning}
@@ -17,11 +17,11 @@ use Rattle.vol_format.specs.Accepted.{IsAccepted, PartFaultAt, FaultAt}
 use Rattle.vol_format.specs.Laws.{IsReadable, IsDirectory}
 use Rattle.vol_check.specs.Answer.{AreFaults}
 use Rattle.file_cmds.specs.Text.{OwnFault, other_type, wild_root, wild_pointer, shared, AreUnitsOf}
-use Rattle.vol_files.specs.Files.{Stored, IsStored}
+use Rattle.vol_format.specs.Files.{Stored, IsStored}
 use Rattle.file_cmds.specs.Walked.{is_body, stored_at, stored_of}
 use Rattle.file_cmds.specs.OneFile.{file_alone, of_one_file}
 use Rattle.file_cmds.specs.lemmas.FileAlone.{entries-alone, root-alone, root_of-same, root_of-link, outside_system}
-use Rattle.vol_files.proofs.Lists.{element, in_filter, out_of_filter, in_map, out_of_map}
+use Rattle.vol_format.proofs.Lists.{element, in_filter, out_of_filter, in_map, out_of_map}
 
 is_of_body : (kind : PartKind) → is_body kind ≡ true → kind ≡ Body
 is_of_body AList is = absurd (cc)

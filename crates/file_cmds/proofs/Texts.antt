@@ -4,8 +4,8 @@ use Rattle.std.specs.Prelude.{filter, if◌then◌else◌}
 use Rattle.std.proofs.lemmas.List.{append_assoc, append-nil, map-append, replicate-append-replicate}
 use Rattle.std.proofs.lemmas.List.Elements.{filter_more}
 use Rattle.a2_device.specs.Device.{DeviceState, unit_at}
-use Rattle.vol_parts.specs.declared.part.Part.{Part}
-use Rattle.vol_files.specs.Files.{Stored}
+use Rattle.a2_device.specs.declared.part.Part.{Part}
+use Rattle.vol_format.specs.Files.{Stored}
 use Rattle.file_cmds.specs.Text.{text_from, whole_text}
 use Rattle.file_cmds.specs.Walked.{is_body, stored_at, stored_of, number_behind, number_after, text_with}
 

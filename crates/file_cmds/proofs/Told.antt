@@ -1,8 +1,8 @@
 -- What a command tells of a call that ended early.
 use Rattle.std.proofs.Common.{◌≡◌, List, ℕ, refl}
-use Rattle.vol_parts.specs.declared.fault.Fault.{Fault}
-use Rattle.vol_parts.specs.declared.fault.WalkError.{WalkError}
-use Rattle.vol_parts.specs.declared.fault.WalkError.TheVariants as walk
+use Rattle.a2_device.specs.declared.fault.Fault.{Fault}
+use Rattle.a2_device.specs.declared.fault.WalkError.{WalkError}
+use Rattle.a2_device.specs.declared.fault.WalkError.TheVariants as walk
 use Rattle.vol_format.specs.Meaning.{Meaning}
 use Rattle.file_cmds.specs.declared.error.CmdError.TheVariants.{Check}
 use Rattle.file_cmds.specs.Refusal.{refusal_of}

@@ -3,7 +3,7 @@ use Rattle.std.specs.Prelude.{◌≡◌, ◌<◌, ℕ, List, length, Contains}
 use Rattle.std.specs.List.{All}
 use Rattle.std.proofs.Common.{◌∙◌, ap, subst, arith, get_or}
 use Rattle.a2_device.specs.Device.{DeviceState}
-use Rattle.vol_parts.specs.declared.part.Part.{Part}
+use Rattle.a2_device.specs.declared.part.Part.{Part}
 use Rattle.vol_format.specs.Directory.{Directory, entries}
 use Rattle.vol_format.specs.Meaning.{Meaning}
 use Rattle.vol_format.specs.Reach.{IsPartsOf}
@@ -18,7 +18,7 @@ use Rattle.file_cmds.specs.Refusal.{refusal_of_check}
 use Rattle.file_cmds.specs.Text.{OwnFault, IsWholeTextOf, whole_text}
 use Rattle.file_cmds.specs.Walked.{stored_of}
 use Rattle.file_cmds.specs.OneFile.{file_alone, of_one_file}
-use Rattle.vol_files.proofs.Lists.{element}
+use Rattle.vol_format.proofs.Lists.{element}
 use Rattle.file_cmds.proofs.OwnParts.{refused_for, faultless, are_units}
 
 -- the parts stand in the volume

@@ -1,6 +1,6 @@
 -- What a read answers, by the list of the files of a volume.
 use Rattle.std.specs.Prelude.{◌≡◌, ℕ, Bool, List, filter, Some, slice_get}
-use Rattle.vol_files.specs.Files.{File}
+use Rattle.vol_format.specs.Files.{File}
 use Rattle.file_formats.specs.Files.{FileMeaning}
 use Rattle.file_cmds.specs.Text.{text_of}
 

@@ -4,7 +4,7 @@ use Rattle.vol_format.specs.Directory.{Directory, entry_of}
 use Rattle.vol_format.specs.Meaning.{Meaning}
 use Rattle.file_formats.specs.Files.{FileMeaning, IsFirstNamed, NamesNone}
 use Rattle.file_formats.specs.Listing.{HasHeaderFault}
-use Rattle.vol_files.specs.Files.{Stored}
+use Rattle.vol_format.specs.Files.{Stored}
 use Rattle.file_cmds.specs.Text.{OwnFault, AreUnitsOf, text_of}
 
 -- the first file that a path names has no fault of its own, and this is its text

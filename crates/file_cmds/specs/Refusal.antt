@@ -1,11 +1,11 @@
 -- What is told of a walk that ended early.
 use Rattle.std.specs.Prelude.{Bool, true, false, Result, Err}
-use Rattle.vol_parts.specs.declared.fault.WalkError.{WalkError}
-use Rattle.vol_parts.specs.declared.fault.WalkError.TheVariants as walk
+use Rattle.a2_device.specs.declared.fault.WalkError.{WalkError}
+use Rattle.a2_device.specs.declared.fault.WalkError.TheVariants as walk
 use Rattle.vol_check.specs.declared.error.CheckError.{CheckError}
 use Rattle.vol_check.specs.declared.error.CheckError.TheVariants as check
-use Rattle.vol_parts.specs.declared.stop.Stop.{Stop}
-use Rattle.vol_parts.specs.declared.stop.Stop.TheVariants as stop
+use Rattle.a2_device.specs.declared.stop.Stop.{Stop}
+use Rattle.a2_device.specs.declared.stop.Stop.TheVariants as stop
 use Rattle.file_cmds.specs.declared.error.CmdError.{CmdError}
 use Rattle.file_cmds.specs.declared.error.CmdError.TheVariants.{Check, Device, Memory}
 

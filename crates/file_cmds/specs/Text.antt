@@ -1,11 +1,11 @@
 -- The text of a file.
 use Rattle.std.specs.Prelude.{◌≡◌, ◌≢◌, ◌↔◌, ◌<◌, ◌+◌, ◌-◌, ◌*◌, ℕ, Bool, true, false, List, [], ◌∷◌, ◌++◌, replicate, AllPairs, Contains}
-use Rattle.vol_parts.specs.declared.part.Part.{Part}
+use Rattle.a2_device.specs.declared.part.Part.{Part}
 use Rattle.vol_format.specs.declared.link.Link.TheVariants.{Wild, OtherType}
 use Rattle.vol_format.specs.Directory.{Directory, root_of}
 use Rattle.vol_format.specs.Meaning.{Meaning, link_from}
 use Rattle.vol_format.specs.Reach.{Reach}
-use Rattle.vol_files.specs.Files.{Stored, IsStored}
+use Rattle.vol_format.specs.Files.{Stored, IsStored}
 use Rattle.file_formats.specs.Files.{FileMeaning}
 
 -- What is wrong with a file by itself: it is of a kind that is not read, one of its pointers is wild, or two of its parts stand at one place.

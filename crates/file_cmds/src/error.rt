@@ -3,10 +3,10 @@ ghost use Rattle.std.specs.Prelude.{◌≡◌};
 ghost use Rattle.file_cmds.specs.declared.error.CmdError.TheVariants.{Memory};
 ghost use Rattle.file_cmds.specs.Refusal.{refusal_of, refusal_of_check, refusal_of_stop};
 
+use a2_device::{Stop, WalkError};
 use std::alloc::{AllocError, Allocator};
 use thiserror::Error;
 use vol_check::CheckError;
-use vol_parts::{Stop, WalkError};
 
 /// Why a command on a volume is refused.
 #[derive(Clone, Copy, Debug, PartialEq, Eq, Error)]

@@ -3,11 +3,11 @@ ghost use Rattle.std.specs.Prelude.{◌≡◌, ◌<◌, ◌≤◌, IfOk};
 ghost use Rattle.vol_format.specs.Directory.{entries};
 ghost use Rattle.file_cmds.specs.OneFile.{file_alone, of_one_file};
 
-use a2_device::Device;
+use a2_device::{Device, Part, WalkError};
 use vol_format::{Format, Holder, Link};
-use vol_parts::{Part, WalkError};
 
-/// A format whose volumes have one file: that of an entry of a volume that was read. Each place is available, and none is marked free.
+/// A format whose volumes have one file: that of an entry of a volume that was read. Each place is available, and none
+/// is marked free.
 #[derive(Drop)]
 pub struct OneFile<'a, F: Format> {
     pub format: &'a F,
@@ -23,13 +23,16 @@ impl<F: Format> Format for OneFile<'_, F> {
 
     type Volume = ();
 
-    ghost meaning = { λ f. of_one_file (F.meaning f.format.now) (file_alone (F.directory f.format.now f.volume.now) f.file) };
+    ghost meaning = { λ f.
+        of_one_file (F.meaning f.format.now) (file_alone (F.directory f.format.now f.volume.now) f.file) };
 
     ghost directory = { λ f v. file_alone (F.directory f.format.now f.volume.now) f.file };
 
-    ghost readable = { λ f. alone_is_readable (F.meaning f.format.now) (F.readable f.format.now) (file_alone (F.directory f.format.now f.volume.now) f.file) };
+    ghost readable = { λ f. alone_is_readable (F.meaning f.format.now) (F.readable f.format.now)
+        (file_alone (F.directory f.format.now f.volume.now) f.file) };
 
-    ghost rooted = { λ f v. alone_is_directory (F.directory f.format.now f.volume.now) f.file (F.meaning f.format.now) (F.rooted f.format.now f.volume.now) f.few };
+    ghost rooted = { λ f v. alone_is_directory (F.directory f.format.now f.volume.now) f.file (F.meaning f.format.now)
+        (F.rooted f.format.now f.volume.now) f.few };
 
     fn volume<D: Device>(&self, _device: &mut D) -> Result<(), WalkError> {
         Ok(())

@@ -1,6 +1,7 @@
 // The command that reads a file.
 ghost use Rattle.std.specs.Prelude.{◌≡◌, ◌≢◌, ◌<◌, ◌≤◌, IfOk, IsTrue};
 ghost use Rattle.a2_device.specs.Device.{OnlyReads};
+ghost use Rattle.vol_format.specs.Fits.{Fits};
 ghost use Rattle.vol_format.specs.Directory.{entries};
 ghost use Rattle.file_cmds.specs.Refusal.{told_device};
 ghost use Rattle.file_cmds.specs.Text.{OwnFault, IsWholeTextOf};
@@ -23,15 +24,15 @@ fn whole_text<D: Device, F: Format, A: Allocator + Copy>(
     volume: &F::Volume,
     file: u32,
 ) -> Result<Vec<u8, A>, CmdError>
-    requires unit { (D.state device.old).unit_size ≡ (F.meaning format.now).unit_size }
-    requires takes { (F.meaning format.now).Takes (D.state device.old).places }
+    requires fits { Fits (F.meaning format.now) (D.state device.old) }
     requires places { (F.directory format.now volume.now).places ≡ (D.state device.old).places }
     requires file { file < entries (F.directory format.now volume.now) }
 
     ensures device { OnlyReads (told_device result) (D.state device.old) (D.state device.new) }
     ensures found { result ≢ Err CmdError.NotFound }
     ensures text { IsTrue (D.state device.old).honest → IfOk result (λ text.
-        IsWholeTextOf (F.meaning format.now) (F.directory format.now volume.now) (D.state device.old).store file text.items) }
+        IsWholeTextOf (F.meaning format.now) (F.directory format.now volume.now)
+        (D.state device.old).store file text.items) }
     ensures check { IsTrue (D.state device.old).honest → result ≡ Err CmdError.Check
         → OwnFault (F.meaning format.now) (F.directory format.now volume.now) (D.state device.old).store file }
 {
@@ -45,12 +46,13 @@ fn whole_text<D: Device, F: Format, A: Allocator + Copy>(
     Ok(text_of(alloc, device, checked.parts())?)
 }
 
-/// The text of the first file that a path names: the whole of its units, or its body alone. It reads the header, the directory, and the
-/// file's own units, each once; what is wrong with other files, and what the map says, does not matter.
+/// The text of the first file that a path names: the whole of its units, or its body alone. It reads the header, the
+/// directory, and the file's own units, each once; what is wrong with other files, and what the map says, does not
+/// matter.
 ///
 /// # Errors
-/// `Check` where the header, the directory or the map's pointer has a fault, or the file has one of its own; `NotFound` where the path
-/// names no file; `Device` where a read fails; `Memory`.
+/// `Check` where the header, the directory or the map's pointer has a fault, or the file has one of its own; `NotFound`
+/// where the path names no file; `Device` where a read fails; `Memory`.
 pub fn read<D: Device, F: FileFormat, A: Allocator + Copy>(
     alloc: A,
     device: &mut D,
@@ -58,8 +60,7 @@ pub fn read<D: Device, F: FileFormat, A: Allocator + Copy>(
     path: &[u8],
     whole: bool,
 ) -> Result<Vec<u8, A>, CmdError>
-    requires unit { (D.state device.old).unit_size ≡ (F.meaning format.now).unit_size }
-    requires places { (F.meaning format.now).Takes (D.state device.old).places }
+    requires fits { Fits (F.meaning format.now) (D.state device.old) }
 
     ensures device { OnlyReads (told_device result) (D.state device.old) (D.state device.new) }
     ensures text { IsTrue (D.state device.old).honest → IfOk result (λ text.

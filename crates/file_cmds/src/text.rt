@@ -1,14 +1,13 @@
 // The text of a file's parts.
 ghost use Rattle.std.specs.Prelude.{◌≡◌, ◌<◌, ◌-◌, ◌*◌, ◌++◌, length, replicate, All, IfOk, OnOk, IsTrue};
 ghost use Rattle.a2_device.specs.Device.{OnlyReads, unit_at};
-ghost use Rattle.vol_parts.specs.declared.part.Part.{Part};
-ghost use Rattle.vol_parts.specs.Stop.{is_device_stop};
+ghost use Rattle.a2_device.specs.declared.part.Part.{Part};
+ghost use Rattle.a2_device.specs.Stop.{is_device_stop};
 ghost use Rattle.file_cmds.specs.Text.{whole_text};
 ghost use Rattle.file_cmds.specs.Walked.{stored_of, number_after, text_with};
 
-use a2_device::Device;
+use a2_device::{Device, Part, PartKind, Stop};
 use std::alloc::{AllocError, Allocator};
-use vol_parts::{Part, PartKind, Stop};
 
 // Puts so many units of zeros behind a text.
 fn add_zeros<A: Allocator>(
@@ -40,7 +39,8 @@ fn add_unit<D: Device, A: Allocator>(
 
     ensures device { OnlyReads (is_device_stop result) (D.state device.old) (D.state device.new) }
     ensures text { IsTrue (D.state device.old).honest → OnOk result (text.new.items
-        ≡ text.old.items ++ (replicate ((part.number - next) * (D.state device.old).unit_size) 0 ++ unit_at (D.state device.old).store part.place)) }
+        ≡ text.old.items ++ (replicate ((part.number - next) * (D.state device.old).unit_size) 0
+        ++ unit_at (D.state device.old).store part.place)) }
 {
     add_zeros(text, zeros, u64::from(part.number).saturating_sub(next))?;
     device.read(part.place, unit).map_err(|_| Stop::Device)?;
@@ -64,7 +64,8 @@ fn add_part<D: Device, A: Allocator>(
     ensures device { OnlyReads (is_device_stop result) (D.state device.old) (D.state device.new) }
     ensures next { IfOk result (λ after. after ≡ number_after part next) }
     ensures text { IsTrue (D.state device.old).honest
-        → OnOk result (text.new.items ≡ text_with (D.state device.old).unit_size (D.state device.old).store part next text.old.items) }
+        → OnOk result (text.new.items
+        ≡ text_with (D.state device.old).unit_size (D.state device.old).store part next text.old.items) }
 {
     if part.kind != PartKind::Body {
         return Ok(next);

@@ -3,8 +3,8 @@ use Rattle.std.specs.Prelude.{◌≡◌, ◌<◌, ℕ, zero, suc, Bool, true, fa
 use Rattle.std.specs.List.{AllZip}
 use Rattle.std.proofs.Common.{refl, sym, ◌∙◌, ap, subst, arith, get_or}
 use Rattle.vol_format.specs.Directory.{Listed, no_entry, is_directory}
-use Rattle.vol_files.specs.Files.{File}
-use Rattle.edit_laws.specs.FilesOf.{no_file}
+use Rattle.vol_format.specs.Files.{File}
+use Rattle.vol_laws.specs.FilesOf.{no_file}
 use Rattle.file_formats.specs.Files.{FileMeaning, is_named}
 use Rattle.edit_formats.specs.Lists.{with_first}
 

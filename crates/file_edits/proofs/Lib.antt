@@ -5,3 +5,11 @@ mod Renamed
 mod OneAnswer
 mod OneRename
 mod OneDeletion
+pub mod Firsts
+pub mod PartWrites
+pub mod Plans
+pub mod NewPlaces
+pub mod Elsewhere
+pub mod PlacedWrites
+pub mod Savings
+pub mod MadeSaving

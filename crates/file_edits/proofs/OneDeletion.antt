@@ -6,9 +6,9 @@ use Rattle.vol_format.specs.Directory.{entry_of}
 use Rattle.vol_format.specs.Laws.{IsReadable}
 use Rattle.vol_format.specs.Meaning.{Meaning}
 use Rattle.file_formats.specs.Files.{FileMeaning}
-use Rattle.edit_writes.specs.declared.error.EditError.{EditError}
-use Rattle.edit_writes.specs.declared.error.EditError.TheVariants.{Check, NotFound, Name, Exists, Locked}
-use Rattle.edit_writes.specs.declared.error.EditError.TheVariants.{TooLong, DirFull, VolumeFull, Device, Memory}
+use Rattle.edit_formats.specs.declared.error.EditError.{EditError}
+use Rattle.edit_formats.specs.declared.error.EditError.TheVariants.{Check, NotFound, Name, Exists, Locked}
+use Rattle.edit_formats.specs.declared.error.EditError.TheVariants.{TooLong, DirFull, VolumeFull, Device, Memory}
 use Rattle.edit_formats.specs.Erasing.{EraseMeaning}
 use Rattle.edit_formats.specs.Renamed.{HasFirst}
 use Rattle.file_edits.specs.Answers.{IsDeleteAnswer}

@@ -6,12 +6,12 @@ use Rattle.vol_format.specs.Accepted.{IsAccepted}
 use Rattle.vol_format.specs.Directory.{Directory, Listed, entry_of}
 use Rattle.vol_format.specs.Laws.{IsReadable, IsMovable, IsWritable}
 use Rattle.vol_format.specs.Meaning.{Meaning}
-use Rattle.vol_files.specs.Files.{File}
+use Rattle.vol_format.specs.Files.{File}
 use Rattle.file_formats.specs.Files.{FileMeaning, IsFirstNamed}
 use Rattle.edit_formats.specs.Edited.{HasChanged}
 use Rattle.edit_formats.specs.Names.{NameMeaning, IsNamable, name_written}
 use Rattle.edit_formats.specs.Renamed.{IsRenameEdit, with_new_name}
-use Rattle.edit_laws.specs.Writes.{Write}
+use Rattle.vol_laws.specs.Writes.{Write}
 use Rattle.edit_formats.proofs.Changed.{IsOneChange}
 use Rattle.file_edits.proofs.RewrittenFile.{first_is_file, first_inside, rewrite_changes}
 

@@ -7,19 +7,19 @@ use Rattle.vol_format.specs.Directory.{Directory, Listed, no_entry, entry_of, is
 use Rattle.vol_format.specs.Laws.{IsReadable, IsMovable, IsWritable}
 use Rattle.vol_format.specs.Meaning.{Meaning}
 use Rattle.vol_format.specs.Standing.{IsLost}
-use Rattle.vol_files.specs.Files.{File, HasFiles, IsFiles}
-use Rattle.edit_laws.specs.Entered.{HasSameRest}
-use Rattle.edit_laws.specs.FilesOf.{IsFileOf, file_of, no_file, rewritten_files}
-use Rattle.edit_laws.specs.Inserted.{rewritten, files_before}
-use Rattle.edit_laws.specs.Rewritten.{HasRewritten}
-use Rattle.edit_laws.proofs.FilesOf.{by_entries}
-use Rattle.edit_laws.proofs.Numbered.{entry_index}
-use Rattle.edit_laws.proofs.Rewriting.{entry_rewritten}
-use Rattle.edit_laws.proofs.SystemWrites.{one_unit_rest}
-use Rattle.edit_laws.proofs.WholeLists.{volume_rewritten}
-use Rattle.edit_laws.proofs.Zipped.{zipped_at}
+use Rattle.vol_format.specs.Files.{File, HasFiles, IsFiles}
+use Rattle.vol_laws.specs.Entered.{HasSameRest}
+use Rattle.vol_laws.specs.FilesOf.{IsFileOf, file_of, no_file, rewritten_files}
+use Rattle.vol_laws.specs.Inserted.{rewritten, files_before}
+use Rattle.vol_laws.specs.Rewritten.{HasRewritten}
+use Rattle.vol_laws.proofs.FilesOf.{by_entries}
+use Rattle.vol_laws.proofs.Numbered.{entry_index}
+use Rattle.vol_laws.proofs.Rewriting.{entry_rewritten}
+use Rattle.vol_laws.proofs.SystemWrites.{one_unit_rest}
+use Rattle.vol_laws.proofs.WholeLists.{volume_rewritten}
+use Rattle.vol_laws.proofs.Zipped.{zipped_at}
 use Rattle.file_formats.specs.Files.{FileMeaning, IsFirstNamed}
-use Rattle.edit_laws.specs.Deleted.{IsLostOn}
+use Rattle.vol_laws.specs.Deleted.{IsLostOn}
 use Rattle.edit_formats.specs.Edited.{HasChanged}
 use Rattle.edit_formats.specs.Lists.{with_first}
 use Rattle.file_edits.proofs.FirstNamed.{named_file, first_changed}

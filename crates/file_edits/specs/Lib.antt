@@ -1,1 +1,7 @@
 pub mod Answers
+pub mod Places
+pub mod Given
+pub mod Parts
+pub mod Saved
+pub mod Slots
+pub mod Placing

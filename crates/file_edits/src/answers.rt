@@ -2,8 +2,7 @@
 ghost use Rattle.std.specs.Prelude.{◌≡◌, ℕ, List, Result};
 ghost use Rattle.file_edits.specs.Answers.{IsDeleteAnswer, IsRenameAnswer};
 
-use edit_formats::EditableFormat;
-use edit_writes::EditError;
+use edit_formats::{EditError, EditableFormat};
 
 /// A law: a volume has one answer to a path and a new name. So where memory is there and no call of the device fails, a
 /// file is renamed exactly where no cause stands in the way, and each cause is told exactly where it is the first.

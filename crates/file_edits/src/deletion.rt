@@ -1,33 +1,51 @@
 // What deleting a file leaves of an honest device.
-ghost use Rattle.std.specs.Prelude.{◌≡◌, ◌<◌, ℕ, Bool, true, List, All, Contains, Result, Err, IsTrue, OnOk, length, map, ◌++◌};
+ghost use Rattle.std.specs.Prelude.{
+  ◌≡◌,
+  ◌<◌,
+  ℕ,
+  Bool,
+  true,
+  List,
+  All,
+  Contains,
+  Result,
+  Err,
+  IsTrue,
+  OnOk,
+  length,
+  map,
+  ◌++◌,
+};
 ghost use Rattle.a2_device.specs.Device.{DeviceState};
 ghost use Rattle.vol_format.specs.Directory.{Directory, entries};
 ghost use Rattle.dos_format.specs.Dos.{DescribesDos, dos_meaning};
 ghost use Rattle.dos_entries.specs.Rewriting.{sector_of_entry};
-ghost use Rattle.edit_laws.specs.Deleted.{HasFileDeleted};
+ghost use Rattle.vol_laws.specs.Deleted.{HasFileDeleted};
 ghost use Rattle.edit_formats.specs.DosErasing.{dos_erasing};
 ghost use Rattle.edit_formats.specs.Erasing.{HasWholeUnits, IsErasing};
-ghost use Rattle.edit_laws.specs.Deletion.{IsDeletion};
-ghost use Rattle.edit_writes.specs.declared.writes.Prepared.{Prepared};
-ghost use Rattle.edit_writes.specs.Prepared.{write_of};
-ghost use Rattle.edit_writes.specs.Markings.{AreMarked};
+ghost use Rattle.vol_laws.specs.Deletion.{IsDeletion};
+ghost use Rattle.edit_formats.specs.declared.writes.Prepared.{Prepared};
+ghost use Rattle.edit_formats.specs.Prepared.{write_of};
+ghost use Rattle.edit_formats.specs.Markings.{AreMarked};
 ghost use Rattle.edit_formats.specs.Deleted.{HasPlacesOf, IsDeleteEdit, IsOldOrErased};
-ghost use Rattle.edit_writes.specs.Writes.{HasEdited};
+ghost use Rattle.edit_formats.specs.Writes.{HasEdited};
 
-use edit_formats::EditableFormat;
-use edit_writes::{EditError, Prepared};
+use edit_formats::{EditError, EditableFormat, Prepared};
 use std::alloc::Allocator;
 
-/// A law: an edit that makes the writes of a deletion leaves the files without the first that the path names, and the same places are lost; where it was
-/// stopped by the device, the store is as it was, or has no entry of that file and at worst its places are lost.
+/// A law: an edit that makes the writes of a deletion leaves the files without the first that the path names, and the
+/// same places are lost; where it was stopped by the device, the store is as it was, or has no entry of that file and
+/// at worst its places are lost.
 pub fn a_deletion_made_takes_out_one_file<F: EditableFormat>(format: &F)
     ensures done { (path : List ℕ) (result : Result (Unit {0}) EditError) (old new : DeviceState)
         → IsTrue old.honest → HasWholeUnits (F.meaning format.now) old.store
-        → HasEdited (IsDeleteEdit (F.meaning format.now) (F.files format.now) (F.erasures format.now) old.store path) result old new
+        → HasEdited (IsDeleteEdit (F.meaning format.now) (F.files format.now)
+        (F.erasures format.now) old.store path) result old new
         → OnOk result (HasFileDeleted (F.meaning format.now) ((F.files format.now).matches path) old.store new.store) }
     ensures stopped { (path : List ℕ) (result : Result (Unit {0}) EditError) (old new : DeviceState)
         → IsTrue old.honest → HasWholeUnits (F.meaning format.now) old.store
-        → HasEdited (IsDeleteEdit (F.meaning format.now) (F.files format.now) (F.erasures format.now) old.store path) result old new
+        → HasEdited (IsDeleteEdit (F.meaning format.now) (F.files format.now)
+        (F.erasures format.now) old.store path) result old new
         → result ≡ Err EditError.Device
         → IsOldOrErased (F.meaning format.now) (F.files format.now) path old.store new.store }
 {}
@@ -40,7 +58,8 @@ pub fn a_dos_entry_is_erased_by_one_write()
         → IsErasing (dos_meaning data_disk reserved) directory file store (dos_erasing directory file store) }
 {}
 
-/// A law: the writes that erase the entry of a file, and behind them those that mark its places free, are those of a deletion.
+/// A law: the writes that erase the entry of a file, and behind them those that mark its places free, are those of a
+/// deletion.
 pub fn an_erased_entry_and_released_places_are_a_deletion<F: EditableFormat, A: Allocator>(
     format: &F,
     writes: &[Prepared<A>],

@@ -1,20 +1,33 @@
 //! Commands that change the files of a volume, over any device that has its units and any format that is edited.
 //!
-//! A file is locked, unlocked or renamed by one write into its entry (`locking`, `naming`), and deleted by two writes or more (`deleting`); all room is taken and
-//! all is weighed before the first write. What an edit is, what it asks of a format and what it does to the list of the volume's files is said in `edit_formats`
-//! (`specs/Edits.antt`, `specs/Lists.antt`, `specs/Edited.antt`, `specs/Renamed.antt`, `specs/Deleted.antt`). Laws say that the writes of a deletion together delete the file (`deletion`),
-//! and that a volume has one answer to a rename and to a deletion (`answers`).
+//! A file is locked, unlocked or renamed by one write into its entry (`locking`, `naming`), and deleted by two writes
+//! or more (`deleting`). What an edit is, what it asks of a format and what it does to the list of the volume's files
+//! is said in `edit_formats`. Laws say that the writes of a deletion together delete the file (`deletion`), and that a
+//! volume has one answer to a rename and to a deletion (`answers`).
 //!
-//! What always holds: a refusal leaves the device as it was; where a read or a write fails, the files are those of before or those of after.
+//! A new file is given as its path, its attributes and its units, of which some may be holes (`specs/Given.antt`). Its
+//! parts get the first free places of the volume (`specs/Places.antt`, `places`); each part has its unit, that of the
+//! body as it is given and that of a table as the format builds it (`specs/Parts.antt`, `building`). Its entry gets the
+//! slot to which the path leads (`specs/Slots.antt`, `slots`). The writes are all made ready (`preparing`) before the
+//! first is made (`saving`). What saving leaves and why it is refused is told by `specs/Saved.antt`.
+//!
+//! What always holds: all room is taken and all is weighed before the first write; a refusal leaves the device as it
+//! was; where a read or a write fails, the files are those of before or those of after.
 #![tactic(auto)]
 
 mod answers;
+mod building;
 mod deleting;
 mod deletion;
 mod locking;
 mod naming;
+mod places;
+mod preparing;
+mod saving;
+mod slots;
 
 pub use answers::{a_deletion_has_one_answer, a_rename_has_one_answer};
+pub use building::part_writes;
 pub use deleting::delete;
 pub use deletion::{
     a_deletion_made_takes_out_one_file, a_dos_entry_is_erased_by_one_write,
@@ -22,3 +35,5 @@ pub use deletion::{
 };
 pub use locking::{lock, unlock};
 pub use naming::rename;
+pub use places::first_places;
+pub use saving::save;

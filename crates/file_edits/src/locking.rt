@@ -1,17 +1,17 @@
 // The commands that lock and unlock a file.
 ghost use Rattle.std.specs.Prelude.{◌≡◌, ◌<◌, List, [], ◌∷◌, length, true, false, Err, IfErr, IsTrue, OnOk};
+ghost use Rattle.vol_format.specs.Fits.{Fits};
 ghost use Rattle.vol_format.specs.Accepted.{IsVolume};
 ghost use Rattle.vol_format.specs.Directory.{entries, entry_of};
 ghost use Rattle.a2_device.specs.Device.{unit_at};
 ghost use Rattle.edit_formats.specs.Edited.{IsLockEdit, HasNoSuchFile, HasChanged, IsOldOrChanged};
 ghost use Rattle.edit_formats.specs.Lists.{with_lock_on};
-ghost use Rattle.edit_writes.specs.Refusal.{IsLockRefusal};
-ghost use Rattle.edit_laws.specs.Writes.{Write};
-ghost use Rattle.edit_writes.specs.Writes.{HasEdited};
+ghost use Rattle.edit_formats.specs.Refusal.{IsLockRefusal};
+ghost use Rattle.vol_laws.specs.Writes.{Write};
+ghost use Rattle.edit_formats.specs.Writes.{HasEdited};
 
 use a2_device::Device;
-use edit_formats::EditableFormat;
-use edit_writes::{EditError, read_unit, write_unit};
+use edit_formats::{EditError, EditableFormat, read_unit, write_unit};
 use file_formats::find;
 use std::alloc::Allocator;
 use vol_check::check;
@@ -51,13 +51,14 @@ fn relock<D: Device, F: EditableFormat, A: Allocator + Copy>(
     path: &[u8],
     on: bool,
 ) -> Result<(), EditError>
-    requires unit { (D.state device.old).unit_size ≡ (F.meaning format.now).unit_size }
-    requires places { (F.meaning format.now).Takes (D.state device.old).places }
+    requires fits { Fits (F.meaning format.now) (D.state device.old) }
 
-    ensures edited { HasEdited (IsLockEdit (F.meaning format.now) (F.files format.now) (F.edits format.now) (D.state device.old).store path.now on)
+    ensures edited { HasEdited (IsLockEdit (F.meaning format.now) (F.files format.now) (F.edits format.now)
+        (D.state device.old).store path.now on)
         result (D.state device.old) (D.state device.new) }
     ensures refusals { IfErr result IsLockRefusal }
-    ensures check { IsTrue (D.state device.old).honest → result ≡ Err EditError.Check → IsVolume (F.meaning format.now) (D.state device.old).store → ⊥ }
+    ensures check { IsTrue (D.state device.old).honest → result ≡ Err EditError.Check
+        → IsVolume (F.meaning format.now) (D.state device.old).store → ⊥ }
     ensures not_found { IsTrue (D.state device.old).honest → result ≡ Err EditError.NotFound
         → HasNoSuchFile (F.meaning format.now) (F.files format.now) (D.state device.old).store path.now }
 {
@@ -72,35 +73,40 @@ fn relock<D: Device, F: EditableFormat, A: Allocator + Copy>(
 /// Locks the first file that a path names: one write, of the unit that has its entry. A file that is locked stays so.
 ///
 /// # Errors
-/// `Check` where the volume is not accepted; `NotFound` where the path names no file; `Device` where a read or the write fails;
-/// `Memory`.
+/// `Check` where the volume is not accepted; `NotFound` where the path names no file; `Device` where a read or the
+/// write fails; `Memory`.
 pub fn lock<D: Device, F: EditableFormat, A: Allocator + Copy>(
     alloc: A,
     device: &mut D,
     format: &F,
     path: &[u8],
 ) -> Result<(), EditError>
-    requires unit { (D.state device.old).unit_size ≡ (F.meaning format.now).unit_size }
-    requires places { (F.meaning format.now).Takes (D.state device.old).places }
+    requires fits { Fits (F.meaning format.now) (D.state device.old) }
 
     // every device
-    ensures edited { HasEdited (IsLockEdit (F.meaning format.now) (F.files format.now) (F.edits format.now) (D.state device.old).store path.now true)
+    ensures edited { HasEdited (IsLockEdit (F.meaning format.now) (F.files format.now) (F.edits format.now)
+        (D.state device.old).store path.now true)
         result (D.state device.old) (D.state device.new) }
     ensures refusals { IfErr result IsLockRefusal }
 
     // an honest device
     ensures files { IsTrue (D.state device.old).honest → OnOk result (HasChanged (F.meaning format.now)
-        (with_lock_on (F.files format.now) (F.edits format.now) path.now true) (D.state device.old).store (D.state device.new).store) }
-    ensures stopped { IsTrue (D.state device.old).honest → result ≡ Err EditError.Device → IsOldOrChanged (F.meaning format.now)
-        (with_lock_on (F.files format.now) (F.edits format.now) path.now true) (D.state device.old).store (D.state device.new).store }
-    ensures check { IsTrue (D.state device.old).honest → result ≡ Err EditError.Check → IsVolume (F.meaning format.now) (D.state device.old).store → ⊥ }
+        (with_lock_on (F.files format.now) (F.edits format.now) path.now true) (D.state device.old).store
+        (D.state device.new).store) }
+    ensures stopped { IsTrue (D.state device.old).honest → result ≡ Err EditError.Device
+        → IsOldOrChanged (F.meaning format.now)
+        (with_lock_on (F.files format.now) (F.edits format.now) path.now true) (D.state device.old).store
+        (D.state device.new).store }
+    ensures check { IsTrue (D.state device.old).honest → result ≡ Err EditError.Check
+        → IsVolume (F.meaning format.now) (D.state device.old).store → ⊥ }
     ensures not_found { IsTrue (D.state device.old).honest → result ≡ Err EditError.NotFound
         → HasNoSuchFile (F.meaning format.now) (F.files format.now) (D.state device.old).store path.now }
 {
     relock(alloc, device, format, path, true)
 }
 
-/// Unlocks the first file that a path names: one write, of the unit that has its entry. A file that is not locked stays so.
+/// Unlocks the first file that a path names: one write, of the unit that has its entry. A file that is not locked stays
+/// so.
 ///
 /// # Errors
 /// As of `lock`.
@@ -110,20 +116,24 @@ pub fn unlock<D: Device, F: EditableFormat, A: Allocator + Copy>(
     format: &F,
     path: &[u8],
 ) -> Result<(), EditError>
-    requires unit { (D.state device.old).unit_size ≡ (F.meaning format.now).unit_size }
-    requires places { (F.meaning format.now).Takes (D.state device.old).places }
+    requires fits { Fits (F.meaning format.now) (D.state device.old) }
 
     // every device
-    ensures edited { HasEdited (IsLockEdit (F.meaning format.now) (F.files format.now) (F.edits format.now) (D.state device.old).store path.now false)
+    ensures edited { HasEdited (IsLockEdit (F.meaning format.now) (F.files format.now) (F.edits format.now)
+        (D.state device.old).store path.now false)
         result (D.state device.old) (D.state device.new) }
     ensures refusals { IfErr result IsLockRefusal }
 
     // an honest device
     ensures files { IsTrue (D.state device.old).honest → OnOk result (HasChanged (F.meaning format.now)
-        (with_lock_on (F.files format.now) (F.edits format.now) path.now false) (D.state device.old).store (D.state device.new).store) }
-    ensures stopped { IsTrue (D.state device.old).honest → result ≡ Err EditError.Device → IsOldOrChanged (F.meaning format.now)
-        (with_lock_on (F.files format.now) (F.edits format.now) path.now false) (D.state device.old).store (D.state device.new).store }
-    ensures check { IsTrue (D.state device.old).honest → result ≡ Err EditError.Check → IsVolume (F.meaning format.now) (D.state device.old).store → ⊥ }
+        (with_lock_on (F.files format.now) (F.edits format.now) path.now false) (D.state device.old).store
+        (D.state device.new).store) }
+    ensures stopped { IsTrue (D.state device.old).honest → result ≡ Err EditError.Device
+        → IsOldOrChanged (F.meaning format.now)
+        (with_lock_on (F.files format.now) (F.edits format.now) path.now false) (D.state device.old).store
+        (D.state device.new).store }
+    ensures check { IsTrue (D.state device.old).honest → result ≡ Err EditError.Check
+        → IsVolume (F.meaning format.now) (D.state device.old).store → ⊥ }
     ensures not_found { IsTrue (D.state device.old).honest → result ≡ Err EditError.NotFound
         → HasNoSuchFile (F.meaning format.now) (F.files format.now) (D.state device.old).store path.now }
 {

@@ -1,19 +1,19 @@
 // The command that renames a file.
 ghost use Rattle.std.specs.Prelude.{◌≡◌, ◌<◌, List, [], ◌∷◌, length, true, false, Err, IfErr, IsTrue, OnOk};
+ghost use Rattle.vol_format.specs.Fits.{Fits};
 ghost use Rattle.vol_format.specs.Accepted.{IsVolume};
 ghost use Rattle.vol_format.specs.Directory.{entries, entry_of};
 ghost use Rattle.a2_device.specs.Device.{OnlyReads, unit_at};
 ghost use Rattle.edit_formats.specs.Edited.{HasNoSuchFile, HasChanged, IsOldOrChanged};
-ghost use Rattle.edit_writes.specs.Refusal.{told_device};
+ghost use Rattle.edit_formats.specs.Refusal.{told_device};
 ghost use Rattle.edit_formats.specs.Renamed.{HasFirst, HasFirstUnnamed, HasFirstBeside, HasFirstLocked};
 ghost use Rattle.edit_formats.specs.Renamed.{IsRenameEdit, IsRenamable, IsWeighed, IsRenameTold};
 ghost use Rattle.edit_formats.specs.Renamed.{IsRenameRefusal, IsEntryRefusal, with_new_name};
-ghost use Rattle.edit_laws.specs.Writes.{Write};
-ghost use Rattle.edit_writes.specs.Writes.{HasEdited};
+ghost use Rattle.vol_laws.specs.Writes.{Write};
+ghost use Rattle.edit_formats.specs.Writes.{HasEdited};
 
 use a2_device::Device;
-use edit_formats::EditableFormat;
-use edit_writes::{EditError, read_unit, write_unit};
+use edit_formats::{EditError, EditableFormat, read_unit, write_unit};
 use file_formats::find;
 use std::alloc::Allocator;
 use vol_check::check;
@@ -55,15 +55,16 @@ fn weigh<D: Device, F: EditableFormat, A: Allocator + Copy>(
     file: u32,
     new: &[u8],
 ) -> Result<(), EditError>
-    requires unit { (D.state device.old).unit_size ≡ (F.meaning format.now).unit_size }
-    requires places { (F.meaning format.now).Takes (D.state device.old).places }
+    requires fits { Fits (F.meaning format.now) (D.state device.old) }
     requires file { file < entries (F.directory format.now volume.now) }
 
     ensures device { OnlyReads (told_device result) (D.state device.old) (D.state device.new) }
     ensures refused { IfErr result IsEntryRefusal }
     ensures name { OnOk result ((F.names format.now).may_have new.now ≡ true) }
-    ensures weighed { IsTrue (D.state device.old).honest → (F.meaning format.now).Describes (D.state device.old).store (F.directory format.now volume.now)
-        → IsWeighed (F.names format.now) (D.state device.old).store (F.directory format.now volume.now) file new.now result }
+    ensures weighed { IsTrue (D.state device.old).honest
+        → (F.meaning format.now).Describes (D.state device.old).store (F.directory format.now volume.now)
+        → IsWeighed (F.names format.now) (D.state device.old).store
+        (F.directory format.now volume.now) file new.now result }
 {
     if !format.may_have(new) {
         return Err(EditError::Name);
@@ -89,16 +90,18 @@ fn rename_entry<D: Device, F: EditableFormat, A: Allocator + Copy>(
     unit: &mut [u8],
     new: &[u8],
 ) -> Result<(), EditError>
-    requires size { (D.state device.old).unit_size ≡ (F.meaning format.now).unit_size }
-    requires takes { (F.meaning format.now).Takes (D.state device.old).places }
+    requires fits { Fits (F.meaning format.now) (D.state device.old) }
     requires unit { length unit.old ≡ (D.state device.old).unit_size }
     requires places { (F.directory format.now volume.now).places ≡ (D.state device.old).places }
     requires file { file < entries (F.directory format.now volume.now) }
-    requires described { IsTrue (D.state device.old).honest → (F.meaning format.now).Describes (D.state device.old).store (F.directory format.now volume.now) }
+    requires described { IsTrue (D.state device.old).honest
+        → (F.meaning format.now).Describes (D.state device.old).store (F.directory format.now volume.now) }
 
     ensures refused { IfErr result IsEntryRefusal }
-    ensures weighed { IsTrue (D.state device.old).honest → IsWeighed (F.names format.now) (D.state device.old).store (F.directory format.now volume.now) file new.now result }
-    ensures edited { HasEdited (λ (writes : List Write). IsRenamable (F.names format.now) (D.state device.old).store (F.directory format.now volume.now) file new.now
+    ensures weighed { IsTrue (D.state device.old).honest → IsWeighed (F.names format.now) (D.state device.old).store
+        (F.directory format.now volume.now) file new.now result }
+    ensures edited { HasEdited (λ (writes : List Write). IsRenamable (F.names format.now) (D.state device.old).store
+        (F.directory format.now volume.now) file new.now
         × (writes ≡ record {
           place = (entry_of (F.directory format.now volume.now) file).place;
           unit = (F.names format.now).with_name new.now (entry_of (F.directory format.now volume.now) file)
@@ -119,17 +122,19 @@ fn rename_first<D: Device, F: EditableFormat, A: Allocator + Copy>(
     path: &[u8],
     new: &[u8],
 ) -> Result<(), EditError>
-    requires unit { (D.state device.old).unit_size ≡ (F.meaning format.now).unit_size }
-    requires places { (F.meaning format.now).Takes (D.state device.old).places }
+    requires fits { Fits (F.meaning format.now) (D.state device.old) }
 
-    ensures edited { HasEdited (IsRenameEdit (F.meaning format.now) (F.files format.now) (F.names format.now) (D.state device.old).store path.now new.now)
+    ensures edited { HasEdited (IsRenameEdit (F.meaning format.now) (F.files format.now) (F.names format.now)
+        (D.state device.old).store path.now new.now)
         result (D.state device.old) (D.state device.new) }
     ensures refusals { IfErr result IsRenameRefusal }
-    ensures check { IsTrue (D.state device.old).honest → result ≡ Err EditError.Check → IsVolume (F.meaning format.now) (D.state device.old).store → ⊥ }
+    ensures check { IsTrue (D.state device.old).honest → result ≡ Err EditError.Check
+        → IsVolume (F.meaning format.now) (D.state device.old).store → ⊥ }
     ensures not_found { IsTrue (D.state device.old).honest → result ≡ Err EditError.NotFound
         → HasNoSuchFile (F.meaning format.now) (F.files format.now) (D.state device.old).store path.now }
     ensures told { IsTrue (D.state device.old).honest
-        → IsRenameTold (F.meaning format.now) (F.files format.now) (F.names format.now) (D.state device.old).store path.now new.now result }
+        → IsRenameTold (F.meaning format.now) (F.files format.now) (F.names format.now)
+        (D.state device.old).store path.now new.now result }
 {
     let mut unit = vec![in alloc; 0; device.unit()]?;
     let checked = check(alloc, device, format)?;
@@ -147,13 +152,14 @@ fn rename_first<D: Device, F: EditableFormat, A: Allocator + Copy>(
     )
 }
 
-/// Renames the first file that a path names: one write, of the unit that has its entry. The new name is the last of its path, with no slash; it is stored as the format
-/// has it. An entry beside the file's is one of the same directory, of a file or of a directory; the file's own is one of them.
+/// Renames the first file that a path names: one write, of the unit that has its entry. The new name is the last of its
+/// path, with no slash; it is stored as the format has it. An entry beside the file's is one of the same directory, of
+/// a file or of a directory; the file's own is one of them.
 ///
 /// # Errors
-/// Of several the first in this order: `Check` where the volume is not accepted; `NotFound` where the path names no file; `Name` where no file
-/// may get the new name; `Exists` where an entry beside the file's has it; `Locked` where the file's entry keeps its name. `Device` where a read or the write fails;
-/// `Memory`.
+/// Of several the first in this order: `Check` where the volume is not accepted; `NotFound` where the path names no
+/// file; `Name` where no file may get the new name; `Exists` where an entry beside the file's has it; `Locked` where
+/// the file's entry keeps its name. `Device` where a read or the write fails; `Memory`.
 pub fn rename<D: Device, F: EditableFormat, A: Allocator + Copy>(
     alloc: A,
     device: &mut D,
@@ -161,29 +167,35 @@ pub fn rename<D: Device, F: EditableFormat, A: Allocator + Copy>(
     path: &[u8],
     new: &[u8],
 ) -> Result<(), EditError>
-    requires unit { (D.state device.old).unit_size ≡ (F.meaning format.now).unit_size }
-    requires places { (F.meaning format.now).Takes (D.state device.old).places }
+    requires fits { Fits (F.meaning format.now) (D.state device.old) }
 
     // every device
-    ensures edited { HasEdited (IsRenameEdit (F.meaning format.now) (F.files format.now) (F.names format.now) (D.state device.old).store path.now new.now)
+    ensures edited { HasEdited (IsRenameEdit (F.meaning format.now) (F.files format.now) (F.names format.now)
+        (D.state device.old).store path.now new.now)
         result (D.state device.old) (D.state device.new) }
     ensures refusals { IfErr result IsRenameRefusal }
 
     // an honest device
     ensures files { IsTrue (D.state device.old).honest → OnOk result (HasChanged (F.meaning format.now)
-        (with_new_name (F.files format.now) (F.names format.now) path.now new.now) (D.state device.old).store (D.state device.new).store) }
-    ensures renamable { IsTrue (D.state device.old).honest → OnOk result (HasFirst (F.meaning format.now) (F.files format.now) (D.state device.old).store path.now
+        (with_new_name (F.files format.now) (F.names format.now) path.now new.now) (D.state device.old).store
+        (D.state device.new).store) }
+    ensures renamable { IsTrue (D.state device.old).honest
+        → OnOk result (HasFirst (F.meaning format.now) (F.files format.now) (D.state device.old).store path.now
         (λ directory file. IsRenamable (F.names format.now) (D.state device.old).store directory file new.now)) }
-    ensures stopped { IsTrue (D.state device.old).honest → result ≡ Err EditError.Device → IsOldOrChanged (F.meaning format.now)
-        (with_new_name (F.files format.now) (F.names format.now) path.now new.now) (D.state device.old).store (D.state device.new).store }
-    ensures check { IsTrue (D.state device.old).honest → result ≡ Err EditError.Check → IsVolume (F.meaning format.now) (D.state device.old).store → ⊥ }
+    ensures stopped { IsTrue (D.state device.old).honest → result ≡ Err EditError.Device
+        → IsOldOrChanged (F.meaning format.now)
+        (with_new_name (F.files format.now) (F.names format.now) path.now new.now) (D.state device.old).store
+        (D.state device.new).store }
+    ensures check { IsTrue (D.state device.old).honest → result ≡ Err EditError.Check
+        → IsVolume (F.meaning format.now) (D.state device.old).store → ⊥ }
     ensures not_found { IsTrue (D.state device.old).honest → result ≡ Err EditError.NotFound
         → HasNoSuchFile (F.meaning format.now) (F.files format.now) (D.state device.old).store path.now }
     ensures name { IsTrue (D.state device.old).honest → result ≡ Err EditError.Name
         → HasFirstUnnamed (F.meaning format.now) (F.files format.now) (F.names format.now) (D.state device.old).store
         path.now new.now }
     ensures exists { IsTrue (D.state device.old).honest → result ≡ Err EditError.Exists
-        → HasFirstBeside (F.meaning format.now) (F.files format.now) (F.names format.now) (D.state device.old).store path.now new.now }
+        → HasFirstBeside (F.meaning format.now) (F.files format.now) (F.names format.now)
+        (D.state device.old).store path.now new.now }
     ensures locked { IsTrue (D.state device.old).honest → result ≡ Err EditError.Locked
         → HasFirstLocked (F.meaning format.now) (F.files format.now) (F.names format.now) (D.state device.old).store
         path.now new.now }

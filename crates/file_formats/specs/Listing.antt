@@ -1,6 +1,6 @@
 -- The listing of a volume of any format.
 use Rattle.std.specs.Prelude.{◌≡◌, ℕ, Bool, List, map, count_by}
-use Rattle.vol_parts.specs.declared.fault.Fault.{Fault}
+use Rattle.a2_device.specs.declared.fault.Fault.{Fault}
 use Rattle.vol_format.specs.Directory.{Directory}
 use Rattle.vol_format.specs.Meaning.{Meaning}
 use Rattle.file_formats.specs.declared.listing.Listing.{Listing}

@@ -3,7 +3,8 @@ use crate::{ListEntry, StoredName};
 use std::alloc::{AllocError, Allocator};
 use vol_format::Format;
 
-/// A format of volumes whose files are named, listed and read. Each call is exact over the directory that `volume` read.
+/// A format of volumes whose files are named, listed and read. Each call is exact over the directory that `volume`
+/// read.
 pub trait FileFormat: Format {
     ghost use Rattle.std.specs.Prelude.{◌≡◌, ◌<◌, IfOk};
     ghost use Rattle.vol_format.specs.Directory.{entries, entry_of};
@@ -15,7 +16,8 @@ pub trait FileFormat: Format {
     /// Whether a path, as it is given, is that of an entry.
     fn matches(&self, volume: &Self::Volume, file: u32, path: &[u8]) -> bool
         requires { file < entries (Self.directory self.now volume.now) }
-        ensures { result ≡ (files self.now).matches path.now (entry_of (Self.directory self.now volume.now) file).path };
+        ensures { result ≡ (files self.now).matches path.now
+            (entry_of (Self.directory self.now volume.now) file).path };
 
     /// What a listing shows of an entry.
     ///
@@ -28,7 +30,8 @@ pub trait FileFormat: Format {
         file: u32,
     ) -> Result<ListEntry<A>, AllocError>
         requires { file < entries (Self.directory self.now volume.now) }
-        ensures { IfOk result (λ listed. listed ≡ (files self.now).shown (entry_of (Self.directory self.now volume.now) file)) };
+        ensures { IfOk result (λ listed.
+            listed ≡ (files self.now).shown (entry_of (Self.directory self.now volume.now) file)) };
 
     /// The volume's name, as it is stored; for DOS the one byte of its number.
     ///
@@ -56,5 +59,6 @@ pub trait FileFormat: Format {
         text: Vec<u8, A>,
     ) -> Result<Vec<u8, A>, AllocError>
         requires { file < entries (Self.directory self.now volume.now) }
-        ensures { IfOk result (λ body. body.items ≡ (files self.now).body (entry_of (Self.directory self.now volume.now) file).bytes text.items) };
+        ensures { IfOk result (λ body.
+            body.items ≡ (files self.now).body (entry_of (Self.directory self.now volume.now) file).bytes text.items) };
 }

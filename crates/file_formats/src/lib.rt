@@ -1,8 +1,8 @@
 //! Formats of volumes whose files are named, listed and read.
 //!
 //! What this asks of a format, beside its parts, is the trait `FileFormat`; its model is the record `FileMeaning`
-//! (`specs/Files.antt`); DOS 3.3 and ProDOS have it (`specs/DosFiles.antt`, `specs/ProFiles.antt`). A listing shows what a directory
-//! says (`specs/Listing.antt`), and `find` is the first file that a path names.
+//! (`specs/Files.antt`); DOS 3.3 and ProDOS have it (`specs/DosFiles.antt`, `specs/ProFiles.antt`). A listing shows
+//! what a directory says (`specs/Listing.antt`), and `find` is the first file that a path names.
 //!
 //! What always holds: each call is exact over the directory that was read, and touches no device.
 #![tactic(auto)]

@@ -36,7 +36,8 @@ pub fn listed_entry<A: Allocator, B: Allocator>(
     mut path: Vec<u8, B>,
 ) -> Result<ListEntry<B>, AllocError>
     requires { entry < entries (directory_with (system_of volume.now) (tree_of volume.now) (map_in volume.now).units) }
-    ensures { IfOk result (λ listed. listed ≡ pro_shown (entry_of (directory_with (system_of volume.now) (tree_of volume.now) (map_in volume.now).units) entry)) }
+    ensures { IfOk result (λ listed. listed ≡ pro_shown
+        (entry_of (directory_with (system_of volume.now) (tree_of volume.now) (map_in volume.now).units) entry)) }
 {
     volume.directory().path_into(entry, &mut path)?;
     Ok(with_path(&volume.directory().entries()[entry as usize], path))

@@ -29,8 +29,8 @@ pub fn most_path_bytes<A: Allocator>(volume: &ProVolume<A>) -> usize
     NAME_BYTES * (directories + 1)
 }
 
-/// The lines of the listing of a ProDOS volume that was read, made one at a time. The room for the longest is taken first, so that
-/// no line that is made later wants memory.
+/// The lines of the listing of a ProDOS volume that was read, made one at a time. The room for the longest is taken
+/// first, so that no line that is made later wants memory.
 #[derive(Debug, Drop)]
 pub struct ProLines<A: Allocator = Global> {
     alloc: A,
@@ -45,7 +45,8 @@ impl<A: Allocator + Copy> ProLines<A> {
     /// # Errors
     /// Want of memory alone.
     pub fn new(alloc: A, volume: ProVolume<A>) -> Result<ProLines<A>, AllocError>
-        ensures { IfOk result (λ lines. directory_in lines ≡ directory_with (system_of volume) (tree_of volume) (map_in volume).units) }
+        ensures { IfOk result (λ lines.
+            directory_in lines ≡ directory_with (system_of volume) (tree_of volume) (map_in volume).units) }
     {
         let most = most_path_bytes(&volume);
         let path = Vec::with_capacity(alloc, most)?;

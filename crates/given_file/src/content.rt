@@ -1,7 +1,15 @@
 // The units of a new file.
 ghost use Rattle.std.specs.Prelude.{◌≡◌, ◌↔◌, ◌<◌, ◌≤◌, ◌*◌, ◌++◌, true, length, replicate, Err, IfOk, IsTrue, OnOk};
 ghost use Rattle.given_file.specs.declared.error.GivenError.TheVariants.{TooLong};
-ghost use Rattle.given_file.specs.Content.{content, given_view, head_bytes, stored_units, two_bytes, unit_bytes, IsTooLongForHead};
+ghost use Rattle.given_file.specs.Content.{
+  content,
+  given_view,
+  head_bytes,
+  stored_units,
+  two_bytes,
+  unit_bytes,
+  IsTooLongForHead,
+};
 
 use crate::GivenError;
 use pro_dir::ProDate;
@@ -64,7 +72,8 @@ fn push_word(bytes: &mut Vec<u8>, word: u16) -> Result<(), AllocError>
 // Puts the head of a file, which can say its length, behind the others.
 fn push_head(bytes: &mut Vec<u8>, given: &GivenFile<'_>) -> Result<(), AllocError>
     requires { ¬ IsTooLongForHead (given_view given.now) }
-    ensures { OnOk result (bytes.new.items ≡ bytes.old.items ++ head_bytes given.now.head given.now.aux (length given.now.bytes.now)) }
+    ensures { OnOk result
+        (bytes.new.items ≡ bytes.old.items ++ head_bytes given.now.head given.now.aux (length given.now.bytes.now)) }
 {
     match given.head {
         Head::None => Ok(()),
@@ -90,7 +99,8 @@ fn content(alloc: Global, given: &GivenFile<'_>) -> Result<Vec<u8>, GivenError>
     Ok(bytes)
 }
 
-/// The units of a file, each of a size: its head and its bytes, the last unit filled with zeros. All of them are stored.
+/// The units of a file, each of a size: its head and its bytes, the last unit filled with zeros. All of them are
+/// stored.
 ///
 /// # Errors
 /// `TooLong` exactly where the head of the file cannot say its length, before memory is taken; `Memory`.

@@ -2,11 +2,11 @@
 use Rattle.std.proofs.Common.{◌≡◌, subst}
 use Rattle.a2_device.specs.Device.{DeviceState}
 use Rattle.a2_image.specs.Image.{DiskImage}
-use Rattle.image_device.specs.LentDevice.{lent_state}
-use Rattle.image_volume.specs.Volume.{device_of, kind_of}
+use Rattle.a2_media.specs.LentDevice.{lent_state}
+use Rattle.shop_replies.specs.Volume.{device_of, kind_of}
 use Rattle.shop_jobs.specs.declared.job.FileSystem.{FileSystem}
-use Rattle.vol_parts.specs.declared.fault.WalkError.{WalkError}
-use Rattle.vol_parts.specs.declared.fault.WalkError.TheVariants as walks
+use Rattle.a2_device.specs.declared.fault.WalkError.{WalkError}
+use Rattle.a2_device.specs.declared.fault.WalkError.TheVariants as walks
 use Rattle.image_readings.specs.declared.reading.Found.{Found}
 use Rattle.image_readings.specs.declared.reading.Standing.{Standing}
 use Rattle.image_readings.specs.declared.reading.Standing.TheVariants.{Accepted, Refused}

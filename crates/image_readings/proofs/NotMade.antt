@@ -1,11 +1,11 @@
 -- The reply to `identify` hands out no image.
 use Rattle.std.proofs.Common.{ℕ, List, inl, inr}
-use Rattle.job_reply.proofs.NotMade.{failed_not_made, refused_not_made, told_not_made}
-use Rattle.job_reply.specs.Reply.{IsMade}
-use Rattle.job_reply.specs.declared.refusal.Failure.TheVariants as failures
-use Rattle.job_reply.specs.declared.refusal.Refusal.TheVariants as refusals
-use Rattle.job_reply.specs.declared.reply.Reply.{Reply}
-use Rattle.job_reply.specs.declared.reply.Status.TheVariants.{Done, Wrong}
+use Rattle.shop_replies.proofs.NotMade.{failed_not_made, refused_not_made, told_not_made}
+use Rattle.shop_replies.specs.Reply.{IsMade}
+use Rattle.shop_replies.specs.declared.refusal.Failure.TheVariants as failures
+use Rattle.shop_replies.specs.declared.refusal.Refusal.TheVariants as refusals
+use Rattle.shop_replies.specs.declared.reply.Reply.{Reply}
+use Rattle.shop_replies.specs.declared.reply.Status.TheVariants.{Done, Wrong}
 use Rattle.image_readings.specs.declared.ranking.Verdict.{Verdict}
 use Rattle.image_readings.specs.declared.ranking.Verdict.TheVariants.{Best, Ambiguous, NoVolume}
 use Rattle.image_readings.specs.IdentifyReply.{IsIdentifyReply, Reports}

@@ -5,11 +5,11 @@ use Rattle.std.specs.declared.alloc.AllocError.{AllocError}
 use Rattle.a2_device.specs.Device.{DeviceState, OnlyReads}
 use Rattle.a2_device.specs.Reading.{met_device}
 use Rattle.vol_format.specs.Meaning.{Meaning}
-use Rattle.vol_parts.specs.declared.fault.Fault.{Fault}
-use Rattle.vol_parts.specs.declared.fault.Fault.TheVariants as faults
-use Rattle.vol_parts.specs.declared.fault.WalkError.{WalkError}
-use Rattle.vol_parts.specs.declared.fault.WalkError.TheVariants as walks
-use Rattle.image_volume.proofs.Lacking.{unit_lacks}
+use Rattle.a2_device.specs.declared.fault.Fault.{Fault}
+use Rattle.a2_device.specs.declared.fault.Fault.TheVariants as faults
+use Rattle.a2_device.specs.declared.fault.WalkError.{WalkError}
+use Rattle.a2_device.specs.declared.fault.WalkError.TheVariants as walks
+use Rattle.shop_replies.proofs.Lacking.{unit_lacks}
 use Rattle.shop_jobs.specs.declared.job.FileSystem.{FileSystem}
 use Rattle.image_readings.specs.declared.reading.Finding.{Finding}
 use Rattle.image_readings.specs.declared.reading.Finding.TheVariants.{Unreadable, Broken, Volume}

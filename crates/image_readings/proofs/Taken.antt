@@ -1,9 +1,9 @@
 -- Which ways to read an image its length allows, and what is said of an image that is read in one of them.
 use Rattle.std.proofs.Common.{◌≡◌, ℕ, true, length, refl, subst, sym, arith}
 use Rattle.std.proofs.lemmas.Bool.Decides.{nat_tests}
-use Rattle.sector_order.specs.declared.order.Order.{Order}
-use Rattle.sector_order.specs.declared.order.Order.TheVariants as orders
-use Rattle.sector_order.specs.Order.{IsImageLength, blocks_of}
+use Rattle.a2_device.specs.declared.order.Order.{Order}
+use Rattle.a2_device.specs.declared.order.Order.TheVariants as orders
+use Rattle.a2_device.specs.Order.{IsImageLength, blocks_of}
 use Rattle.a2_image.specs.Image.{DiskImage, HoldsSectors}
 use Rattle.a2_image.specs.KeptBytes.{HoldsKept}
 use Rattle.a2_image.specs.Opening.{RefusesToOpen}
@@ -11,8 +11,8 @@ use Rattle.a2_image.specs.declared.error.ImageError.{ImageError}
 use Rattle.a2_image.specs.declared.error.ImageError.TheVariants as images
 use Rattle.shop_jobs.specs.declared.job.FileSystem.{FileSystem}
 use Rattle.shop_jobs.specs.declared.job.FileSystem.TheVariants as systems
-use Rattle.job_reply.specs.Disk.{disk_bytes}
-use Rattle.image_volume.specs.Volume.{TakesBytes, device_of}
+use Rattle.shop_replies.specs.Disk.{disk_bytes}
+use Rattle.shop_replies.specs.Volume.{TakesBytes, device_of}
 use Rattle.image_readings.specs.IdentifyReply.{allows}
 use Rattle.image_readings.specs.Readings.{IsReadingOf, IsToldOf}
 use Rattle.image_readings.specs.declared.reading.Finding.{Finding}

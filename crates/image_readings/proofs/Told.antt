@@ -1,7 +1,7 @@
 -- The reply that tells readings.
 use Rattle.std.proofs.Common.{◌≡◌, ◌≢◌, ◌==◌, ap, false, ℕ, List, [], length, inl, inr, arith}
 use Rattle.std.proofs.lemmas.Bool.Decides.{nat_tests}
-use Rattle.job_reply.specs.declared.reply.Reply.{Reply}
+use Rattle.shop_replies.specs.declared.reply.Reply.{Reply}
 use Rattle.image_readings.specs.declared.reading.Reading.{Reading}
 use Rattle.image_readings.specs.IdentifyReply.{AreReadings, IsIdentifyReply, TellsRanked}
 

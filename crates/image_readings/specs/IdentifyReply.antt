@@ -1,15 +1,15 @@
 -- The reply to `identify`.
 use Rattle.std.specs.Prelude.{◌≡◌, ◌≢◌, ◌⊎◌, ℕ, ◌==◌, ◌%◌, nat_le, ◌&&◌, Bool, List, [], ◌∷◌, length, map, filter, All}
-use Rattle.sector_order.specs.declared.order.Order.{Order}
-use Rattle.sector_order.specs.declared.order.Order.TheVariants as orders
+use Rattle.a2_device.specs.declared.order.Order.{Order}
+use Rattle.a2_device.specs.declared.order.Order.TheVariants as orders
 use Rattle.shop_jobs.specs.declared.job.FileSystem.{FileSystem}
 use Rattle.shop_jobs.specs.declared.job.FileSystem.TheVariants as systems
-use Rattle.job_reply.specs.declared.refusal.Refusal.TheVariants as refusals
-use Rattle.job_reply.specs.declared.refusal.Failure.TheVariants as failures
-use Rattle.job_reply.specs.declared.reply.Reply.{Reply}
-use Rattle.job_reply.specs.Reply.{IsTold, failed, refused, text_of}
-use Rattle.job_reply.specs.Disk.{disk_bytes}
-use Rattle.job_reply.specs.declared.reply.Status.TheVariants.{Done, Wrong}
+use Rattle.shop_replies.specs.declared.refusal.Refusal.TheVariants as refusals
+use Rattle.shop_replies.specs.declared.refusal.Failure.TheVariants as failures
+use Rattle.shop_replies.specs.declared.reply.Reply.{Reply}
+use Rattle.shop_replies.specs.Reply.{IsTold, failed, refused, text_of}
+use Rattle.shop_replies.specs.Disk.{disk_bytes}
+use Rattle.shop_replies.specs.declared.reply.Status.TheVariants.{Done, Wrong}
 use Rattle.image_readings.specs.declared.reading.Reading.{Reading}
 use Rattle.image_readings.specs.declared.ranking.Verdict.{Verdict}
 use Rattle.image_readings.specs.declared.ranking.Verdict.TheVariants.{Best, Ambiguous, NoVolume}

@@ -1,7 +1,7 @@
 -- What `identify` prints.
 use Rattle.std.specs.Prelude.{ℕ, ◌∷◌, ◌++◌, List, codes, decimal, flat_map, slice_index_or}
-use Rattle.sector_order.specs.declared.order.Order.{Order}
-use Rattle.sector_order.specs.declared.order.Order.TheVariants as orders
+use Rattle.a2_device.specs.declared.order.Order.{Order}
+use Rattle.a2_device.specs.declared.order.Order.TheVariants as orders
 use Rattle.shop_jobs.specs.declared.job.FileSystem.{FileSystem}
 use Rattle.shop_jobs.specs.declared.job.FileSystem.TheVariants as systems
 use Rattle.file_listings.specs.DosText.{Text, line}

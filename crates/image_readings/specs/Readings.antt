@@ -8,12 +8,12 @@ use Rattle.vol_format.specs.Directory.{Directory, entries, files}
 use Rattle.vol_format.specs.Meaning.{Meaning}
 use Rattle.vol_format.specs.Reach.{IsPartsOf}
 use Rattle.vol_format.specs.Standing.{lost_places}
-use Rattle.vol_parts.specs.declared.fault.Fault.{Fault}
-use Rattle.vol_parts.specs.declared.fault.Fault.TheVariants.{Geometry}
-use Rattle.vol_parts.specs.declared.part.Part.{Part}
+use Rattle.a2_device.specs.declared.fault.Fault.{Fault}
+use Rattle.a2_device.specs.declared.fault.Fault.TheVariants.{Geometry}
+use Rattle.a2_device.specs.declared.part.Part.{Part}
 use Rattle.shop_jobs.specs.declared.job.FileSystem.{FileSystem}
 use Rattle.shop_jobs.specs.declared.job.FileSystem.TheVariants.{Dos, Prodos}
-use Rattle.image_volume.specs.Volume.{LacksUnit, OfVolume, meaning_of}
+use Rattle.shop_replies.specs.Volume.{LacksUnit, OfVolume, meaning_of}
 use Rattle.image_readings.specs.declared.reading.Standing.{Standing}
 use Rattle.image_readings.specs.declared.reading.Standing.TheVariants.{Accepted, Refused}
 use Rattle.image_readings.specs.declared.reading.Found.{Found}

@@ -1,12 +1,19 @@
 // The best way to read an image, of those that are asked for.
 ghost use Rattle.std.specs.Prelude.{◌≡◌, IfOk};
 ghost use Rattle.image_readings.specs.Ranking.{IsVerdict};
-ghost use Rattle.image_readings.specs.BestReading.{IsChoice, choice_of as choice_for, has_file_system, has_given, has_order, ways_given as ways_asked};
+ghost use Rattle.image_readings.specs.BestReading.{
+  IsChoice,
+  choice_of as choice_for,
+  has_file_system,
+  has_given,
+  has_order,
+  ways_given as ways_asked,
+};
 
 use crate::identify::{WAYS, readings_of};
 use crate::ranking::{Verdict, rank};
 use crate::reading::Reading;
-use sector_order::Order;
+use a2_device::Order;
 use shop_jobs::FileSystem;
 use std::alloc::{AllocError, Global};
 
@@ -83,8 +90,8 @@ fn choice_of(readings: &[Reading], verdict: Verdict) -> Choice
     }
 }
 
-/// The best way to read an image in the file system and the order that are given; `None` leaves one open. The image is read
-/// without a copy of its bytes, which are then as they were.
+/// The best way to read an image in the file system and the order that are given; `None` leaves one open. The image is
+/// read without a copy of its bytes, which are then as they were.
 ///
 /// # Errors
 /// Want of memory.

@@ -8,10 +8,10 @@ use crate::identify_text::identify_text;
 use crate::ranking::{Verdict, rank};
 use crate::reading::Reading;
 use crate::volume::reading_of;
+use a2_device::{BLOCK_BYTES, IMAGE_BYTES, NIBBLE_BYTES, Order};
 use a2_image::{Image, ImageError};
-use job_reply::{Failure, Refusal, Reply};
-use sector_order::{BLOCK_BYTES, IMAGE_BYTES, NIBBLE_BYTES, Order};
 use shop_jobs::FileSystem;
+use shop_replies::{Failure, Refusal, Reply};
 use std::alloc::{AllocError, Global};
 use std::mem;
 
@@ -103,8 +103,8 @@ fn add_reading(
     Ok(())
 }
 
-/// The readings of an image, one in each of these ways that its length allows. The image is read without a copy of its bytes, which
-/// are then as they were.
+/// The readings of an image, one in each of these ways that its length allows. The image is read without a copy of its
+/// bytes, which are then as they were.
 ///
 /// # Errors
 /// Want of memory.
@@ -138,7 +138,8 @@ fn ranked_reply(alloc: Global, readings: &[Reading]) -> Reply
 
 /// The readings of an image in each way that its length allows, and which of them is best.
 ///
-/// `Done` where one is, else `Faulty`; `Refused` with `Length` where the length allows none; `Failed` for want of memory.
+/// `Done` where one is, else `Faulty`; `Refused` with `Length` where the length allows none; `Failed` for want of
+/// memory.
 pub fn identify_reply(alloc: Global, mut image: Vec<u8>) -> Reply
     ensures { IsIdentifyReply image.items result }
 {

@@ -1,11 +1,19 @@
 // The text of the readings of an image.
 ghost use Rattle.std.specs.Prelude.{◌≡◌, Some, IfOk, flat_map, string_bytes};
 ghost use Rattle.image_readings.specs.Ranking.{IsVerdict};
-ghost use Rattle.image_readings.specs.IdentifyText.{file_system_word as word_of_file_system, identify_text as text_of_all, order_word as word_of_order, finding_text, found_text, reading_line, way_text};
+ghost use Rattle.image_readings.specs.IdentifyText.{
+  file_system_word as word_of_file_system,
+  identify_text as text_of_all,
+  order_word as word_of_order,
+  finding_text,
+  found_text,
+  reading_line,
+  way_text,
+};
 
 use crate::ranking::Verdict;
 use crate::reading::{Finding, Found, Reading, Standing};
-use sector_order::Order;
+use a2_device::Order;
 use shop_jobs::FileSystem;
 use std::alloc::{AllocError, Global};
 use std::fmt;

@@ -1,11 +1,12 @@
 //! The ways to read an image, what is found in each, and which of them is best.
 //!
-//! Sectors 0 and 15 of a track stand at the same bytes in DOS and in ProDOS order, so a DOS 3.3 disk can be read in both:
-//! an image's bytes do not tell its order. A *reading* is a file system and an order with what is found so: whether the
-//! directory can be read, how long it is, how many entries it has, and whether the volume is accepted (`specs/Readings.antt`).
-//! `rank` names the one reading that beats every other, if there is one (`specs/Ranking.antt`); `identify_reply` tells all
-//! readings that the image's length allows, and the verdict (`specs/IdentifyText.antt`, `specs/IdentifyReply.antt`);
-//! `best_reading` chooses among the readings in a file system, an order or both that are given (`specs/BestReading.antt`).
+//! Sectors 0 and 15 of a track stand at the same bytes in DOS and in ProDOS order, so a DOS 3.3 disk can be read in
+//! both: an image's bytes do not tell its order. A *reading* is a file system and an order with what is found so:
+//! whether the directory can be read, how long it is, how many entries it has, and whether the volume is accepted
+//! (`specs/Readings.antt`). `rank` names the one reading that beats every other, if there is one
+//! (`specs/Ranking.antt`); `identify_reply` tells all readings that the image's length allows, and the verdict
+//! (`specs/IdentifyText.antt`, `specs/IdentifyReply.antt`); `best_reading` chooses among the readings in a file system,
+//! an order or both that are given (`specs/BestReading.antt`).
 #![tactic(auto)]
 
 mod best;

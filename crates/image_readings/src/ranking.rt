@@ -1,6 +1,15 @@
 // Which reading of an image is best.
 ghost use Rattle.std.specs.Prelude.{◌≡◌, ◌<◌, ◌↔◌, IsTrue, length};
-ghost use Rattle.image_readings.specs.Ranking.{BeatsOthers, HasVolume, IsBest, IsVerdict, contests as contested_by, is_sounder as sounder_than, outranks as outranked_by, yields};
+ghost use Rattle.image_readings.specs.Ranking.{
+  BeatsOthers,
+  HasVolume,
+  IsBest,
+  IsVerdict,
+  contests as contested_by,
+  is_sounder as sounder_than,
+  outranks as outranked_by,
+  yields,
+};
 
 use crate::reading::{Finding, Found, Reading, Standing};
 

@@ -1,5 +1,5 @@
 // The ways to read an image, and what is found in each.
-use sector_order::Order;
+use a2_device::Order;
 use shop_jobs::FileSystem;
 
 /// What the checker says of a volume whose directory can be read.

@@ -2,13 +2,18 @@
 ghost use Rattle.std.specs.Prelude.{◌≡◌, IfOk};
 ghost use Rattle.a2_device.specs.Device.{DeviceState};
 ghost use Rattle.image_readings.specs.Found.{Stops};
-ghost use Rattle.image_readings.specs.Readings.{IsNoVolume, finding_of as finding_for, header_place as place_for, plain_meaning};
+ghost use Rattle.image_readings.specs.Readings.{
+  IsNoVolume,
+  finding_of as finding_for,
+  header_place as place_for,
+  plain_meaning,
+};
 
 use crate::reading::Finding;
+use a2_device::{Fault, WalkError};
 use dos_vtoc::VTOC_PLACE;
 use shop_jobs::FileSystem;
 use std::alloc::AllocError;
-use vol_parts::{Fault, WalkError};
 
 /// The block with the header of a ProDOS volume.
 const VOLUME_KEY: u32 = 2;
@@ -38,7 +43,8 @@ fn finding_of(file_system: FileSystem, fault: Fault) -> Finding
 /// # Errors
 /// Want of memory alone.
 pub fn finding_at(file_system: FileSystem, stop: WalkError) -> Result<Finding, AllocError>
-    ensures { (device : DeviceState) → Stops (plain_meaning file_system) device stop → IfOk result (IsNoVolume file_system device) }
+    ensures { (device : DeviceState) → Stops (plain_meaning file_system) device stop
+        → IfOk result (IsNoVolume file_system device) }
 {
     match stop {
         WalkError::Fault(fault) => Ok(finding_of(file_system, fault)),

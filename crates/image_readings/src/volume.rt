@@ -3,18 +3,27 @@ ghost use Rattle.std.specs.Prelude.{◌≡◌, ◌≤◌, IsTrue, OnOk, IfOk, If
 ghost use Rattle.a2_device.specs.Device.{unit_at};
 ghost use Rattle.a2_image.specs.Image.{IsOfDisk};
 ghost use Rattle.shop_jobs.specs.declared.job.FileSystem.TheVariants.{Dos as OfDos, Prodos as OfProdos};
-ghost use Rattle.image_volume.specs.Volume.{HasUnitsOf, TakesBytes, device_of};
+ghost use Rattle.shop_replies.specs.Volume.{HasUnitsOf, TakesBytes, device_of};
 ghost use Rattle.image_readings.specs.Found.{Stops};
-ghost use Rattle.image_readings.specs.Readings.{HasEntries, HasUnits, IsFound, IsReadingOf, IsToldOf, Stands, plain_meaning};
+ghost use Rattle.image_readings.specs.Readings.{
+  HasEntries,
+  HasUnits,
+  IsFound,
+  IsReadingOf,
+  IsToldOf,
+  Stands,
+  plain_meaning,
+};
+ghost use Rattle.vol_format.specs.Fits.{Fits};
 
 use crate::reading::{Finding, Found, Reading, Standing};
 use crate::stop::finding_at;
-use a2_device::Device;
+use a2_device::{Device, WalkError};
 use a2_image::Image;
+use a2_media::LentDevice;
 use dos_catalog::Catalog;
 use dos_format::Dos33;
 use dos_vtoc::{VTOC_PLACE, Vtoc};
-use image_device::LentDevice;
 use pro_dir::VolumeDir;
 use pro_format::Prodos;
 use reserved_places::Reserved;
@@ -22,7 +31,6 @@ use shop_jobs::FileSystem;
 use std::alloc::{AllocError, Global};
 use vol_check::{CheckError, check};
 use vol_format::Format;
-use vol_parts::WalkError;
 
 // The VTOC of a DOS 3.3 volume.
 fn read_vtoc<D: Device>(device: &mut D) -> Result<Vtoc, WalkError>
@@ -72,8 +80,7 @@ fn count_blocks<D: Device>(alloc: Global, device: &mut D) -> Result<usize, WalkE
 
 // How many entries of a volume's directory are in use.
 fn count_entries<D: Device, F: Format>(device: &mut D, format: &F) -> Result<u32, WalkError>
-    requires unit { (D.state device.old).unit_size ≡ (F.meaning format.now).unit_size }
-    requires places { (F.meaning format.now).Takes (D.state device.old).places }
+    requires fits { Fits (F.meaning format.now) (D.state device.old) }
     requires honest { IsTrue (D.state device.old).honest }
     requires never { (D.state device.old).read_failures ≡ Some 0 }
     ensures kept { OnOk result (D.state device.new ≡ D.state device.old) }
@@ -90,8 +97,7 @@ fn standing_of<D: Device, F: Format>(
     device: &mut D,
     format: &F,
 ) -> Result<Standing, WalkError>
-    requires unit { (D.state device.old).unit_size ≡ (F.meaning format.now).unit_size }
-    requires places { (F.meaning format.now).Takes (D.state device.old).places }
+    requires fits { Fits (F.meaning format.now) (D.state device.old) }
     requires honest { IsTrue (D.state device.old).honest }
     requires never { (D.state device.old).read_failures ≡ Some 0 }
     ensures standing { IfOk result (Stands (F.meaning format.now) (D.state device.old)) }
@@ -170,8 +176,8 @@ fn prodos_finding(alloc: Global, image: &Image) -> Result<Finding, AllocError>
     }
 }
 
-/// What is found in an image of a length that allows it to be read as this file system: by the default rules, where no place is
-/// reserved and tracks 1 and 2 of a DOS 3.3 disk are the system's. The image is only read.
+/// What is found in an image of a length that allows it to be read as this file system: by the default rules, where no
+/// place is reserved and tracks 1 and 2 of a DOS 3.3 disk are the system's. The image is only read.
 ///
 /// # Errors
 /// Want of memory alone.

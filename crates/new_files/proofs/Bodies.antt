@@ -6,10 +6,10 @@ use Rattle.std.proofs.lemmas.List.{get_or_default, get_or-map, length-map}
 use Rattle.std.proofs.lemmas.List.FromFn.{get_or-map-range_with_len, get_or-range_with_len, length-map-range_with_len, length-range_with_len}
 use Rattle.std.proofs.lemmas.List.Kept.{AllPairs-filter}
 use Rattle.a2_device.specs.Device.{unit_at}
-use Rattle.vol_parts.specs.declared.part.PartKind.TheVariants.{Body}
+use Rattle.a2_device.specs.declared.part.PartKind.TheVariants.{Body}
 use Rattle.vol_format.proofs.Filters.{in_filter, out_of_filter}
-use Rattle.vol_files.specs.Files.{Stored}
-use Rattle.edit_laws.specs.Built.{HasPlannedUnit, IsBodyOf, Planned, no_plan, unit_of}
+use Rattle.vol_format.specs.Files.{Stored}
+use Rattle.vol_laws.specs.Built.{HasPlannedUnit, IsBodyOf, Planned, no_plan, unit_of}
 use Rattle.new_files.specs.declared.part.NewPart.{NewPart}
 use Rattle.new_files.specs.Order.{HasStored, no_part, part_at}
 use Rattle.new_files.specs.Parts.{is_stored, new_part}

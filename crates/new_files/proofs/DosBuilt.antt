@@ -2,14 +2,14 @@
 use Rattle.std.proofs.Common.{◌≡◌, ◌<◌, ◌+◌, ◌*◌, ◌%◌, ℕ, Bool, List, length, sym, ◌∙◌, ap, subst, arith, inl, inr}
 use Rattle.std.specs.Prelude.{◌⊎◌, slice_index}
 use Rattle.std.proofs.lemmas.Bool.{cases_eq, cases_lt}
-use Rattle.vol_parts.specs.declared.part.Part.{Part}
-use Rattle.vol_parts.specs.declared.part.PartKind.TheVariants.{List as AList, Body}
+use Rattle.a2_device.specs.declared.part.Part.{Part}
+use Rattle.a2_device.specs.declared.part.PartKind.TheVariants.{List as AList, Body}
 use Rattle.dos_catalog.specs.declared.slot.NewEntry.{NewEntry}
 use Rattle.dos_tslist.specs.Pointers.{pair_offset, pointer_of}
 use Rattle.vol_format.specs.declared.link.Link.{Link}
 use Rattle.vol_format.specs.declared.link.Link.TheVariants.{Null, To}
 use Rattle.dos_format.specs.Dos.{CanNameDos, dos_child, dos_meaning, dos_pointers, link_to, list_link}
-use Rattle.edit_laws.specs.Built.{IsBuilt, Planned, built_link, part_of, place_of, unit_of}
+use Rattle.vol_laws.specs.Built.{IsBuilt, Planned, built_link, part_of, place_of, unit_of}
 use Rattle.dos_entries.specs.Plan.{NamesAt}
 use Rattle.dos_entries.specs.Slots.{new_listed}
 use Rattle.dos_entries.proofs.Building.{named_at, next_link, null_at, pair_link}

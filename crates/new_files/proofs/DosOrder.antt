@@ -4,7 +4,7 @@ use Rattle.std.specs.Prelude.{◌⊎◌, true, flat_map}
 use Rattle.std.specs.List.{All, Contains, range_with_len}
 use Rattle.std.proofs.lemmas.List.{length_push}
 use Rattle.std.proofs.lemmas.List.Elements.{All-cons, All-contains, Contains-append_right}
-use Rattle.vol_parts.specs.declared.part.PartKind.TheVariants.{List as AList, Body}
+use Rattle.a2_device.specs.declared.part.PartKind.TheVariants.{List as AList, Body}
 use Rattle.new_files.specs.declared.part.NewPart.{NewPart}
 use Rattle.new_files.specs.Parts.{bodies, dos_parts_of, is_stored, list_count, list_with_bodies, new_part}
 use Rattle.new_files.specs.Order.{AreOrdered, AreDosParts, HasStored, IsOfList, no_part, part_at}

@@ -6,7 +6,7 @@ use Rattle.std.proofs.lemmas.Bool.{cases_lt}
 use Rattle.std.proofs.lemmas.Bool.Decides.{nat_tests}
 use Rattle.std.proofs.lemmas.List.{get_or_append_left, length_push}
 use Rattle.std.proofs.lemmas.List.Elements.{All-cons, All-contains, Contains-append_right}
-use Rattle.vol_parts.specs.declared.part.PartKind.TheVariants.{Master, Index, Body}
+use Rattle.a2_device.specs.declared.part.PartKind.TheVariants.{Master, Index, Body}
 use Rattle.new_files.specs.declared.part.NewPart.{NewPart}
 use Rattle.new_files.specs.Parts.{any_stored, bodies, index_with_bodies, indexes, is_stored, kept, new_part, pro_parts_of, storage_type, tree_parts}
 use Rattle.new_files.specs.Order.{AreOrdered, AreProParts, HasStored, IsOfIndex, no_part, part_at}

@@ -1,15 +1,15 @@
 -- The parts of a ProDOS file at their places are a plan.
 use Rattle.std.proofs.Common.{◌≡◌, ◌<◌, ◌+◌, ◌*◌, ◌%◌, ℕ, List, length, refl, sym, ◌∙◌, ap, subst, arith, inl, inr}
 use Rattle.std.specs.Prelude.{◌⊎◌, slice_index}
-use Rattle.vol_parts.specs.declared.part.Part.{Part}
-use Rattle.vol_parts.specs.declared.part.PartKind.{PartKind}
-use Rattle.vol_parts.specs.declared.part.PartKind.TheVariants.{Master, Index, Body}
+use Rattle.a2_device.specs.declared.part.Part.{Part}
+use Rattle.a2_device.specs.declared.part.PartKind.{PartKind}
+use Rattle.a2_device.specs.declared.part.PartKind.TheVariants.{Master, Index, Body}
 use Rattle.vol_format.specs.declared.link.Link.TheVariants.{To}
 use Rattle.pro_tree.specs.Content.{CanNameBlock}
 use Rattle.pro_tree.specs.Pointers.{pointer_of}
 use Rattle.pro_tree.specs.Reach.{pro_root}
-use Rattle.edit_laws.specs.Built.{Planned, part_of, place_of, unit_of}
-use Rattle.edit_laws.specs.Inserted.{in_file}
+use Rattle.vol_laws.specs.Built.{Planned, part_of, place_of, unit_of}
+use Rattle.vol_laws.specs.Inserted.{in_file}
 use Rattle.pro_entries.specs.Plan.{IsProPlan, IsStorageOf, IsTable}
 use Rattle.pro_entries.proofs.BuiltPlans.{first_root}
 use Rattle.new_files.specs.declared.part.NewPart.{NewPart}

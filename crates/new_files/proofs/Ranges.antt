@@ -7,7 +7,7 @@ use Rattle.std.proofs.lemmas.List.Concat.{flat_map-append}
 use Rattle.std.proofs.lemmas.List.Elements.{filter-append}
 use Rattle.std.proofs.lemmas.List.Folds.{list_any-append}
 use Rattle.std.proofs.lemmas.List.FromFn.{filter_of_map_range_with_len_more, map-range_with_len_more}
-use Rattle.vol_parts.specs.declared.part.PartKind.TheVariants.{Body}
+use Rattle.a2_device.specs.declared.part.PartKind.TheVariants.{Body}
 use Rattle.new_files.specs.declared.part.NewPart.{NewPart}
 use Rattle.new_files.specs.Parts.{any_stored, bodies, index_with_bodies, indexes, is_stored, new_part}
 

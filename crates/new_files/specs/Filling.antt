@@ -1,7 +1,7 @@
 -- What is known of a unit while its pointers are written.
 use Rattle.std.specs.Prelude.{◌≡◌, ◌≢◌, ◌⊎◌, ◌<◌, ◌≤◌, ℕ, ◌+◌, ◌*◌, List, length, slice_index}
-use Rattle.vol_parts.specs.declared.part.PartKind.{PartKind}
-use Rattle.vol_parts.specs.declared.part.PartKind.TheVariants.{Body}
+use Rattle.a2_device.specs.declared.part.PartKind.{PartKind}
+use Rattle.a2_device.specs.declared.part.PartKind.TheVariants.{Body}
 use Rattle.dos_tslist.specs.Pointers.{pair_offset}
 use Rattle.dos_entries.specs.Plan.{NamesAt}
 use Rattle.pro_tree.specs.Pointers.{pointer_of}

@@ -1,9 +1,9 @@
 -- The unit of a track/sector list of a new file (Beneath Apple DOS, chapter 4).
 use Rattle.std.specs.Prelude.{◌≡◌, ◌≢◌, ◌⊎◌, ◌<◌, ◌≤◌, ℕ, ◌+◌, ◌*◌, ◌/◌, ◌%◌, List, length, slice_index}
-use Rattle.vol_parts.specs.declared.part.PartKind.TheVariants.{List as AList, Body}
+use Rattle.a2_device.specs.declared.part.PartKind.TheVariants.{List as AList, Body}
 use Rattle.dos_tslist.specs.Pointers.{link_offset, pair_offset}
 use Rattle.dos_entries.specs.Plan.{NamesAt}
-use Rattle.edit_laws.specs.Built.{Planned, unit_of}
+use Rattle.vol_laws.specs.Built.{Planned, unit_of}
 use Rattle.new_files.specs.declared.part.NewPart.{NewPart}
 use Rattle.new_files.specs.Order.{part_at}
 use Rattle.new_files.specs.Parts.{new_part}

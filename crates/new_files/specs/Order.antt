@@ -1,6 +1,6 @@
 -- The order of the parts of a new file.
 use Rattle.std.specs.Prelude.{◌≡◌, ◌⊎◌, ◌↔◌, ◌<◌, ℕ, ◌+◌, ◌/◌, true, Bool, List, length, slice_index_or, Contains}
-use Rattle.vol_parts.specs.declared.part.PartKind.TheVariants.{List as AList, Master, Index, Body}
+use Rattle.a2_device.specs.declared.part.PartKind.TheVariants.{List as AList, Master, Index, Body}
 use Rattle.new_files.specs.declared.part.NewPart.{NewPart}
 use Rattle.new_files.specs.Parts.{is_stored, new_part}
 

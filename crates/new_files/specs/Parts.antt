@@ -2,8 +2,8 @@
 -- Technical Reference Manual, Appendix B). A file is a row of units, of which some are stored.
 use Rattle.std.specs.Prelude.{ℕ, ◌+◌, ◌*◌, ◌/◌, ◌==◌, nat_le, max, Bool, true, false, if◌then◌else◌, List, [], ◌∷◌, length, map, filter, flat_map, slice_index_or}
 use Rattle.std.specs.List.{range_with_len, list_any}
-use Rattle.vol_parts.specs.declared.part.PartKind.{PartKind}
-use Rattle.vol_parts.specs.declared.part.PartKind.TheVariants.{List as AList, Master, Index, Body}
+use Rattle.a2_device.specs.declared.part.PartKind.{PartKind}
+use Rattle.a2_device.specs.declared.part.PartKind.TheVariants.{List as AList, Master, Index, Body}
 use Rattle.new_files.specs.declared.part.NewPart.{NewPart}
 
 -- whether the unit of a number is stored; behind the end of the file none is

@@ -2,10 +2,10 @@
 use Rattle.std.specs.Prelude.{◌≡◌, ◌≢◌, ◌<◌, ℕ, Bool, List, length, map, filter, slice_index, All, AllPairs}
 use Rattle.std.specs.List.{range_with_len}
 use Rattle.a2_device.specs.Device.{unit_at}
-use Rattle.vol_parts.specs.declared.part.Part.{Part}
-use Rattle.vol_parts.specs.declared.part.PartKind.TheVariants.{Body}
-use Rattle.vol_files.specs.Files.{Stored}
-use Rattle.edit_laws.specs.Built.{Planned, part_of, unit_of}
+use Rattle.a2_device.specs.declared.part.Part.{Part}
+use Rattle.a2_device.specs.declared.part.PartKind.TheVariants.{Body}
+use Rattle.vol_format.specs.Files.{Stored}
+use Rattle.vol_laws.specs.Built.{Planned, part_of, unit_of}
 use Rattle.new_files.specs.declared.part.NewPart.{NewPart}
 use Rattle.new_files.specs.Order.{part_at}
 use Rattle.new_files.specs.Parts.{is_stored}

@@ -1,9 +1,9 @@
 -- The block of an index or a master index of a new file (ProDOS 8 Technical Reference Manual, Appendix B).
 use Rattle.std.specs.Prelude.{◌≡◌, ◌≢◌, ◌⊎◌, ◌<◌, ℕ, ◌+◌, ◌*◌, List, length, slice_index}
-use Rattle.vol_parts.specs.declared.part.PartKind.{PartKind}
-use Rattle.vol_parts.specs.declared.part.PartKind.TheVariants.{Master, Index, Body}
+use Rattle.a2_device.specs.declared.part.PartKind.{PartKind}
+use Rattle.a2_device.specs.declared.part.PartKind.TheVariants.{Master, Index, Body}
 use Rattle.pro_tree.specs.Pointers.{pointer_of}
-use Rattle.edit_laws.specs.Built.{Planned, unit_of}
+use Rattle.vol_laws.specs.Built.{Planned, unit_of}
 use Rattle.new_files.specs.declared.part.NewPart.{NewPart}
 use Rattle.new_files.specs.Order.{part_at}
 use Rattle.new_files.specs.Parts.{new_part}

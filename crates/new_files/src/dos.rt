@@ -4,8 +4,8 @@ ghost use Rattle.new_files.specs.Parts.{dos_parts_of, list_with_bodies};
 
 use crate::taking::{take, take_bodies};
 use crate::{NewFileError, NewPart};
+use a2_device::PartKind;
 use std::alloc::{AllocError, Allocator};
-use vol_parts::PartKind;
 
 /// The units of the longest file: a disk has as many sectors.
 const UNITS: usize = 560;
@@ -26,8 +26,8 @@ fn take_list<A: Allocator>(
     take_bodies(parts, stored, PAIRS * number, PAIRS)
 }
 
-/// The parts of a DOS 3.3 file of which these units are stored: each track/sector list, and behind it the units of its pairs.
-/// A file has a list for each 122 units, and one at least.
+/// The parts of a DOS 3.3 file of which these units are stored: each track/sector list, and behind it the units of its
+/// pairs. A file has a list for each 122 units, and one at least.
 ///
 /// # Errors
 /// `TooLong` where the file has more than 560 units, before memory is taken; `Memory`.

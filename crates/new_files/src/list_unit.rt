@@ -1,6 +1,21 @@
 // The unit of a track/sector list.
-ghost use Rattle.std.specs.Prelude.{◌≡◌, ◌<◌, ◌≤◌, ◌+◌, ◌*◌, ◌/◌, ◌%◌, ◌↔◌, length, slice_index, slice_set, All, IfSome, IsTrue};
-ghost use Rattle.vol_parts.specs.declared.part.PartKind.TheVariants.{List as AList, Body};
+ghost use Rattle.std.specs.Prelude.{
+  ◌≡◌,
+  ◌<◌,
+  ◌≤◌,
+  ◌+◌,
+  ◌*◌,
+  ◌/◌,
+  ◌%◌,
+  ◌↔◌,
+  length,
+  slice_index,
+  slice_set,
+  All,
+  IfSome,
+  IsTrue,
+};
+ghost use Rattle.a2_device.specs.declared.part.PartKind.TheVariants.{List as AList, Body};
 ghost use Rattle.dos_format.specs.Dos.{CanNameDos};
 ghost use Rattle.dos_tslist.specs.Pointers.{place_or_none};
 ghost use Rattle.new_files.specs.Order.{AreDosParts, part_at};
@@ -8,8 +23,8 @@ ghost use Rattle.new_files.specs.Filling.{HasPairs, IsEnd};
 ghost use Rattle.new_files.specs.ListUnit.{IsListUnit};
 
 use crate::NewPart;
+use a2_device::PartKind;
 use dos_tslist::{PAIRS, set_next, set_pair};
-use vol_parts::PartKind;
 
 /// Where a list has the number of its first unit of the body.
 const FIRST: usize = 0x05;
@@ -64,8 +79,8 @@ fn put_first(unit: &mut [u8], number: u32)
     unit[FIRST + 1] = (first / 256) as u8;
 }
 
-/// Builds the unit of the list that is part `at` of a new DOS 3.3 file, in a unit of 256 bytes: the pairs of the units behind
-/// it, the link to the next list, and the number of its first unit of the body.
+/// Builds the unit of the list that is part `at` of a new DOS 3.3 file, in a unit of 256 bytes: the pairs of the units
+/// behind it, the link to the next list, and the number of its first unit of the body.
 pub fn build_list(parts: &[NewPart], places: &[u32], at: usize, unit: &mut [u8])
     requires file { AreDosParts parts.now }
     requires at { at < length parts.now }

@@ -1,5 +1,5 @@
 // A part that has no place yet.
-use vol_parts::PartKind;
+use a2_device::PartKind;
 
 /// A part of a new file: its kind, and its number among the parts of that kind.
 #[derive(Clone, Copy, Debug, PartialEq, Eq)]

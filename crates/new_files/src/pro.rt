@@ -4,8 +4,8 @@ ghost use Rattle.new_files.specs.Parts.{any_stored, index_with_bodies, pro_parts
 
 use crate::taking::{is_stored, take, take_bodies};
 use crate::{NewFileError, NewPart};
+use a2_device::PartKind;
 use std::alloc::{AllocError, Allocator};
-use vol_parts::PartKind;
 
 /// The units of the longest file: a master index has 128 pointers.
 const UNITS: usize = 32768;
@@ -66,9 +66,9 @@ fn take_tree<A: Allocator>(parts: &mut Vec<NewPart, A>, stored: &[bool]) -> Resu
     Ok(())
 }
 
-/// The parts of a ProDOS file of which these units are stored. A file of one unit or none is a seedling, its one unit stored
-/// in any case; one of up to 256 units a sapling, an index and the units that are stored; a longer one a tree, a master
-/// index, and each index that has a unit to name, with its units.
+/// The parts of a ProDOS file of which these units are stored. A file of one unit or none is a seedling, its one unit
+/// stored in any case; one of up to 256 units a sapling, an index and the units that are stored; a longer one a tree, a
+/// master index, and each index that has a unit to name, with its units.
 ///
 /// # Errors
 /// `TooLong` where the file has more than 32,768 units, before memory is taken; `Memory`.

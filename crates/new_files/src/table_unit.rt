@@ -1,14 +1,14 @@
 // The blocks of an index and of a master index.
 ghost use Rattle.std.specs.Prelude.{◌≡◌, ◌<◌, ◌+◌, ◌*◌, ◌↔◌, ℕ, length, All, IsTrue};
-ghost use Rattle.vol_parts.specs.declared.part.PartKind.TheVariants.{Master, Index, Body};
+ghost use Rattle.a2_device.specs.declared.part.PartKind.TheVariants.{Master, Index, Body};
 ghost use Rattle.new_files.specs.Order.{AreProParts, part_at};
 ghost use Rattle.new_files.specs.Filling.{HasPointers, IsEnd};
 ghost use Rattle.new_files.specs.TableUnit.{IsTableUnit};
 
 use crate::NewPart;
 use crate::list_unit::is_body;
+use a2_device::PartKind;
 use pro_tree::set_pointer;
-use vol_parts::PartKind;
 
 const POINTERS: u32 = 256;
 
@@ -39,8 +39,8 @@ fn put_bodies(parts: &[NewPart], places: &[u32], at: usize, unit: &mut [u8]) -> 
     parts.len()
 }
 
-/// Builds the block of the index that is part `at` of a new ProDOS file, in a unit of 512 bytes: the pointers to the units
-/// behind it.
+/// Builds the block of the index that is part `at` of a new ProDOS file, in a unit of 512 bytes: the pointers to the
+/// units behind it.
 pub fn build_index(parts: &[NewPart], places: &[u32], at: usize, unit: &mut [u8])
     requires file { (storage : ℕ) × AreProParts storage parts.now }
     requires at { at < length parts.now }
@@ -54,8 +54,8 @@ pub fn build_index(parts: &[NewPart], places: &[u32], at: usize, unit: &mut [u8]
     put_bodies(parts, places, at, unit);
 }
 
-/// Builds the block of the master index of a new ProDOS file, its first part, in a unit of 512 bytes: the pointers to its
-/// indexes.
+/// Builds the block of the master index of a new ProDOS file, its first part, in a unit of 512 bytes: the pointers to
+/// its indexes.
 pub fn build_master(parts: &[NewPart], places: &[u32], unit: &mut [u8])
     requires file { (storage : ℕ) × AreProParts storage parts.now }
     requires master { (part_at parts.now 0).kind ≡ Master }

@@ -3,8 +3,8 @@ ghost use Rattle.std.specs.Prelude.{◌≡◌, ◌<◌, ◌+◌, ◌++◌, [], �
 ghost use Rattle.new_files.specs.Parts.{bodies, is_stored, new_part};
 
 use crate::NewPart;
+use a2_device::PartKind;
 use std::alloc::{AllocError, Allocator};
-use vol_parts::PartKind;
 
 /// Takes one part.
 pub fn take<A: Allocator>(

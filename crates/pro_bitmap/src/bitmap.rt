@@ -1,16 +1,50 @@
 // The blocks that say what is free.
-ghost use Rattle.std.specs.Prelude.{◌≡◌, ◌≢◌, ◌≤◌, ◌<◌, ◌+◌, ◌-◌, ◌/◌, ◌%◌, ◌^◌, ℕ, length, true, false, IfOk, IfErr, IfSome, IfNone, IsTrue};
+ghost use Rattle.std.specs.Prelude.{
+  ◌≡◌,
+  ◌≢◌,
+  ◌≤◌,
+  ◌<◌,
+  ◌+◌,
+  ◌-◌,
+  ◌/◌,
+  ◌%◌,
+  ◌^◌,
+  ℕ,
+  length,
+  true,
+  false,
+  IfOk,
+  IfErr,
+  IfSome,
+  IfNone,
+  IsTrue,
+};
 ghost use Rattle.a2_device.specs.Device.{OnlyReads, unit_at};
 ghost use Rattle.a2_device.specs.Reading.{met_device};
-ghost use Rattle.vol_parts.specs.declared.fault.Fault.{Fault};
-ghost use Rattle.vol_parts.specs.declared.fault.WalkError.TheVariants.{Fault as AFault};
-ghost use Rattle.pro_bitmap.specs.Bitmap.{FreeMap, IsWhole, IsFreeFrom, IsNextFree, units_of, units_in, unit_in, place_of, is_free, is_free_in, free_count_of, byte_of, with_byte, marked, released};
+ghost use Rattle.a2_device.specs.declared.fault.Fault.{Fault};
+ghost use Rattle.a2_device.specs.declared.fault.WalkError.TheVariants.{Fault as AFault};
+ghost use Rattle.pro_bitmap.specs.Bitmap.{
+  FreeMap,
+  IsWhole,
+  IsFreeFrom,
+  IsNextFree,
+  units_of,
+  units_in,
+  unit_in,
+  place_of,
+  is_free,
+  is_free_in,
+  free_count_of,
+  byte_of,
+  with_byte,
+  marked,
+  released,
+};
 
 use crate::count::free_in_unit;
-use a2_device::Device;
+use a2_device::{Device, WalkError};
 use std::alloc::{Allocator, Global};
 use std::marker::Model;
-use vol_parts::WalkError;
 
 /// The bytes of a block.
 pub(crate) const BLOCK_BYTES: usize = 512;
@@ -76,7 +110,8 @@ impl<A: Allocator> Bitmap<A> {
         ensures no_fault { IfErr result (λ e. (fault : Fault) → e ≢ AFault fault) }
         ensures blocks { IfOk result (λ map. (map.first ≡ first) × (map.total ≡ total)) }
         ensures whole { IfOk result (λ map. IsWhole map.first map.total map.units) }
-        ensures units { IsTrue (D.state device.old).honest → IfOk result (λ map. map.units ≡ units_in (D.state device.old).store first (units_of total)) }
+        ensures units { IsTrue (D.state device.old).honest
+            → IfOk result (λ map. map.units ≡ units_in (D.state device.old).store first (units_of total)) }
     {
         // The places of a device fit their type.
         let _places = device.places();

@@ -9,8 +9,8 @@ use pro_dir::ProDate;
 /// The bytes of no date.
 const NO_DATE: ProDate = ProDate([0; 4]);
 
-/// The date of a file's creation: that of a civil date and time of 1940 to 2039, without its seconds; no date (four bytes 0) if none is said. `None` where the word is no
-/// such date and time.
+/// The date of a file's creation: that of a civil date and time of 1940 to 2039, without its seconds; no date (four
+/// bytes 0) if none is said. `None` where the word is no such date and time.
 pub fn date(word: Option<&str>) -> Option<ProDate>
     ensures said { IfSome result (IsDateOf (option_map (λ s. s.now) word.entry)) }
     ensures none { (result ≡ None) ↔ (¬ NamesDate (option_map (λ s. s.now) word.entry)) }

@@ -5,7 +5,7 @@ use Rattle.std.specs.Option.{option_or}
 use Rattle.std.specs.List.{Contains}
 use Rattle.std.proofs.lemmas.Grind.{flat_map-append}
 use Rattle.a2_device.specs.Device.{unit_at}
-use Rattle.vol_parts.specs.declared.fault.WalkError.{WalkError}
+use Rattle.a2_device.specs.declared.fault.WalkError.{WalkError}
 use Rattle.pro_dir.specs.Entry.{free_slots_of, free_slots_in}
 use Rattle.pro_dir.specs.Tree.{CanLink, HasBadLink, next_of}
 use Rattle.pro_dir.specs.lemmas.TreeLaws.{leads_on}

@@ -1,8 +1,8 @@
 -- What the header, the directories and the map's pointer of a volume say (ProDOS 8 Technical Reference Manual, Appendix B).
 use Rattle.std.specs.Prelude.{◌≡◌, ◌⊎◌, ◌≤◌, ◌<◌, ℕ, ◌+◌, ◌/◌, List, length, Contains}
 use Rattle.a2_device.specs.Device.{unit_at}
-use Rattle.vol_parts.specs.declared.fault.Fault.{Fault}
-use Rattle.vol_parts.specs.declared.fault.Fault.TheVariants.{Geometry, MapPointer}
+use Rattle.a2_device.specs.declared.fault.Fault.{Fault}
+use Rattle.a2_device.specs.declared.fault.Fault.TheVariants.{Geometry, MapPointer}
 use Rattle.pro_dir.specs.declared.entry.Entry.{Entry}
 use Rattle.pro_dir.specs.Entry.{word, slot_bytes}
 use Rattle.pro_dir.specs.Tree.{CanLink, HasKind, HasSizes, IsTree, TreeFaultAt}

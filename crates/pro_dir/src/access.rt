@@ -23,7 +23,8 @@ impl Flags for Access {
 
     ghost exact = { ⊤ };
 
-    ghost table = { (codes "DESTROY", 128) ∷ (codes "RENAME", 64) ∷ (codes "BACKUP", 32) ∷ (codes "WRITE", 2) ∷ (codes "READ", 1) ∷ [] };
+    ghost table = { (codes "DESTROY", 128) ∷ (codes "RENAME", 64) ∷ (codes "BACKUP", 32) ∷ (codes "WRITE", 2)
+        ∷ (codes "READ", 1) ∷ [] };
 
     ghost set_of = { λ a. a.0 };
 

@@ -1,6 +1,17 @@
 // One entry of a directory.
 ghost use Rattle.std.specs.Prelude.{◌≡◌, ◌<◌, ◌≤◌, ◌+◌, ◌*◌, ◌/◌, slice_index, slice_range};
-ghost use Rattle.pro_dir.specs.Entry.{entry_at, is_listed, is_inactive, is_header, is_directory, key_of, name_of, storage_of, word, long};
+ghost use Rattle.pro_dir.specs.Entry.{
+  entry_at,
+  is_listed,
+  is_inactive,
+  is_header,
+  is_directory,
+  key_of,
+  name_of,
+  storage_of,
+  word,
+  long,
+};
 
 use crate::{Access, ProDate};
 use byteorder::{ByteOrder, LittleEndian};
@@ -38,8 +49,8 @@ pub(crate) const HEADER: usize = 0x25;
 /// The storage type of a subdirectory's entry.
 const DIRECTORY: u8 = 0x0d;
 
-/// An entry of a directory: the key block of its directory, the block that has it, its number there from 0, the header's
-/// slot among them, and its 39 bytes (ProDOS 8 Technical Reference Manual, Appendix B).
+/// An entry of a directory: the key block of its directory, the block that has it, its number there from 0, the
+/// header's slot among them, and its 39 bytes (ProDOS 8 Technical Reference Manual, Appendix B).
 #[derive(Clone, Copy, Debug, PartialEq, Eq)]
 pub struct Entry {
     pub directory: u16,

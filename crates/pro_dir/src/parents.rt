@@ -1,7 +1,13 @@
 // The directory in which each entry stands.
 ghost use Rattle.std.specs.Prelude.{◌≡◌, ◌<◌, ◌≤◌, ℕ, true, None, Some, if◌then◌else◌, length, slice_index_or, IfOk};
 ghost use Rattle.pro_dir.specs.Entry.{is_directory, key_of};
-ghost use Rattle.pro_dir.specs.Parents.{KnowsDirectories, entry_in, last_directory as last_of, leads_to as leads, parent_of as parent_in};
+ghost use Rattle.pro_dir.specs.Parents.{
+  KnowsDirectories,
+  entry_in,
+  last_directory as last_of,
+  leads_to as leads,
+  parent_of as parent_in,
+};
 
 use crate::Entry;
 use std::alloc::{AllocError, Allocator};
@@ -16,7 +22,8 @@ pub fn entry_at(entries: &[Entry], number: usize) -> &Entry
 
 // One more than the greatest key block that an entry of a directory names.
 fn keys_end(entries: &[Entry]) -> usize
-    ensures { (number : ℕ) → number < length entries.now → is_directory (entry_in entries.now number) ≡ true → key_of (entry_in entries.now number) < result }
+    ensures { (number : ℕ) → number < length entries.now → is_directory (entry_in entries.now number) ≡ true
+        → key_of (entry_in entries.now number) < result }
 {
     let mut end = 0;
     for number in 0..entries.len() {

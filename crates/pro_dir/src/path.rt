@@ -1,5 +1,21 @@
 // The paths of entries.
-ghost use Rattle.std.specs.Prelude.{◌≡◌, ◌≢◌, ◌<◌, ◌↔◌, ◌++◌, ◌∷◌, ℕ, List, IsTrue, length, reverse, OnOk, IfOk, IfSome, IfNone};
+ghost use Rattle.std.specs.Prelude.{
+  ◌≡◌,
+  ◌≢◌,
+  ◌<◌,
+  ◌↔◌,
+  ◌++◌,
+  ◌∷◌,
+  ℕ,
+  List,
+  IsTrue,
+  length,
+  reverse,
+  OnOk,
+  IfOk,
+  IfSome,
+  IfNone,
+};
 ghost use Rattle.std.specs.Str.{bytes_eq};
 ghost use Rattle.pro_dir.specs.Entry.{name_of};
 ghost use Rattle.pro_dir.specs.Listed.{directory_of};
@@ -74,8 +90,8 @@ impl<A: Allocator> VolumeDir<A> {
         entry_at(self.entries.as_slice(), entry as usize).name()
     }
 
-    /// Puts the path of an entry into a text, in place of what it had: the names of the directories that lead to the entry from
-    /// the volume's and its own, joined by slashes. A text with room for it takes no memory.
+    /// Puts the path of an entry into a text, in place of what it had: the names of the directories that lead to the
+    /// entry from the volume's and its own, joined by slashes. A text with room for it takes no memory.
     ///
     /// # Errors
     /// Want of memory alone.

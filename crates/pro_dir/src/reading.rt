@@ -14,7 +14,8 @@ pub struct FreeSlot {
     pub number: u8,
 }
 
-/// A directory by its key block, and the place and the number of its first slot without an entry, as far as it was read.
+/// A directory by its key block, and the place and the number of its first slot without an entry, as far as it was
+/// read.
 #[derive(Clone, Copy)]
 pub struct Reading {
     pub key: u16,
@@ -47,7 +48,8 @@ impl Reading {
     pub fn take(&mut self, place: u16, unit: &[u8; BLOCK_BYTES])
         ensures key { self.new.key ≡ self.old.key }
         ensures free { self.new.free ≡ option_or self.old.free (first_free_of self.old.key place unit.now) }
-        ensures within { (places : ℕ) → place < places → IsReadWithin places self.old.key self.old.free → IsReadWithin places self.old.key self.new.free }
+        ensures within { (places : ℕ) → place < places → IsReadWithin places self.old.key self.old.free
+            → IsReadWithin places self.old.key self.new.free }
     {
         self.free = self.free.or(first_free(self.key, place, unit));
     }

@@ -14,9 +14,9 @@ const COUNT: usize = 0x25;
 
 const NAME_BYTES: usize = 15;
 
-/// What a new file's entry has: its storage type, its name and the length of that, its type, its key pointer, the blocks that
-/// it uses, its length in bytes, its auxiliary type, its access bits, the date of its creation and modification, and the key
-/// block of its directory (ProDOS 8 Technical Reference Manual, Appendix B).
+/// What a new file's entry has: its storage type, its name and the length of that, its type, its key pointer, the
+/// blocks that it uses, its length in bytes, its auxiliary type, its access bits, the date of its creation and
+/// modification, and the key block of its directory (ProDOS 8 Technical Reference Manual, Appendix B).
 #[derive(Clone, Copy, Debug, PartialEq, Eq)]
 pub struct NewFile {
     pub storage: u8,
@@ -157,7 +157,8 @@ pub fn set_name(unit: &mut [u8], slot: u32, name: &[u8; 15], len: u8)
     requires slot { slot < 13 }
     requires len { len ≤ 15 }
     ensures { let at = slot_offset slot in
-        unit.new ≡ with_bytes (at + 1) (padded len name.now) (slice_set unit.old at (slice_index unit.old at / 16 * 16 + len)) }
+        unit.new ≡ with_bytes (at + 1) (padded len name.now)
+        (slice_set unit.old at (slice_index unit.old at / 16 * 16 + len)) }
 {
     let at = offset_of(slot);
     unit[at] = unit[at] / 16 * 16 + len;

@@ -1,24 +1,80 @@
 // The walk over the directories of a volume.
-ghost use Rattle.std.specs.Prelude.{◌≡◌, ◌≢◌, ◌≤◌, ◌<◌, ◌++◌, [], ◌∷◌, ◌+◌, ◌*◌, ℕ, List, set, true, false, length, drop, map, All, OnOk, IfOk, IfErr, IfSome, IsTrue, ◌↔◌, reverse, replicate};
+ghost use Rattle.std.specs.Prelude.{
+  ◌≡◌,
+  ◌≢◌,
+  ◌≤◌,
+  ◌<◌,
+  ◌++◌,
+  [],
+  ◌∷◌,
+  ◌+◌,
+  ◌*◌,
+  ℕ,
+  List,
+  set,
+  true,
+  false,
+  length,
+  drop,
+  map,
+  All,
+  OnOk,
+  IfOk,
+  IfErr,
+  IfSome,
+  IsTrue,
+  ◌↔◌,
+  reverse,
+  replicate,
+};
 ghost use Rattle.std.specs.Option.{option_or};
 ghost use Rattle.a2_device.specs.Device.{OnlyReads, unit_at};
 ghost use Rattle.a2_device.specs.Reading.{met_device};
-ghost use Rattle.vol_parts.specs.declared.fault.Fault.{Fault};
-ghost use Rattle.vol_parts.specs.declared.fault.Fault.TheVariants.{DirLink as ADirLink};
-ghost use Rattle.vol_parts.specs.declared.fault.WalkError.TheVariants.{Fault as AFault};
+ghost use Rattle.a2_device.specs.declared.fault.Fault.{Fault};
+ghost use Rattle.a2_device.specs.declared.fault.Fault.TheVariants.{DirLink as ADirLink};
+ghost use Rattle.a2_device.specs.declared.fault.WalkError.TheVariants.{Fault as AFault};
 ghost use Rattle.pro_dir.specs.declared.entry.Entry.{Entry as AnEntry};
 ghost use Rattle.pro_dir.specs.Entry.{is_directory, key_of};
-ghost use Rattle.pro_dir.specs.Tree.{next_of, CanLink, HasKind, HasSizes, IsDirectory, HasBadLink, SubdirectoryFaultAt, IsCutOff, IsTree, TreeFaultAt};
-ghost use Rattle.pro_dir.specs.Walk.{is_met, first_free_of, kept_slots, FewListed, HasMetMore, IsTable, IsFollowing, IsListing, IsReadOut, IsStop, IsVolumeKey, all_waiting, entries_from, left_behind, left_in, waiting_in, whole_block, work};
+ghost use Rattle.pro_dir.specs.Tree.{
+  next_of,
+  CanLink,
+  HasKind,
+  HasSizes,
+  IsDirectory,
+  HasBadLink,
+  SubdirectoryFaultAt,
+  IsCutOff,
+  IsTree,
+  TreeFaultAt,
+};
+ghost use Rattle.pro_dir.specs.Walk.{
+  is_met,
+  first_free_of,
+  kept_slots,
+  FewListed,
+  HasMetMore,
+  IsTable,
+  IsFollowing,
+  IsListing,
+  IsReadOut,
+  IsStop,
+  IsVolumeKey,
+  all_waiting,
+  entries_from,
+  left_behind,
+  left_in,
+  waiting_in,
+  whole_block,
+  work,
+};
 ghost use Rattle.pro_dir.specs.Within.{IsInSlot, IsKeptWithin, IsReadWithin, IsWaitingWithin};
 
 use crate::entry::{BLOCK_BYTES, ENTRIES, Entry};
 use crate::reading::{FreeSlot, Reading};
 use crate::waiting::Waiting;
-use a2_device::Device;
+use a2_device::{Device, Fault, WalkError};
 use byteorder::{ByteOrder, LittleEndian};
 use std::alloc::{AllocError, Allocator, Global};
-use vol_parts::{Fault, WalkError};
 
 /// The key block of the volume's directory.
 pub(crate) const VOLUME_KEY: u16 = 2;
@@ -35,8 +91,8 @@ const ENTRIES_PER_BLOCK: usize = 0x24;
 
 const NEXT: usize = 0x02;
 
-/// The directories of a volume so far: their blocks, their entries in order, the slots whose entries wait with the next of
-/// them last, the first slot without an entry of each directory that has one, and which blocks were met.
+/// The directories of a volume so far: their blocks, their entries in order, the slots whose entries wait with the next
+/// of them last, the first slot without an entry of each directory that has one, and which blocks were met.
 #[derive(Drop)]
 pub struct Tree<A: Allocator = Global> {
     pub blocks: Vec<u16, A>,
@@ -71,7 +127,8 @@ impl<A: Allocator> Tree<A> {
     fn start(alloc: A, places: u32) -> Result<Tree<A>, AllocError>
     where
         A: Copy,
-        ensures lists { IfOk result (λ tree. (tree.blocks.items ≡ []) × (tree.entries.items ≡ []) × (tree.pending.items ≡ []) × (tree.free.items ≡ [])) }
+        ensures lists { IfOk result (λ tree. (tree.blocks.items ≡ []) × (tree.entries.items ≡ [])
+            × (tree.pending.items ≡ []) × (tree.free.items ≡ [])) }
         ensures met { IfOk result (λ tree. tree.met.items ≡ replicate places false) }
     {
         Ok(Tree {
@@ -102,10 +159,12 @@ impl<A: Allocator> Tree<A> {
         ensures blocks { OnOk result (self.new.blocks.items ≡ self.old.blocks.items ++ block ∷ []) }
         ensures met { OnOk result (self.new.met.items ≡ set self.old.met.items block true) }
         ensures key { reading.new.key ≡ reading.old.key }
-        ensures first { OnOk result (reading.new.free ≡ option_or reading.old.free (first_free_of reading.old.key block unit.now)) }
+        ensures first { OnOk result
+            (reading.new.free ≡ option_or reading.old.free (first_free_of reading.old.key block unit.now)) }
         ensures within { (places : ℕ) → block < places → IsReadWithin places reading.old.key reading.old.free
             → OnOk result (IsReadWithin places reading.old.key reading.new.free) }
-        ensures same { (self.new.entries ≡ self.old.entries) × (self.new.pending ≡ self.old.pending) × (self.new.free ≡ self.old.free) }
+        ensures same { (self.new.entries ≡ self.old.entries) × (self.new.pending ≡ self.old.pending)
+            × (self.new.free ≡ self.old.free) }
     {
         self.blocks.push(block)?;
         self.met[block as usize] = true;
@@ -130,11 +189,14 @@ impl<A: Allocator> Tree<A> {
         ensures blocks { OnOk result (self.new.blocks.items ≡ self.old.blocks.items ++ block ∷ []) }
         ensures met { OnOk result (self.new.met.items ≡ set self.old.met.items block true) }
         ensures key { reading.new.key ≡ reading.old.key }
-        ensures first { OnOk result (reading.new.free ≡ option_or reading.old.free (first_free_of reading.old.key block unit.new)) }
+        ensures first { OnOk result
+            (reading.new.free ≡ option_or reading.old.free (first_free_of reading.old.key block unit.new)) }
         ensures within { (places : ℕ) → block < places → IsReadWithin places reading.old.key reading.old.free
             → OnOk result (IsReadWithin places reading.old.key reading.new.free) }
-        ensures unit { IsTrue (D.state device.old).honest → OnOk result (unit.new ≡ unit_at (D.state device.old).store block) }
-        ensures same { (self.new.entries ≡ self.old.entries) × (self.new.pending ≡ self.old.pending) × (self.new.free ≡ self.old.free) }
+        ensures unit { IsTrue (D.state device.old).honest
+            → OnOk result (unit.new ≡ unit_at (D.state device.old).store block) }
+        ensures same { (self.new.entries ≡ self.old.entries) × (self.new.pending ≡ self.old.pending)
+            × (self.new.free ≡ self.old.free) }
     {
         if device.read(block as u32, unit).is_err() {
             return Err(WalkError::Device);
@@ -155,17 +217,23 @@ impl<A: Allocator> Tree<A> {
 
         ensures device { OnlyReads (met_device result) (D.state device.old) (D.state device.new) }
         ensures table { OnOk result (IsTable (D.state device.old).places self.new.met.items self.new.blocks.items) }
-        ensures more { OnOk result (HasMetMore self.old.met.items self.new.met.items self.old.blocks.items self.new.blocks.items) }
+        ensures more { OnOk result
+            (HasMetMore self.old.met.items self.new.met.items self.old.blocks.items self.new.blocks.items) }
         ensures within { IsReadWithin (D.state device.old).places reading.old.key reading.old.free
             → OnOk result (IsReadWithin (D.state device.old).places reading.old.key reading.new.free) }
         ensures key { reading.new.key ≡ reading.old.key }
         ensures found { IsTrue (D.state device.old).honest → (before : List ℕ)
-            → IsFollowing (D.state device.old).store reading.old.key before self.old.blocks.items reading.old.free reading.old.key unit.old
-            → OnOk result (IsReadOut (D.state device.old).store reading.old.key before self.new.blocks.items reading.new.free) }
+            → IsFollowing (D.state device.old).store reading.old.key before self.old.blocks.items
+            reading.old.free reading.old.key unit.old
+            → OnOk result (IsReadOut
+            (D.state device.old).store reading.old.key before self.new.blocks.items reading.new.free) }
         ensures refused { IsTrue (D.state device.old).honest → (before : List ℕ)
-            → IsFollowing (D.state device.old).store reading.old.key before self.old.blocks.items reading.old.free reading.old.key unit.old
-            → IfErr result (λ e. (fault : Fault) → e ≡ AFault fault → (holder : ℕ) × (fault ≡ ADirLink holder) × HasBadLink (D.state device.old).store before reading.old.key holder) }
-        ensures same { (self.new.entries ≡ self.old.entries) × (self.new.pending ≡ self.old.pending) × (self.new.free ≡ self.old.free) }
+            → IsFollowing (D.state device.old).store reading.old.key before self.old.blocks.items
+            reading.old.free reading.old.key unit.old
+            → IfErr result (λ e. (fault : Fault) → e ≡ AFault fault → (holder : ℕ) × (fault ≡ ADirLink holder)
+            × HasBadLink (D.state device.old).store before reading.old.key holder) }
+        ensures same { (self.new.entries ≡ self.old.entries) × (self.new.pending ≡ self.old.pending)
+            × (self.new.free ≡ self.old.free) }
     {
         let mut holder = reading.key;
         let mut next = next_block(unit);
@@ -186,16 +254,22 @@ impl<A: Allocator> Tree<A> {
         requires table { IsTable (D.state device.old).places self.old.met.items self.old.blocks.items }
 
         ensures device { OnlyReads (met_device result) (D.state device.old) (D.state device.new) }
-        ensures table { IfOk result (λ reading. IsTable (D.state device.old).places self.new.met.items self.new.blocks.items) }
-        ensures more { IfOk result (λ reading. HasMetMore self.old.met.items self.new.met.items self.old.blocks.items self.new.blocks.items) }
+        ensures table { IfOk result (λ reading.
+            IsTable (D.state device.old).places self.new.met.items self.new.blocks.items) }
+        ensures more { IfOk result (λ reading.
+            HasMetMore self.old.met.items self.new.met.items self.old.blocks.items self.new.blocks.items) }
         ensures within { IfOk result (λ reading. IsReadWithin (D.state device.old).places reading.key reading.free) }
         ensures key { IfOk result (λ reading. reading.key ≡ key_of entry.now) }
         ensures found { IsTrue (D.state device.old).honest → IfOk result (λ reading.
-            IsReadOut (D.state device.old).store (key_of entry.now) self.old.blocks.items self.new.blocks.items reading.free
-            × HasKind 14 (unit_at (D.state device.old).store (key_of entry.now)) × HasSizes (unit_at (D.state device.old).store (key_of entry.now))) }
+            IsReadOut (D.state device.old).store
+            (key_of entry.now) self.old.blocks.items self.new.blocks.items reading.free
+            × HasKind 14 (unit_at (D.state device.old).store (key_of entry.now))
+            × HasSizes (unit_at (D.state device.old).store (key_of entry.now))) }
         ensures refused { IsTrue (D.state device.old).honest → IfErr result (λ e. (fault : Fault) → e ≡ AFault fault
-            → SubdirectoryFaultAt (D.state device.old).store self.old.blocks.items entry.now.place (key_of entry.now) fault) }
-        ensures same { (self.new.entries ≡ self.old.entries) × (self.new.pending ≡ self.old.pending) × (self.new.free ≡ self.old.free) }
+            → SubdirectoryFaultAt (D.state device.old).store self.old.blocks.items entry.now.place
+            (key_of entry.now) fault) }
+        ensures same { (self.new.entries ≡ self.old.entries) × (self.new.pending ≡ self.old.pending)
+            × (self.new.free ≡ self.old.free) }
     {
         let key = entry.key_block();
         if !self.is_new(device.places(), key as u32) {
@@ -217,8 +291,10 @@ impl<A: Allocator> Tree<A> {
     // Lets the blocks of a directory wait, those from a number on, the first of them last.
     fn wait_from(&mut self, key: u16, first: usize) -> Result<(), AllocError>
         requires { first ≤ length self.old.blocks.items }
-        ensures pending { OnOk result (self.new.pending.items ≡ self.old.pending.items ++ reverse (map (whole_block key) (drop first self.old.blocks.items))) }
-        ensures same { (self.new.blocks ≡ self.old.blocks) × (self.new.met ≡ self.old.met) × (self.new.entries ≡ self.old.entries) × (self.new.free ≡ self.old.free) }
+        ensures pending { OnOk result (self.new.pending.items ≡ self.old.pending.items
+            ++ reverse (map (whole_block key) (drop first self.old.blocks.items))) }
+        ensures same { (self.new.blocks ≡ self.old.blocks) × (self.new.met ≡ self.old.met)
+            × (self.new.entries ≡ self.old.entries) × (self.new.free ≡ self.old.free) }
     {
         for number in (first..self.blocks.len()).rev() {
             self.pending.push(Waiting {
@@ -230,12 +306,15 @@ impl<A: Allocator> Tree<A> {
         Ok(())
     }
 
-    // Keeps the first slot without an entry of a directory that was read; its blocks, from a number on, wait from then on.
+    // Keeps the first slot without an entry of a directory that was read; its blocks, from a number on, wait from then
+    // on.
     fn wait(&mut self, first: usize, reading: Reading) -> Result<(), AllocError>
         requires { first ≤ length self.old.blocks.items }
-        ensures pending { OnOk result (self.new.pending.items ≡ self.old.pending.items ++ reverse (map (whole_block reading.key) (drop first self.old.blocks.items))) }
+        ensures pending { OnOk result (self.new.pending.items ≡ self.old.pending.items
+            ++ reverse (map (whole_block reading.key) (drop first self.old.blocks.items))) }
         ensures free { OnOk result (self.new.free.items ≡ self.old.free.items ++ kept_slots reading.key reading.free) }
-        ensures same { (self.new.blocks ≡ self.old.blocks) × (self.new.met ≡ self.old.met) × (self.new.entries ≡ self.old.entries) }
+        ensures same { (self.new.blocks ≡ self.old.blocks) × (self.new.met ≡ self.old.met)
+            × (self.new.entries ≡ self.old.entries) }
     {
         if let Some((place, number)) = reading.free {
             self.free.push(FreeSlot {
@@ -250,8 +329,10 @@ impl<A: Allocator> Tree<A> {
     // Lets the slots behind that of an entry wait.
     fn wait_behind(&mut self, slots: Waiting, entry: &Entry) -> Result<(), AllocError>
         requires { entry.now.slot < 13 }
-        ensures pending { OnOk result (self.new.pending.items ≡ self.old.pending.items ++ record slots { slot = entry.now.slot + 1 } ∷ []) }
-        ensures same { (self.new.blocks ≡ self.old.blocks) × (self.new.met ≡ self.old.met) × (self.new.entries ≡ self.old.entries) × (self.new.free ≡ self.old.free) }
+        ensures pending { OnOk result
+            (self.new.pending.items ≡ self.old.pending.items ++ record slots { slot = entry.now.slot + 1 } ∷ []) }
+        ensures same { (self.new.blocks ≡ self.old.blocks) × (self.new.met ≡ self.old.met)
+            × (self.new.entries ≡ self.old.entries) × (self.new.free ≡ self.old.free) }
     {
         self.pending.push(Waiting {
             slot: entry.slot + 1,
@@ -263,7 +344,8 @@ impl<A: Allocator> Tree<A> {
     // Notes that an entry is listed.
     fn add(&mut self, entry: Entry) -> Result<(), AllocError>
         ensures entries { OnOk result (self.new.entries.items ≡ self.old.entries.items ++ entry ∷ []) }
-        ensures same { (self.new.blocks ≡ self.old.blocks) × (self.new.met ≡ self.old.met) × (self.new.pending ≡ self.old.pending) × (self.new.free ≡ self.old.free) }
+        ensures same { (self.new.blocks ≡ self.old.blocks) × (self.new.met ≡ self.old.met)
+            × (self.new.pending ≡ self.old.pending) × (self.new.free ≡ self.old.free) }
     {
         self.entries.push(entry)?;
         Ok(())
@@ -277,15 +359,21 @@ impl<A: Allocator> Tree<A> {
 
         ensures device { OnlyReads (met_device result) (D.state device.old) (D.state device.new) }
         ensures table { OnOk result (IsTable (D.state device.old).places self.new.met.items self.new.blocks.items) }
-        ensures work { OnOk result (work self.new.met.items self.new.pending.items ≤ work self.old.met.items self.old.pending.items) }
+        ensures work { OnOk result
+            (work self.new.met.items self.new.pending.items ≤ work self.old.met.items self.old.pending.items) }
         ensures entries { OnOk result (self.new.entries.items ≡ self.old.entries.items ++ entry ∷ []) }
-        ensures waiting { All (IsWaitingWithin (D.state device.old).places) self.old.pending.items → OnOk result (All (IsWaitingWithin (D.state device.old).places) self.new.pending.items) }
-        ensures kept { All (IsKeptWithin (D.state device.old).places) self.old.free.items → OnOk result (All (IsKeptWithin (D.state device.old).places) self.new.free.items) }
+        ensures waiting { All (IsWaitingWithin (D.state device.old).places) self.old.pending.items
+            → OnOk result (All (IsWaitingWithin (D.state device.old).places) self.new.pending.items) }
+        ensures kept { All (IsKeptWithin (D.state device.old).places) self.old.free.items
+            → OnOk result (All (IsKeptWithin (D.state device.old).places) self.new.free.items) }
         ensures listed { IsTrue (D.state device.old).honest
-            → IsListing (D.state device.old).store self.old.blocks.items self.old.entries.items (entry ∷ all_waiting (D.state device.old).store self.old.pending.items) self.old.free.items
-            → OnOk result (IsListing (D.state device.old).store self.new.blocks.items self.new.entries.items (all_waiting (D.state device.old).store self.new.pending.items) self.new.free.items) }
+            → IsListing (D.state device.old).store self.old.blocks.items self.old.entries.items
+            (entry ∷ all_waiting (D.state device.old).store self.old.pending.items) self.old.free.items
+            → OnOk result (IsListing (D.state device.old).store self.new.blocks.items self.new.entries.items
+            (all_waiting (D.state device.old).store self.new.pending.items) self.new.free.items) }
         ensures refused { IsTrue (D.state device.old).honest
-            → IsListing (D.state device.old).store self.old.blocks.items self.old.entries.items (entry ∷ all_waiting (D.state device.old).store self.old.pending.items) self.old.free.items
+            → IsListing (D.state device.old).store self.old.blocks.items self.old.entries.items
+            (entry ∷ all_waiting (D.state device.old).store self.old.pending.items) self.old.free.items
             → IfErr result (λ e. (fault : Fault) → e ≡ AFault fault → IsCutOff (D.state device.old).store fault) }
     {
         self.add(entry)?;
@@ -303,13 +391,18 @@ impl<A: Allocator> Tree<A> {
     ) -> Result<Option<Entry>, AllocError>
         requires { slots.slot ≤ 13 }
         ensures stopped { IfOk result (λ found. IfSome found (IsStop slots unit.now)) }
-        ensures inside { (places : ℕ) → IsWaitingWithin places slots → IfOk result (λ found. IfSome found (IsInSlot places)) }
+        ensures inside { (places : ℕ) → IsWaitingWithin places slots
+            → IfOk result (λ found. IfSome found (IsInSlot places)) }
         ensures few { IfOk result (FewListed slots self.old.entries.items self.new.entries.items) }
-        ensures within { (places : ℕ) → IsWaitingWithin places slots → All (IsInSlot places) self.old.entries.items → OnOk result (All (IsInSlot places) self.new.entries.items) }
+        ensures within { (places : ℕ) → IsWaitingWithin places slots → All (IsInSlot places) self.old.entries.items
+            → OnOk result (All (IsInSlot places) self.new.entries.items) }
         ensures listed { (store : List (List ℕ)) (others : List AnEntry)
-            → IsListing store self.old.blocks.items self.old.entries.items (entries_from slots.directory slots.place unit.now slots.slot ++ others) self.old.free.items
-            → IfOk result (λ found. IsListing store self.old.blocks.items self.new.entries.items (left_behind slots unit.now found ++ others) self.old.free.items) }
-        ensures same { (self.new.blocks ≡ self.old.blocks) × (self.new.met ≡ self.old.met) × (self.new.pending ≡ self.old.pending) × (self.new.free ≡ self.old.free) }
+            → IsListing store self.old.blocks.items self.old.entries.items
+            (entries_from slots.directory slots.place unit.now slots.slot ++ others) self.old.free.items
+            → IfOk result (λ found. IsListing store self.old.blocks.items self.new.entries.items
+            (left_behind slots unit.now found ++ others) self.old.free.items) }
+        ensures same { (self.new.blocks ≡ self.old.blocks) × (self.new.met ≡ self.old.met)
+            × (self.new.pending ≡ self.old.pending) × (self.new.free ≡ self.old.free) }
     {
         for slot in slots.slot..ENTRIES {
             let entry = Entry::at(slots.directory, slots.place, unit, slot);
@@ -323,7 +416,8 @@ impl<A: Allocator> Tree<A> {
         Ok(None)
     }
 
-    // Lists the entries of slots that wait; where one is of a subdirectory, the slots behind it wait behind what is inside it.
+    // Lists the entries of slots that wait; where one is of a subdirectory, the slots behind it wait behind what is
+    // inside it.
     fn list<D: Device>(&mut self, device: &mut D, slots: Waiting) -> Result<(), WalkError>
         requires size { (D.state device.old).unit_size ≡ 512 }
         requires table { IsTable (D.state device.old).places self.old.met.items self.old.blocks.items }
@@ -331,17 +425,26 @@ impl<A: Allocator> Tree<A> {
 
         ensures device { OnlyReads (met_device result) (D.state device.old) (D.state device.new) }
         ensures table { OnOk result (IsTable (D.state device.old).places self.new.met.items self.new.blocks.items) }
-        ensures work { OnOk result (work self.new.met.items self.new.pending.items < work self.old.met.items self.old.pending.items + left_in slots) }
+        ensures work { OnOk result (work self.new.met.items self.new.pending.items
+            < work self.old.met.items self.old.pending.items + left_in slots) }
         ensures few { OnOk result (length self.new.entries.items + work self.new.met.items self.new.pending.items
             ≤ length self.old.entries.items + work self.old.met.items self.old.pending.items + left_in slots) }
-        ensures within { All (IsInSlot (D.state device.old).places) self.old.entries.items → OnOk result (All (IsInSlot (D.state device.old).places) self.new.entries.items) }
-        ensures waiting { All (IsWaitingWithin (D.state device.old).places) self.old.pending.items → OnOk result (All (IsWaitingWithin (D.state device.old).places) self.new.pending.items) }
-        ensures kept { All (IsKeptWithin (D.state device.old).places) self.old.free.items → OnOk result (All (IsKeptWithin (D.state device.old).places) self.new.free.items) }
+        ensures within { All (IsInSlot (D.state device.old).places) self.old.entries.items
+            → OnOk result (All (IsInSlot (D.state device.old).places) self.new.entries.items) }
+        ensures waiting { All (IsWaitingWithin (D.state device.old).places) self.old.pending.items
+            → OnOk result (All (IsWaitingWithin (D.state device.old).places) self.new.pending.items) }
+        ensures kept { All (IsKeptWithin (D.state device.old).places) self.old.free.items
+            → OnOk result (All (IsKeptWithin (D.state device.old).places) self.new.free.items) }
         ensures listed { IsTrue (D.state device.old).honest
-            → IsListing (D.state device.old).store self.old.blocks.items self.old.entries.items (waiting_in (D.state device.old).store slots ++ all_waiting (D.state device.old).store self.old.pending.items) self.old.free.items
-            → OnOk result (IsListing (D.state device.old).store self.new.blocks.items self.new.entries.items (all_waiting (D.state device.old).store self.new.pending.items) self.new.free.items) }
+            → IsListing (D.state device.old).store self.old.blocks.items self.old.entries.items
+            (waiting_in (D.state device.old).store slots
+            ++ all_waiting (D.state device.old).store self.old.pending.items) self.old.free.items
+            → OnOk result (IsListing (D.state device.old).store self.new.blocks.items self.new.entries.items
+            (all_waiting (D.state device.old).store self.new.pending.items) self.new.free.items) }
         ensures refused { IsTrue (D.state device.old).honest
-            → IsListing (D.state device.old).store self.old.blocks.items self.old.entries.items (waiting_in (D.state device.old).store slots ++ all_waiting (D.state device.old).store self.old.pending.items) self.old.free.items
+            → IsListing (D.state device.old).store self.old.blocks.items self.old.entries.items
+            (waiting_in (D.state device.old).store slots
+            ++ all_waiting (D.state device.old).store self.old.pending.items) self.old.free.items
             → IfErr result (λ e. (fault : Fault) → e ≡ AFault fault → IsCutOff (D.state device.old).store fault) }
     {
         let mut unit = [0; BLOCK_BYTES];
@@ -363,14 +466,20 @@ impl<A: Allocator> Tree<A> {
 
         ensures device { OnlyReads (met_device result) (D.state device.old) (D.state device.new) }
         ensures table { OnOk result (IsTable (D.state device.old).places self.new.met.items self.new.blocks.items) }
-        ensures within { All (IsInSlot (D.state device.old).places) self.old.entries.items → OnOk result (All (IsInSlot (D.state device.old).places) self.new.entries.items) }
-        ensures kept { All (IsKeptWithin (D.state device.old).places) self.old.free.items → OnOk result (All (IsKeptWithin (D.state device.old).places) self.new.free.items) }
-        ensures few { OnOk result (length self.new.entries.items ≤ length self.old.entries.items + work self.old.met.items self.old.pending.items) }
+        ensures within { All (IsInSlot (D.state device.old).places) self.old.entries.items
+            → OnOk result (All (IsInSlot (D.state device.old).places) self.new.entries.items) }
+        ensures kept { All (IsKeptWithin (D.state device.old).places) self.old.free.items
+            → OnOk result (All (IsKeptWithin (D.state device.old).places) self.new.free.items) }
+        ensures few { OnOk result (length self.new.entries.items
+            ≤ length self.old.entries.items + work self.old.met.items self.old.pending.items) }
         ensures listed { IsTrue (D.state device.old).honest
-            → IsListing (D.state device.old).store self.old.blocks.items self.old.entries.items (all_waiting (D.state device.old).store self.old.pending.items) self.old.free.items
-            → OnOk result (IsListing (D.state device.old).store self.new.blocks.items self.new.entries.items [] self.new.free.items) }
+            → IsListing (D.state device.old).store self.old.blocks.items self.old.entries.items
+            (all_waiting (D.state device.old).store self.old.pending.items) self.old.free.items
+            → OnOk result (IsListing
+            (D.state device.old).store self.new.blocks.items self.new.entries.items [] self.new.free.items) }
         ensures refused { IsTrue (D.state device.old).honest
-            → IsListing (D.state device.old).store self.old.blocks.items self.old.entries.items (all_waiting (D.state device.old).store self.old.pending.items) self.old.free.items
+            → IsListing (D.state device.old).store self.old.blocks.items self.old.entries.items
+            (all_waiting (D.state device.old).store self.old.pending.items) self.old.free.items
             → IfErr result (λ e. (fault : Fault) → e ≡ AFault fault → IsCutOff (D.state device.old).store fault) }
     {
         while let Some(slots) = self.pending.pop() {
@@ -395,11 +504,14 @@ impl<A: Allocator> Tree<A> {
         ensures within { IfOk result (λ tree. All (IsInSlot (D.state device.old).places) tree.entries.items) }
         ensures waiting { IfOk result (λ tree. All (IsWaitingWithin (D.state device.old).places) tree.pending.items) }
         ensures kept { IfOk result (λ tree. All (IsKeptWithin (D.state device.old).places) tree.free.items) }
-        ensures few { IfOk result (λ tree. length tree.entries.items + work tree.met.items tree.pending.items ≤ 14 * (D.state device.old).places) }
+        ensures few { IfOk result (λ tree.
+            length tree.entries.items + work tree.met.items tree.pending.items ≤ 14 * (D.state device.old).places) }
         ensures listed { IsTrue (D.state device.old).honest → IsVolumeKey (D.state device.old).store unit.old
-            → IfOk result (λ tree. IsListing (D.state device.old).store tree.blocks.items tree.entries.items (all_waiting (D.state device.old).store tree.pending.items) tree.free.items) }
+            → IfOk result (λ tree. IsListing (D.state device.old).store tree.blocks.items tree.entries.items
+            (all_waiting (D.state device.old).store tree.pending.items) tree.free.items) }
         ensures refused { IsTrue (D.state device.old).honest → IsVolumeKey (D.state device.old).store unit.old
-            → IfErr result (λ e. (fault : Fault) → e ≡ AFault fault → (holder : ℕ) × (fault ≡ ADirLink holder) × HasBadLink (D.state device.old).store [] 2 holder) }
+            → IfErr result (λ e. (fault : Fault) → e ≡ AFault fault
+            → (holder : ℕ) × (fault ≡ ADirLink holder) × HasBadLink (D.state device.old).store [] 2 holder) }
     {
         let mut tree = Tree::start(alloc, device.places())?;
         let mut reading = Reading::new(VOLUME_KEY);
@@ -429,7 +541,8 @@ impl<A: Allocator> Tree<A> {
         ensures kept { IfOk result (λ tree. All (IsKeptWithin (D.state device.old).places) tree.free.items) }
         ensures few { IfOk result (λ tree. length tree.entries.items ≤ 14 * (D.state device.old).places) }
         ensures listed { IsTrue (D.state device.old).honest → IsVolumeKey (D.state device.old).store unit.old
-            → IfOk result (λ tree. IsListing (D.state device.old).store tree.blocks.items tree.entries.items [] tree.free.items) }
+            → IfOk result (λ tree.
+            IsListing (D.state device.old).store tree.blocks.items tree.entries.items [] tree.free.items) }
         ensures refused { IsTrue (D.state device.old).honest → IsVolumeKey (D.state device.old).store unit.old
             → IfErr result (λ e. (fault : Fault) → e ≡ AFault fault → TreeFaultAt (D.state device.old).store fault) }
     {

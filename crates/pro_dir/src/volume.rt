@@ -1,9 +1,24 @@
 // The header, the directories and the map's pointer of a volume.
-ghost use Rattle.std.specs.Prelude.{◌≡◌, ◌≤◌, ◌<◌, ◌+◌, ◌↔◌, ℕ, List, false, length, slice_get, IfSome, IfOk, IfErr, IsTrue};
+ghost use Rattle.std.specs.Prelude.{
+  ◌≡◌,
+  ◌≤◌,
+  ◌<◌,
+  ◌+◌,
+  ◌↔◌,
+  ℕ,
+  List,
+  false,
+  length,
+  slice_get,
+  IfSome,
+  IfOk,
+  IfErr,
+  IsTrue,
+};
 ghost use Rattle.a2_device.specs.Device.{OnlyReads, unit_at};
 ghost use Rattle.a2_device.specs.Reading.{met_device};
-ghost use Rattle.vol_parts.specs.declared.fault.Fault.{Fault};
-ghost use Rattle.vol_parts.specs.declared.fault.WalkError.TheVariants.{Fault as AFault};
+ghost use Rattle.a2_device.specs.declared.fault.Fault.{Fault};
+ghost use Rattle.a2_device.specs.declared.fault.WalkError.TheVariants.{Fault as AFault};
 ghost use Rattle.pro_dir.specs.Entry.{name_of, slot_bytes, free_slots_in};
 ghost use Rattle.pro_dir.specs.Parents.{KnowsDirectories};
 ghost use Rattle.pro_dir.specs.Tree.{HasKind, HasSizes, IsRun};
@@ -14,10 +29,9 @@ use crate::entry::{BLOCK_BYTES, ENTRY_BYTES, Entry, NAME};
 use crate::parents::directories_of;
 use crate::reading::FreeSlot;
 use crate::tree::{Tree, VOLUME_KEY, has_kind, has_sizes};
-use a2_device::Device;
+use a2_device::{Device, Fault, WalkError};
 use byteorder::{ByteOrder, LittleEndian};
 use std::alloc::{Allocator, Global};
-use vol_parts::{Fault, WalkError};
 
 /// The storage type in the header of the volume's directory.
 const VOLUME: u8 = 0x0f;
@@ -64,8 +78,8 @@ impl Header {
 }
 
 /// The header of a volume, its directory blocks, all entries in directory order, those inside a subdirectory after its
-/// own entry, for each key block the entry of its directory, and the first slot without an entry of each directory that has
-/// one.
+/// own entry, for each key block the entry of its directory, and the first slot without an entry of each directory that
+/// has one.
 #[derive(Debug, Drop)]
 pub struct VolumeDir<A: Allocator = Global> {
     header: Header,
@@ -79,7 +93,8 @@ pub struct VolumeDir<A: Allocator = Global> {
 
 // Whether block 2 has the header of a volume of so many blocks.
 fn has_geometry(unit: &[u8; BLOCK_BYTES], header: &Header, places: u32) -> bool
-    ensures value { IsTrue result ↔ (HasKind 15 unit.now × HasSizes unit.now × (total_blocks header.now.bytes ≡ places)) }
+    ensures value { IsTrue result
+        ↔ (HasKind 15 unit.now × HasSizes unit.now × (total_blocks header.now.bytes ≡ places)) }
     ensures low { IsTrue result → places < 65536 }
 {
     has_kind(unit, VOLUME) && has_sizes(unit) && header.total() == places
@@ -107,10 +122,10 @@ impl<A: Allocator> VolumeDir<A> {
     /// Walks over the directories of a volume.
     ///
     /// # Errors
-    /// `Fault` with `Geometry` of block 2, where it has no header of a volume of so many blocks, or of a subdirectory's key
-    /// block; with `DirLink`, which names the block with a link or a key pointer that leads to no block for it, to one
-    /// already met or to no subdirectory's header; with `MapPointer` of block 2, where a block of the map would be below 2,
-    /// past the end or a directory's. `Device` where a read fails; `Memory`.
+    /// `Fault` with `Geometry` of block 2, where it has no header of a volume of so many blocks, or of a subdirectory's
+    /// key block; with `DirLink`, which names the block with a link or a key pointer that leads to no block for it, to
+    /// one already met or to no subdirectory's header; with `MapPointer` of block 2, where a block of the map would be
+    /// below 2, past the end or a directory's. `Device` where a read fails; `Memory`.
     pub fn walk<D: Device>(alloc: A, device: &mut D) -> Result<VolumeDir<A>, WalkError>
     where
         A: Copy,
@@ -119,12 +134,17 @@ impl<A: Allocator> VolumeDir<A> {
 
         ensures device { OnlyReads (met_device result) (D.state device.old) (D.state device.new) }
         ensures within { IfOk result (λ volume. IsWithin (D.state device.old).places (directory_of volume)) }
-        ensures slots { IfOk result (λ volume. (key : ℕ) → IfSome (free_slot_of volume key) (IsFreeWithin (D.state device.old).places key)) }
-        ensures described { IsTrue (D.state device.old).honest → IfOk result (λ volume. Describes (D.state device.old).store (directory_of volume)) }
-        ensures free { IsTrue (D.state device.old).honest → IfOk result (λ volume. (key : ℕ) (own : List ℕ) → IsKeyOf (directory_of volume).entries key
-            → IsRun (D.state device.old).store key own → free_slot_of volume key ≡ slice_get (free_slots_in (D.state device.old).store key own) 0) }
+        ensures slots { IfOk result (λ volume. (key : ℕ)
+            → IfSome (free_slot_of volume key) (IsFreeWithin (D.state device.old).places key)) }
+        ensures described { IsTrue (D.state device.old).honest
+            → IfOk result (λ volume. Describes (D.state device.old).store (directory_of volume)) }
+        ensures free { IsTrue (D.state device.old).honest
+            → IfOk result (λ volume. (key : ℕ) (own : List ℕ) → IsKeyOf (directory_of volume).entries key
+            → IsRun (D.state device.old).store key own
+            → free_slot_of volume key ≡ slice_get (free_slots_in (D.state device.old).store key own) 0) }
         ensures refused { IsTrue (D.state device.old).honest → IfErr result (λ e. (fault : Fault) → e ≡ AFault fault
-            → VolumeFaultAt (D.state device.old).store fault × ((directory : Directory) → ¬ Describes (D.state device.old).store directory)) }
+            → VolumeFaultAt (D.state device.old).store fault
+            × ((directory : Directory) → ¬ Describes (D.state device.old).store directory)) }
     {
         let mut unit = [0; BLOCK_BYTES];
         if device.read(VOLUME_KEY as u32, &mut unit).is_err() {

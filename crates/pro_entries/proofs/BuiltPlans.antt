@@ -2,17 +2,17 @@
 use Rattle.std.specs.Prelude.{◌≡◌, ◌⊎◌, ◌<◌, ℕ, zero, suc, ◌+◌, ◌*◌, ◌==◌, nat_lt, if◌then◌else◌, Bool, true, false, List, length}
 use Rattle.std.proofs.Common.{refl, sym, ◌∙◌, ap, subst, arith, inl, inr}
 use Rattle.std.proofs.lemmas.Bool.Decides.{nat_tests}
-use Rattle.vol_parts.specs.declared.part.Part.{Part}
-use Rattle.vol_parts.specs.declared.part.PartKind.{PartKind}
-use Rattle.vol_parts.specs.declared.part.PartKind.TheVariants.{Master, Index, Body}
+use Rattle.a2_device.specs.declared.part.Part.{Part}
+use Rattle.a2_device.specs.declared.part.PartKind.{PartKind}
+use Rattle.a2_device.specs.declared.part.PartKind.TheVariants.{Master, Index, Body}
 use Rattle.pro_format.specs.Pro.{pro_meaning}
 use Rattle.pro_tree.specs.Content.{CanNameBlock}
 use Rattle.pro_tree.specs.Pointers.{pointer_of}
 use Rattle.pro_tree.specs.Reach.{pro_link, pro_root, pro_child, pro_pointers, link_below}
 use Rattle.vol_format.specs.declared.link.Link.{Link}
 use Rattle.vol_format.specs.declared.link.Link.TheVariants.{Null, Wild, To}
-use Rattle.edit_laws.specs.Built.{Planned, part_of, place_of, unit_of, built_link, IsBuilt}
-use Rattle.edit_laws.specs.Inserted.{in_file}
+use Rattle.vol_laws.specs.Built.{Planned, part_of, place_of, unit_of, built_link, IsBuilt}
+use Rattle.vol_laws.specs.Inserted.{in_file}
 use Rattle.pro_entries.specs.Plan.{seedling_plan, IsTable, IsProPlan, IsStorageOf}
 
 part_eta : (part : Part) (file : ℕ) (kind : PartKind) (number : ℕ) → part.file ≡ file → part.kind ≡ kind → part.number ≡ number

@@ -7,7 +7,7 @@ use Rattle.vol_format.specs.Directory.{Directory, Listed, entries as entry_count
 use Rattle.pro_format.specs.Pro.{DescribesPro, available_in, map_of, pro_directory, pro_listed}
 use Rattle.pro_format.specs.lemmas.ProDirectory.{length-listed}
 use Rattle.pro_format.specs.lemmas.ProMarks.{map_block, units-same}
-use Rattle.edit_laws.specs.Inserted.{insert_at, inserted}
+use Rattle.vol_laws.specs.Inserted.{insert_at, inserted}
 use Rattle.pro_entries.specs.Filled.{IsFilled, IsNoKey, filled_entry, pro_new}
 use Rattle.pro_entries.specs.Slots.{IsNoHeader}
 use Rattle.pro_entries.proofs.FilledDirectories.{header_same, system_same}

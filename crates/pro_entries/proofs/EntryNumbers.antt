@@ -8,7 +8,7 @@ use Rattle.vol_format.specs.Directory.{Directory, Listed, entries, entry_of}
 use Rattle.pro_format.specs.Pro.{DescribesPro, no_slot, pro_entry}
 use Rattle.pro_format.specs.lemmas.ProDescribed.{each_stored}
 use Rattle.pro_format.specs.lemmas.ProDirectory.{length-listed, listed_at}
-use Rattle.edit_laws.specs.Entered.{HasSameRest}
+use Rattle.vol_laws.specs.Entered.{HasSameRest}
 use Rattle.pro_entries.proofs.SystemBlocks.{same_rest}
 
 module _ (reserved : List Bool) (store : List (List ℕ)) (directory : Directory) (described : DescribesPro reserved store directory) (file : ℕ) where

@@ -13,14 +13,14 @@ use Rattle.pro_dir.specs.lemmas.VolumeLaws.{one_directory}
 use Rattle.vol_format.specs.Directory.{Directory, Listed, entries, entry_of, is_directory, no_entry}
 use Rattle.pro_format.specs.Pro.{DescribesPro, no_slot}
 use Rattle.pro_format.specs.lemmas.ProDescribed.{all_apart, each_stored}
-use Rattle.edit_laws.specs.Entered.{HasSameRest}
-use Rattle.edit_laws.specs.Inserted.{inserted, shifted_entry}
+use Rattle.vol_laws.specs.Entered.{HasSameRest}
+use Rattle.vol_laws.specs.Inserted.{inserted, shifted_entry}
 use Rattle.pro_entries.specs.Filled.{filled_entry, pro_new}
 use Rattle.pro_entries.specs.Slots.{HasOneEntryLess}
 use Rattle.pro_entries.proofs.EmptiedDirectories.{HasProLeft, pro_emptied}
 use Rattle.pro_entries.proofs.EntryNumbers.{entry_is, number_inside}
 use Rattle.pro_entries.proofs.EntrySlots.{HasSlot, each_slot_of}
-use Rattle.edit_laws.proofs.Inserting.{insert_here, length-insert_at}
+use Rattle.vol_laws.proofs.Inserting.{insert_here, length-insert_at}
 use Rattle.pro_entries.proofs.Owners.{no_header_of_volume, no_key_of_entries}
 use Rattle.pro_entries.proofs.RewrittenEntries.{file_listed}
 use Rattle.pro_entries.proofs.SlotLaws.{insert_had, slot_below, slot_inside}

@@ -1,15 +1,15 @@
 -- In ProDOS what a unit means does not depend on the number of its file, and an entry has the link of its file's number.
 use Rattle.std.specs.Prelude.{◌≡◌, ◌+◌, ◌*◌, ◌==◌, ℕ, nat_lt, if◌then◌else◌, Bool, true, false, List}
 use Rattle.std.proofs.Common.{refl}
-use Rattle.vol_parts.specs.declared.part.PartKind.{PartKind}
-use Rattle.vol_parts.specs.declared.part.PartKind.TheVariants.{List as AList, Master, Index, Body}
+use Rattle.a2_device.specs.declared.part.PartKind.{PartKind}
+use Rattle.a2_device.specs.declared.part.PartKind.TheVariants.{List as AList, Master, Index, Body}
 use Rattle.pro_format.specs.Pro.{pro_meaning}
 use Rattle.pro_tree.specs.Pointers.{pointer_of}
 use Rattle.pro_tree.specs.Reach.{pro_link, pro_root, link_below, pro_child}
 use Rattle.vol_format.specs.declared.link.Link.{Link}
 use Rattle.vol_format.specs.declared.link.Link.TheVariants.{Null, Wild, Directory as ToDirectory, OtherType, To}
-use Rattle.edit_laws.specs.EditLaws.{IsFileFree}
-use Rattle.edit_laws.specs.Inserted.{refiled, shifted, shifted_link}
+use Rattle.vol_laws.specs.EditLaws.{IsFileFree}
+use Rattle.vol_laws.specs.Inserted.{refiled, shifted, shifted_link}
 
 link_refiled : (places file other : ℕ) (kind : PartKind) (number block : ℕ) → pro_link places file kind number block ≡ refiled file (pro_link places other kind number block)
 link_refiled places file other kind number block = by_tests (block == 0) (nat_lt block places)

@@ -9,12 +9,12 @@ use Rattle.pro_dir.specs.declared.entry.Entry.{Entry}
 use Rattle.pro_dir.specs.Entry.{entry_at, entries_of, entries_in, is_listed, is_header, is_directory}
 use Rattle.pro_format.specs.Pro.{no_slot}
 use Rattle.pro_format.specs.lemmas.ProTree.{AreDistinct}
-use Rattle.edit_laws.specs.Inserted.{insert_at}
+use Rattle.vol_laws.specs.Inserted.{insert_at}
 use Rattle.pro_entries.specs.Filled.{IsFilled, filled_entry}
-use Rattle.edit_laws.specs.Inserted.{index_in_all}
+use Rattle.vol_laws.specs.Inserted.{index_in_all}
 use Rattle.pro_entries.specs.Slots.{IsNoHeader}
 use Rattle.pro_entries.proofs.Alike.{entries_elsewhere}
-use Rattle.edit_laws.proofs.Filling.{filter_filled, flat_filled, index_within, length-filter_take}
+use Rattle.vol_laws.proofs.Filling.{filter_filled, flat_filled, index_within, length-filter_take}
 
 -- a block of the one list or of the other
 pub in_own_or_later : (place : ℕ) (own later : List ℕ) → Contains (own ++ later) place → Contains own place ⊎ Contains later place

@@ -6,11 +6,11 @@ use Rattle.pro_dir.specs.declared.entry.Entry.{Entry}
 use Rattle.pro_dir.specs.Entry.{entries_in, is_directory, key_of}
 use Rattle.pro_dir.specs.Tree.{IsRun, HasBlocks, Lists, IsTree}
 use Rattle.pro_format.specs.lemmas.ProTree.{AreDistinct, distinct_left, distinct_right, in_both}
-use Rattle.edit_laws.specs.Inserted.{insert_at}
+use Rattle.vol_laws.specs.Inserted.{insert_at}
 use Rattle.pro_entries.specs.Filled.{IsFilled, IsNoKey, IsEntryBefore, filled_entry, HasOneMore}
 use Rattle.pro_entries.specs.Slots.{IsNoHeader}
 use Rattle.pro_entries.proofs.Alike.{directory_kept, own_kept, key_inside, entries_kept, lists_kept}
-use Rattle.edit_laws.proofs.Filling.{insert_left, insert_right}
+use Rattle.vol_laws.proofs.Filling.{insert_left, insert_right}
 use Rattle.pro_entries.proofs.FilledBlocks.{in_own_or_later, directory_filled, x_file}
 
 module _ (less more : List (List ℕ)) (place slot : ℕ) (filled : IsFilled less more place slot) where

@@ -7,7 +7,7 @@ use Rattle.pro_dir.specs.declared.entry.Entry.{Entry}
 use Rattle.pro_dir.specs.Entry.{is_directory, key_of}
 use Rattle.pro_dir.specs.Paths.{path_at, path_below, paths_from}
 use Rattle.pro_format.specs.Pro.{no_slot}
-use Rattle.edit_laws.specs.Inserted.{insert_at}
+use Rattle.vol_laws.specs.Inserted.{insert_at}
 
 -- the subdirectories that are known after an entry, and after the first entries, so many
 abbrev with_directory : List (ℕ × List ℕ) → Entry → Bool → List (ℕ × List ℕ)

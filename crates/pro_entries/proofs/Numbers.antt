@@ -10,8 +10,8 @@ use Rattle.pro_format.specs.Pro.{pro_entry, no_slot, entry_number, pro_listed}
 use Rattle.pro_format.specs.lemmas.ProDirectory.{length-listed, listed_at}
 use Rattle.vol_format.specs.declared.link.Link.{Link}
 use Rattle.vol_format.specs.Directory.{Listed, no_entry}
-use Rattle.edit_laws.specs.Inserted.{insert_at, shifted, shifted_entry}
-use Rattle.edit_laws.proofs.Inserting.{length-insert_at, insert_here, insert_shifted, unshifted}
+use Rattle.vol_laws.specs.Inserted.{insert_at, shifted, shifted_entry}
+use Rattle.vol_laws.proofs.Inserting.{length-insert_at, insert_here, insert_shifted, unshifted}
 use Rattle.pro_entries.proofs.FileFree.{root_shifted}
 
 entry_shifted : (at places file : ℕ) (path : List ℕ) (entry : Entry) → shifted_entry at (pro_entry places file path entry) ≡ pro_entry places (shifted at file) path entry

@@ -3,13 +3,13 @@ use Rattle.std.specs.Prelude.{◌≡◌, ◌≢◌, ◌⊎◌, ◌<◌, ◌≤�
 use Rattle.std.proofs.Common.{refl, sym, ◌∙◌, ap, subst, arith, inl, inr}
 use Rattle.std.proofs.lemmas.Bool.{cases_eq}
 use Rattle.std.proofs.lemmas.List.{get_or-map, get_or-replicate, length-map}
-use Rattle.vol_parts.specs.declared.part.Part.{Part}
-use Rattle.vol_parts.specs.declared.part.PartKind.{PartKind}
-use Rattle.vol_parts.specs.declared.part.PartKind.TheVariants.{Master, Index, Body}
+use Rattle.a2_device.specs.declared.part.Part.{Part}
+use Rattle.a2_device.specs.declared.part.PartKind.{PartKind}
+use Rattle.a2_device.specs.declared.part.PartKind.TheVariants.{Master, Index, Body}
 use Rattle.pro_tree.specs.Content.{CanNameBlock}
 use Rattle.pro_tree.specs.Pointers.{pointer_of, with_pointer}
 use Rattle.pro_tree.specs.lemmas.PointerLaws.{pointer-here, pointer-other}
-use Rattle.edit_laws.specs.Built.{Planned, part_of, no_plan, unit_of}
+use Rattle.vol_laws.specs.Built.{Planned, part_of, no_plan, unit_of}
 use Rattle.vol_format.specs.Standing.{no_part}
 use Rattle.pro_entries.specs.Plan.{ArePlannedParts, ArePointed, HasPointers, IsBelow, IsProPlan, IsTable, part_at, parts_of}
 

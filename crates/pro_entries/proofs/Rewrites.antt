@@ -11,7 +11,7 @@ use Rattle.vol_format.specs.Directory.{Directory, Listed, is_directory, entries,
 use Rattle.pro_format.specs.Pro.{DescribesPro, map_of, no_slot, pro_directory, pro_entry, without_key}
 use Rattle.pro_format.specs.lemmas.ProDescribed.{each_stored}
 use Rattle.pro_format.specs.lemmas.ProDirectory.{length-listed, listed_at}
-use Rattle.edit_laws.specs.Inserted.{rewritten}
+use Rattle.vol_laws.specs.Inserted.{rewritten}
 use Rattle.pro_entries.specs.Rewritten.{IsRewrite}
 use Rattle.pro_entries.proofs.RewrittenEntries.{file_listed, rewritten_at}
 

@@ -17,7 +17,7 @@ use Rattle.pro_format.specs.lemmas.ProDescribed.{IsStored, all_apart, block_belo
 use Rattle.pro_format.specs.lemmas.ProDirectory.{length-listed, listed_at}
 use Rattle.pro_format.specs.lemmas.ProMarks.{map_block, units-same}
 use Rattle.pro_format.specs.lemmas.ProTree.{AreApart}
-use Rattle.edit_laws.specs.Inserted.{rewritten}
+use Rattle.vol_laws.specs.Inserted.{rewritten}
 use Rattle.pro_entries.specs.Rewritten.{IsRewritten}
 use Rattle.pro_format.specs.lemmas.ProChanged.{IsKept, describes_changed}
 use Rattle.pro_entries.proofs.Spelled.{spelled, with_bytes_of, spelled-here, spelled-other, spelled_keeps, paths_spelled, block_changed, block_unchanged}

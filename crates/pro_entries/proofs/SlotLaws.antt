@@ -17,7 +17,7 @@ use Rattle.vol_format.specs.Directory.{Directory}
 use Rattle.pro_format.specs.Pro.{DescribesPro, no_slot, without_key}
 use Rattle.pro_format.specs.lemmas.ProDescribed.{block_below}
 use Rattle.pro_format.specs.lemmas.ProMarks.{places_is}
-use Rattle.edit_laws.specs.Inserted.{insert_at}
+use Rattle.vol_laws.specs.Inserted.{insert_at}
 use Rattle.pro_entries.specs.Filled.{IsDirectoryBefore, filled_entry, pro_new}
 use Rattle.pro_entries.specs.Slots.{IsFileEntry, IsFreeSlotOf, IsPathOfDirectory, IsSlotOf, HasOneEntryMore}
 use Rattle.pro_entries.proofs.FilledDirectories.{describes_filled, pro_filled}

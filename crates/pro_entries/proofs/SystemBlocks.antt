@@ -5,7 +5,7 @@ use Rattle.std.proofs.lemmas.List.{length-set, get_or-set_other}
 use Rattle.vol_format.specs.Directory.{Directory, is_system}
 use Rattle.pro_format.specs.Pro.{DescribesPro}
 use Rattle.pro_format.specs.lemmas.ProMarks.{block_in_system}
-use Rattle.edit_laws.specs.Entered.{HasSameRest}
+use Rattle.vol_laws.specs.Entered.{HasSameRest}
 
 pub same_rest : (reserved : List Bool) (store : List (List ℕ)) (directory : Directory) (described : DescribesPro reserved store directory) (place : ℕ) (unit : List ℕ)
     → Contains described.tree.blocks place → HasSameRest directory store (slice_set store place unit)

@@ -8,7 +8,7 @@ use Rattle.pro_dir.specs.Paths.{path_of}
 use Rattle.pro_dir.specs.Volume.{Directory as Tree, map_first, total_blocks}
 use Rattle.pro_format.specs.Pro.{pro_entry}
 use Rattle.vol_format.specs.Directory.{Listed}
-use Rattle.edit_laws.specs.Inserted.{insert_at}
+use Rattle.vol_laws.specs.Inserted.{insert_at}
 use Rattle.pro_entries.specs.Slots.{IsNoHeader}
 
 -- Two stores that differ in one slot of one directory block alone.

@@ -1,13 +1,13 @@
 -- A plan of a ProDOS file: its parts, and the blocks built for them. Each index comes after the master index, and each unit of
 -- the body after its index (ProDOS 8 Technical Reference Manual, Appendix B).
 use Rattle.std.specs.Prelude.{◌≡◌, ◌≢◌, ◌⊎◌, ◌<◌, ℕ, ◌+◌, ◌*◌, ◌/◌, ◌%◌, List, [], ◌∷◌, length, map, slice_index_or}
-use Rattle.vol_parts.specs.declared.part.Part.{Part}
-use Rattle.vol_parts.specs.declared.part.PartKind.{PartKind}
-use Rattle.vol_parts.specs.declared.part.PartKind.TheVariants.{Master, Index, Body}
+use Rattle.a2_device.specs.declared.part.Part.{Part}
+use Rattle.a2_device.specs.declared.part.PartKind.{PartKind}
+use Rattle.a2_device.specs.declared.part.PartKind.TheVariants.{Master, Index, Body}
 use Rattle.vol_format.specs.Standing.{no_part}
 use Rattle.pro_tree.specs.Content.{CanNameBlock}
 use Rattle.pro_tree.specs.Pointers.{pointer_of}
-use Rattle.edit_laws.specs.Built.{Planned, part_of, place_of, unit_of}
+use Rattle.vol_laws.specs.Built.{Planned, part_of, place_of, unit_of}
 
 -- a kind of block with so many pointers, and the kind that they name
 abbrev pub IsTable : PartKind → ℕ → PartKind → Type 0

@@ -14,8 +14,8 @@ use Rattle.pro_dir.specs.Walk.{IsKeyOf}
 use Rattle.pro_tree.specs.Reach.{pro_root}
 use Rattle.vol_format.specs.Directory.{Directory, Listed, entries, entry_of}
 use Rattle.pro_format.specs.Pro.{DescribesPro, without_key}
-use Rattle.edit_laws.specs.Entered.{HasSameRest}
-use Rattle.edit_laws.specs.Inserted.{inserted}
+use Rattle.vol_laws.specs.Entered.{HasSameRest}
+use Rattle.vol_laws.specs.Inserted.{inserted}
 
 -- the first slot of a key block is the header of its directory
 abbrev pub IsNoHeader : ℕ → ℕ → ℕ → Type 0

@@ -3,7 +3,7 @@ use Rattle.std.specs.Prelude.{◌≡◌, ◌↔◌, ◌<◌, ℕ, Bool, List, le
 use Rattle.std.proofs.Common.{sym, ◌∙◌, ap, arith}
 use Rattle.std.proofs.lemmas.Option.{slice_get_within, get_or_from_slice_get}
 use Rattle.a2_device.specs.Device.{unit_at}
-use Rattle.vol_parts.specs.declared.part.Part.{Part}
+use Rattle.a2_device.specs.declared.part.Part.{Part}
 use Rattle.pro_dir.specs.declared.entry.Entry.{Entry}
 use Rattle.pro_dir.specs.Entry.{key_of, storage_of}
 use Rattle.pro_dir.specs.Volume.{Directory as Tree, Describes, total_blocks}
@@ -13,7 +13,7 @@ use Rattle.pro_tree.specs.File.{InFile, at_key, at_pointer}
 use Rattle.pro_tree.specs.Parts.{IsPartsOf as IsWalkOf}
 use Rattle.vol_format.specs.Directory.{Directory, Listed, entries, root_of}
 use Rattle.vol_format.specs.Reach.{Reach, at_root, at_child}
-use Rattle.vol_files.specs.Layout.{IsPartsOfFile}
+use Rattle.vol_format.specs.Layout.{IsPartsOfFile}
 use Rattle.pro_format.specs.Pro.{DescribesPro, no_slot, pro_meaning}
 use Rattle.pro_format.specs.lemmas.ProDirectory.{length-listed, listed_at}
 use Rattle.pro_format.specs.lemmas.ProLaws.{total_is, pro_is_readable}

@@ -28,7 +28,8 @@ pub(crate) fn fixed_places<A: Allocator, B: Allocator>(
 ) -> Result<Vec<bool, A>, AllocError>
     requires total { total_blocks (directory_of directory.now).header < 65536 }
     requires first { map_first (directory_of directory.now).header < 65536 }
-    ensures { IfOk result (λ table. table.items ≡ map (is_fixed reserved.now (directory_of directory.now)) (range_with_len 0 (total_blocks (directory_of directory.now).header))) }
+    ensures { IfOk result (λ table. table.items ≡ map (is_fixed reserved.now (directory_of directory.now))
+        (range_with_len 0 (total_blocks (directory_of directory.now).header))) }
 {
     let first = directory.bitmap();
     let behind = first + directory.total().div_ceil(BITS);

@@ -7,14 +7,13 @@ ghost use Rattle.pro_format.specs.Pro.{TakesBlocks, pro_system};
 
 use crate::places::{available_places, fixed_places, with_blocks};
 use crate::volume::ProVolume;
-use a2_device::Device;
+use a2_device::{Device, Part, WalkError};
 use pro_bitmap::Bitmap;
 use pro_dir::VolumeDir;
 use reserved_places::Reserved;
 use std::alloc::{AllocError, Allocator, Global};
 use std::marker::Model;
 use vol_format::{Format, Holder, Link, PlaceOrder};
-use vol_parts::{Part, WalkError};
 
 /// ProDOS, with the places that the owner keeps for the system.
 #[derive(Debug, Drop)]

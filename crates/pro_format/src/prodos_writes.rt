@@ -5,12 +5,12 @@ ghost use Rattle.pro_format.specs.Pro.{bit_byte};
 use crate::places::BITS;
 use crate::prodos::Prodos;
 use crate::volume::ProVolume;
+use a2_device::Part;
 use pro_dir::set_key;
 use pro_tree::{part_above, set_pointer, slot};
 use std::alloc::Allocator;
 use vol_format::{Format, Holder, WritableFormat};
 use vol_layout::Layout;
-use vol_parts::Part;
 
 // The byte of a block of the map that has the bit of a place, and this bit.
 fn bit_of(place: u32) -> (usize, u8)

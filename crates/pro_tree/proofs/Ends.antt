@@ -2,11 +2,11 @@
 use Rattle.std.proofs.Common.{◌≡◌, ◌≢◌, ◌⊎◌, ℕ, ◌+◌, ◌*◌, ◌≤◌, Bool, true, false, List, [], ◌∷◌, ◌++◌, length, Contains, Some, None, refl, sym, ◌∙◌, ap, subst, arith, inl, inr, ⊎_elim, append-nil}
 use Rattle.std.specs.Prelude.{◌==◌, if◌then◌else◌, Result, Ok, Err, OnOk}
 use Rattle.std.proofs.lemmas.Bool.Decides.{nat_tests}
-use Rattle.vol_parts.specs.declared.part.Part.{Part}
-use Rattle.vol_parts.specs.declared.part.PartKind.{PartKind}
-use Rattle.vol_parts.specs.declared.part.PartKind.TheVariants.{List as AList, Body, Master, Index}
-use Rattle.vol_parts.specs.declared.fault.Fault.{Fault}
-use Rattle.vol_parts.specs.declared.fault.Fault.TheVariants.{Geometry, CatalogLink, DirLink, MapPointer, StorageType, OutOfRange, InSystem, Shared, MarkedFree}
+use Rattle.a2_device.specs.declared.part.Part.{Part}
+use Rattle.a2_device.specs.declared.part.PartKind.{PartKind}
+use Rattle.a2_device.specs.declared.part.PartKind.TheVariants.{List as AList, Body, Master, Index}
+use Rattle.a2_device.specs.declared.fault.Fault.{Fault}
+use Rattle.a2_device.specs.declared.fault.Fault.TheVariants.{Geometry, CatalogLink, DirLink, MapPointer, StorageType, OutOfRange, InSystem, Shared, MarkedFree}
 use Rattle.vol_format.specs.declared.link.Link.{Link}
 use Rattle.vol_format.specs.declared.link.Link.TheVariants.{Null, Wild, Directory as ToDirectory, OtherType, To}
 use Rattle.pro_tree.specs.Reach.{pro_link, pro_root, pro_pointers}
@@ -14,8 +14,8 @@ use Rattle.pro_tree.specs.lemmas.ReachLaws.{pro_link-cases, pro_few_pointers}
 use Rattle.pro_tree.specs.File.{InFile, at_key, at_pointer}
 use Rattle.pro_tree.specs.Parts.{rank, named_by, IsPartsOf, HasNoWild, HasParts, FileFaultAt}
 use Rattle.pro_tree.specs.Walk.{IsTame, IsRefusedAt, IsSoFar, IsReached, IsClosed, IsTaking, part_named, parts_named}
-use Rattle.vol_parts.specs.Table.{IsTable}
-use Rattle.vol_parts.proofs.Tables.{only_one, first_one}
+use Rattle.a2_device.specs.Table.{IsTable}
+use Rattle.a2_device.proofs.Tables.{only_one, first_one}
 use Rattle.pro_tree.proofs.Steps.{closed_all, so_far_more, refused, null_more, index_more, index_rank}
 
 -- a key pointer that names nothing or a part is that of a seedling, a sapling or a tree

@@ -5,10 +5,10 @@ use Rattle.std.proofs.lemmas.List.Elements.{Contains-append_left, Contains-appen
 use Rattle.std.proofs.lemmas.List.Quantifiers.{all_pairs_push}
 use Rattle.std.proofs.lemmas.List.{get_or_default}
 use Rattle.a2_device.specs.Device.{unit_at}
-use Rattle.vol_parts.specs.declared.part.Part.{Part}
-use Rattle.vol_parts.specs.declared.part.PartKind.TheVariants.{Body, Master, Index}
-use Rattle.vol_parts.specs.declared.fault.Fault.{Fault}
-use Rattle.vol_parts.specs.declared.fault.Fault.TheVariants.{Geometry, CatalogLink, DirLink, MapPointer, StorageType, OutOfRange, InSystem, Shared, MarkedFree}
+use Rattle.a2_device.specs.declared.part.Part.{Part}
+use Rattle.a2_device.specs.declared.part.PartKind.TheVariants.{Body, Master, Index}
+use Rattle.a2_device.specs.declared.fault.Fault.{Fault}
+use Rattle.a2_device.specs.declared.fault.Fault.TheVariants.{Geometry, CatalogLink, DirLink, MapPointer, StorageType, OutOfRange, InSystem, Shared, MarkedFree}
 use Rattle.vol_format.specs.declared.link.Link.{Link}
 use Rattle.vol_format.specs.declared.link.Link.TheVariants.{Null, Wild, Directory as ToDirectory, OtherType, To}
 use Rattle.pro_tree.specs.Reach.{pro_child, pro_rank, pro_pointers}
@@ -16,8 +16,8 @@ use Rattle.pro_tree.specs.lemmas.ReachLaws.{pro_child-To, child_cases, pro_no_mo
 use Rattle.pro_tree.specs.File.{InFile, at_pointer}
 use Rattle.pro_tree.specs.Parts.{rank, named_by, FileFaultAt}
 use Rattle.pro_tree.specs.Walk.{IsTame, IsRefusedAt, IsSoFar, IsReached, AreTaken, IsClosed, IsTaking, parts_named}
-use Rattle.vol_parts.specs.Table.{IsTable}
-use Rattle.vol_parts.proofs.Tables.{only_one, first_one}
+use Rattle.a2_device.specs.Table.{IsTable}
+use Rattle.a2_device.proofs.Tables.{only_one, first_one}
 
 -- Index m has the rank of pointer m of its master index, and a unit of the body that of its pointer in its index.
 pub body_rank : (store : List (List ℕ)) (index child : Part) (i : ℕ) → index.kind ≡ Index → named_by store index i ≡ To child

@@ -1,8 +1,8 @@
 -- What a move writes into an index, and what of an index is not a pointer to a part.
 use Rattle.std.specs.Prelude.{◌<◌, ℕ, ◌%◌, ◌==◌, nat_lt, not, ◌&&◌, if◌then◌else◌, Bool, List, map, slice_index}
 use Rattle.std.specs.List.{range_with_len}
-use Rattle.vol_parts.specs.declared.part.PartKind.{PartKind}
-use Rattle.vol_parts.specs.declared.part.PartKind.TheVariants.{Master, Index, Body}
+use Rattle.a2_device.specs.declared.part.PartKind.{PartKind}
+use Rattle.a2_device.specs.declared.part.PartKind.TheVariants.{Master, Index, Body}
 use Rattle.pro_tree.specs.Pointers.{pointer_of, with_pointer}
 
 -- pointers can name each block but 0

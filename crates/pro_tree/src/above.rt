@@ -2,7 +2,7 @@
 ghost use Rattle.std.specs.Prelude.{◌≡◌, ◌<◌, ℕ, length, IfSome, IfNone};
 ghost use Rattle.pro_tree.specs.Above.{IsAbove, is_above};
 
-use vol_parts::{Part, PartKind};
+use a2_device::{Part, PartKind};
 
 // Whether blocks of a kind name parts of another.
 fn is_above(above: PartKind, below: PartKind) -> bool
@@ -15,8 +15,8 @@ fn is_above(above: PartKind, below: PartKind) -> bool
     }
 }
 
-/// The part that names part k, where the parts of each file are in order: for a unit of the body the nearest index before
-/// it, and for an index the nearest master index; `None` where its file has none before it.
+/// The part that names part k, where the parts of each file are in order: for a unit of the body the nearest index
+/// before it, and for an index the nearest master index; `None` where its file has none before it.
 pub fn part_above(parts: &[Part], k: u32) -> Option<u32>
     requires { k < length parts.now }
     ensures some { IfSome result (λ above. IsAbove parts.now k above) }

@@ -1,21 +1,44 @@
 // The parts of one file.
-ghost use Rattle.std.specs.Prelude.{◌≡◌, ◌≢◌, ◌<◌, ◌+◌, ◌*◌, ◌++◌, [], ◌∷◌, ℕ, List, true, false, length, OnOk, IfOk, IfErr, IsTrue, All, AllPairs, Contains, slice_set, vec_items, replicate};
+ghost use Rattle.std.specs.Prelude.{
+  ◌≡◌,
+  ◌≢◌,
+  ◌<◌,
+  ◌+◌,
+  ◌*◌,
+  ◌++◌,
+  [],
+  ◌∷◌,
+  ℕ,
+  List,
+  true,
+  false,
+  length,
+  OnOk,
+  IfOk,
+  IfErr,
+  IsTrue,
+  All,
+  AllPairs,
+  Contains,
+  slice_set,
+  vec_items,
+  replicate,
+};
 ghost use Rattle.a2_device.specs.Device.{OnlyReads, unit_at};
 ghost use Rattle.a2_device.specs.Reading.{met_device};
-ghost use Rattle.vol_parts.specs.declared.part.Part.{Part};
-ghost use Rattle.vol_parts.specs.declared.part.PartKind.TheVariants.{Master as AMaster, Index as AnIndex};
-ghost use Rattle.vol_parts.specs.declared.fault.Fault.{Fault};
-ghost use Rattle.vol_parts.specs.declared.fault.WalkError.TheVariants.{Fault as AFault, Device as ADevice};
+ghost use Rattle.a2_device.specs.declared.part.Part.{Part};
+ghost use Rattle.a2_device.specs.declared.part.PartKind.TheVariants.{Master as AMaster, Index as AnIndex};
+ghost use Rattle.a2_device.specs.declared.fault.Fault.{Fault};
+ghost use Rattle.a2_device.specs.declared.fault.WalkError.TheVariants.{Fault as AFault, Device as ADevice};
 ghost use Rattle.vol_format.specs.declared.link.Link.TheVariants.{To};
 ghost use Rattle.pro_tree.specs.Parts.{IsPartsOf, HasNoWild, FileFaultAt, rank};
 ghost use Rattle.pro_tree.specs.Walk.{IsTame, IsRefusedAt, IsReached, IsTaking, part_named, parts_named};
-ghost use Rattle.vol_parts.specs.Table.{IsTable};
+ghost use Rattle.a2_device.specs.Table.{IsTable};
 
 use crate::links::{child, root};
-use a2_device::Device;
+use a2_device::{Device, Fault, Part, PartKind, WalkError};
 use std::alloc::{AllocError, Allocator, Global};
 use vol_format::Link;
-use vol_parts::{Fault, Part, PartKind, WalkError};
 
 const BLOCK: usize = 512;
 
@@ -68,8 +91,10 @@ impl<A: Allocator> FileWalk<A> {
         ensures tame { IfOk result (λ _. IsTame link) }
         ensures named { IfOk result (λ part. part ≡ part_named link) }
         ensures parts { IfOk result (λ _. self.new.parts.items ≡ self.old.parts.items ++ parts_named link) }
-        ensures table { IfOk result (λ _. IsTable self.old.met.items self.old.parts.items → IsTable self.new.met.items self.new.parts.items) }
-        ensures refused { IfErr result (λ e. (fault : Fault) → e ≡ AFault fault → IsRefusedAt self.old.met.items holder link fault) }
+        ensures table { IfOk result (λ _. IsTable self.old.met.items self.old.parts.items
+            → IsTable self.new.met.items self.new.parts.items) }
+        ensures refused { IfErr result (λ e. (fault : Fault) → e ≡ AFault fault
+            → IsRefusedAt self.old.met.items holder link fault) }
     {
         let part = match link {
             Link::Null => return Ok(None),
@@ -94,10 +119,14 @@ impl<A: Allocator> FileWalk<A> {
         ensures places { self.new.places ≡ self.old.places }
         ensures size { length self.new.met.items ≡ length self.old.met.items }
         ensures no_device { IfErr result (λ e. e ≢ ADevice) }
-        ensures table { OnOk result (IsTable self.old.met.items self.old.parts.items → IsTable self.new.met.items self.new.parts.items) }
-        ensures taken { (store : List (List ℕ)) → length store ≡ self.old.places → unit_at store index.now.place ≡ unit.now
-            → OnOk result (IsTaking store index.now self.old.parts.items self.new.parts.items 256 (rank index.now + 1 + 256)) }
-        ensures refused { (store : List (List ℕ)) (file storage key entry : ℕ) → length store ≡ self.old.places → unit_at store index.now.place ≡ unit.now
+        ensures table { OnOk result
+            (IsTable self.old.met.items self.old.parts.items → IsTable self.new.met.items self.new.parts.items) }
+        ensures taken { (store : List (List ℕ)) → length store ≡ self.old.places
+            → unit_at store index.now.place ≡ unit.now
+            → OnOk result (IsTaking store index.now self.old.parts.items self.new.parts.items 256
+            (rank index.now + 1 + 256)) }
+        ensures refused { (store : List (List ℕ)) (file storage key entry : ℕ) → length store ≡ self.old.places
+            → unit_at store index.now.place ≡ unit.now
             → IsReached store file storage key index.now self.old.met.items self.old.parts.items
             → IfErr result (λ e. (fault : Fault) → e ≡ AFault fault → FileFaultAt store file storage key entry fault) }
     {
@@ -118,12 +147,15 @@ impl<A: Allocator> FileWalk<A> {
         ensures places { self.new.places ≡ self.old.places }
         ensures size { length self.new.met.items ≡ length self.old.met.items }
         ensures device { OnlyReads (met_device result) (D.state device.old) (D.state device.new) }
-        ensures table { OnOk result (IsTable self.old.met.items self.old.parts.items → IsTable self.new.met.items self.new.parts.items) }
+        ensures table { OnOk result
+            (IsTable self.old.met.items self.old.parts.items → IsTable self.new.met.items self.new.parts.items) }
         ensures taken { IsTrue (D.state device.old).honest
-            → OnOk result (IsTaking (D.state device.old).store index.now self.old.parts.items self.new.parts.items 256 (rank index.now + 1 + 256)) }
+            → OnOk result (IsTaking (D.state device.old).store index.now self.old.parts.items self.new.parts.items 256
+            (rank index.now + 1 + 256)) }
         ensures refused { (file storage key entry : ℕ) → IsTrue (D.state device.old).honest
             → IsReached (D.state device.old).store file storage key index.now self.old.met.items self.old.parts.items
-            → IfErr result (λ e. (fault : Fault) → e ≡ AFault fault → FileFaultAt (D.state device.old).store file storage key entry fault) }
+            → IfErr result (λ e. (fault : Fault) → e ≡ AFault fault
+            → FileFaultAt (D.state device.old).store file storage key entry fault) }
     {
         let mut unit = [0; BLOCK];
         read_index(device, index.place, &mut unit)?;
@@ -141,12 +173,15 @@ impl<A: Allocator> FileWalk<A> {
         ensures places { self.new.places ≡ self.old.places }
         ensures size { length self.new.met.items ≡ length self.old.met.items }
         ensures device { OnlyReads (met_device result) (D.state device.old) (D.state device.new) }
-        ensures table { OnOk result (IsTable self.old.met.items self.old.parts.items → IsTable self.new.met.items self.new.parts.items) }
+        ensures table { OnOk result
+            (IsTable self.old.met.items self.old.parts.items → IsTable self.new.met.items self.new.parts.items) }
         ensures taken { IsTrue (D.state device.old).honest
-            → OnOk result (IsTaking (D.state device.old).store master.now self.old.parts.items self.new.parts.items 128 (1 + 257 * 128)) }
+            → OnOk result (IsTaking
+            (D.state device.old).store master.now self.old.parts.items self.new.parts.items 128 (1 + 257 * 128)) }
         ensures refused { (file storage key entry : ℕ) → IsTrue (D.state device.old).honest
             → IsReached (D.state device.old).store file storage key master.now self.old.met.items self.old.parts.items
-            → IfErr result (λ e. (fault : Fault) → e ≡ AFault fault → FileFaultAt (D.state device.old).store file storage key entry fault) }
+            → IfErr result (λ e. (fault : Fault) → e ≡ AFault fault
+            → FileFaultAt (D.state device.old).store file storage key entry fault) }
     {
         let mut unit = [0; BLOCK];
         read_index(device, master.place, &mut unit)?;
@@ -168,12 +203,15 @@ impl<A: Allocator> FileWalk<A> {
         requires number { part.now.number ≡ 0 }
         ensures size { length self.new.met.items ≡ length self.old.met.items }
         ensures device { OnlyReads (met_device result) (D.state device.old) (D.state device.new) }
-        ensures table { OnOk result (IsTable self.old.met.items self.old.parts.items → IsTable self.new.met.items self.new.parts.items) }
+        ensures table { OnOk result
+            (IsTable self.old.met.items self.old.parts.items → IsTable self.new.met.items self.new.parts.items) }
         ensures taken { IsTrue (D.state device.old).honest
-            → OnOk result ((below : ℕ) × IsTaking (D.state device.old).store part.now self.old.parts.items self.new.parts.items 256 below) }
+            → OnOk result ((below : ℕ)
+            × IsTaking (D.state device.old).store part.now self.old.parts.items self.new.parts.items 256 below) }
         ensures refused { (file storage key entry : ℕ) → IsTrue (D.state device.old).honest
             → IsReached (D.state device.old).store file storage key part.now self.old.met.items self.old.parts.items
-            → IfErr result (λ e. (fault : Fault) → e ≡ AFault fault → FileFaultAt (D.state device.old).store file storage key entry fault) }
+            → IfErr result (λ e. (fault : Fault) → e ≡ AFault fault
+            → FileFaultAt (D.state device.old).store file storage key entry fault) }
     {
         match part.kind {
             PartKind::Master => self.take_tree(device, part),
@@ -193,7 +231,8 @@ fn read_index<D: Device>(
     requires place { place < (D.state device.old).places }
     ensures device { OnlyReads (met_device result) (D.state device.old) (D.state device.new) }
     ensures no_fault { IfErr result (λ e. (fault : Fault) → e ≢ AFault fault) }
-    ensures unit { IsTrue (D.state device.old).honest → OnOk result (unit.new ≡ unit_at (D.state device.old).store place) }
+    ensures unit { IsTrue (D.state device.old).honest
+        → OnOk result (unit.new ≡ unit_at (D.state device.old).store place) }
 {
     if device.read(place, unit).is_err() {
         return Err(WalkError::Device);
@@ -201,14 +240,14 @@ fn read_index<D: Device>(
     Ok(())
 }
 
-/// The parts of one file in order: the block that its key pointer names, then what the pointers of that block name, each
-/// index before the units of the body below it. `file` is the number that the parts get, `storage` the storage type of the
-/// file's entry, `key` its key pointer, and `entry` the block of the directory that the entry stands in.
+/// The parts of one file in order: the block that its key pointer names, then what the pointers of that block name,
+/// each index before the units of the body below it. `file` is the number that the parts get, `storage` the storage
+/// type of the file's entry, `key` its key pointer, and `entry` the block of the directory that the entry stands in.
 ///
 /// # Errors
 /// `Fault` with `OutOfRange`, which names the block with a pointer to no block of the volume (for the key pointer, the
-/// entry's block), `Shared`, which names a block that the file reaches twice, or `StorageType`, which names the entry's block
-/// where the file is no seedling, sapling or tree; `Device` where a read fails; `Memory`.
+/// entry's block), `Shared`, which names a block that the file reaches twice, or `StorageType`, which names the entry's
+/// block where the file is no seedling, sapling or tree; `Device` where a read fails; `Memory`.
 pub fn walk<A: Allocator + Copy, D: Device>(
     alloc: A,
     device: &mut D,
@@ -220,10 +259,13 @@ pub fn walk<A: Allocator + Copy, D: Device>(
     requires unit { (D.state device.old).unit_size ≡ 512 }
 
     ensures device { OnlyReads (met_device result) (D.state device.old) (D.state device.new) }
-    ensures parts { IsTrue (D.state device.old).honest → IfOk result (λ parts. IsPartsOf (D.state device.old).store file storage key (vec_items parts)) }
-    ensures tame { IsTrue (D.state device.old).honest → IfOk result (λ _. HasNoWild (D.state device.old).store file storage key) }
+    ensures parts { IsTrue (D.state device.old).honest
+        → IfOk result (λ parts. IsPartsOf (D.state device.old).store file storage key (vec_items parts)) }
+    ensures tame { IsTrue (D.state device.old).honest
+        → IfOk result (λ _. HasNoWild (D.state device.old).store file storage key) }
     ensures once { IfOk result (λ parts. AllPairs (λ part later. part.place ≢ later.place) (vec_items parts)) }
-    ensures within { IfOk result (λ parts. All (λ (part : Part). part.place < (D.state device.old).places) (vec_items parts)) }
+    ensures within { IfOk result (λ parts.
+        All (λ (part : Part). part.place < (D.state device.old).places) (vec_items parts)) }
     ensures refused { IsTrue (D.state device.old).honest → IfErr result (λ e. (fault : Fault) → e ≡ AFault fault
         → FileFaultAt (D.state device.old).store file storage key entry fault) }
 {

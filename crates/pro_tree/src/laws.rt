@@ -1,7 +1,7 @@
 // What is read of an index where a pointer was written, and which parts a file has. Each law is a function with
 // nothing to do: its contract is the law.
 ghost use Rattle.std.specs.Prelude.{◌≡◌, ◌≢◌, ◌<◌, ◌↔◌, ℕ, List, length};
-ghost use Rattle.vol_parts.specs.declared.part.Part.{Part};
+ghost use Rattle.a2_device.specs.declared.part.Part.{Part};
 ghost use Rattle.pro_tree.specs.File.{InFile, PlacedAt};
 ghost use Rattle.pro_tree.specs.Pointers.{pointer_of, with_pointer};
 
@@ -21,5 +21,6 @@ pub fn set_pointer_keeps_others()
 /// What pointers lead to from the key pointer of a file are the parts that a file of its storage type has.
 pub fn parts_of_a_file()
     ensures { (store : List (List ℕ)) (file storage key : ℕ) (part : Part)
-        → InFile store file storage key part ↔ ((part.file ≡ file) × PlacedAt store storage key part.kind part.number part.place) }
+        → InFile store file storage key part
+        ↔ ((part.file ≡ file) × PlacedAt store storage key part.kind part.number part.place) }
 {}

@@ -11,11 +11,11 @@
 //!
 //! `specs/Content.antt` says what a move writes into an index and what it leaves. The other files of `specs/` prove
 //! what formats are asked for: a part comes before those that it names, all parts below a pointer come before those
-//! below the next, each part has one pointer, and a pointer that is set names its new block alone. Among parts in order,
-//! `part_above` finds the one that names another (`specs/Above.antt`).
+//! below the next, each part has one pointer, and a pointer that is set names its new block alone. Among parts in
+//! order, `part_above` finds the one that names another (`specs/Above.antt`).
 //!
-//! A walk answers exactly the parts of one file, in order, or names what is wrong with it (`specs/Parts.antt`). It reads
-//! alone, each index once and no unit of the body, and keeps a table of the places that it met.
+//! A walk answers exactly the parts of one file, in order, or names what is wrong with it (`specs/Parts.antt`). It
+//! reads alone, each index once and no unit of the body, and keeps a table of the places that it met.
 #![tactic(auto)]
 
 mod above;

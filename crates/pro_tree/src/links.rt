@@ -4,8 +4,8 @@ ghost use Rattle.pro_tree.specs.Content.{pro_slot};
 ghost use Rattle.pro_tree.specs.Reach.{pro_link, pro_root, pro_child, pro_pointers, pro_depth};
 
 use crate::pointers::pointer;
+use a2_device::{Part, PartKind};
 use vol_format::Link;
-use vol_parts::{Part, PartKind};
 
 const SEEDLING: u8 = 0x01;
 

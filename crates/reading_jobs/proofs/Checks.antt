@@ -6,7 +6,7 @@ use Rattle.vol_format.specs.Meaning.{Meaning}
 use Rattle.vol_check.specs.Answer.{IsRefusal}
 use Rattle.vol_check.specs.declared.error.CheckError.{CheckError}
 use Rattle.vol_check.specs.declared.error.CheckError.TheVariants as checks
-use Rattle.job_reply.specs.declared.reply.Reply.{Reply}
+use Rattle.shop_replies.specs.declared.reply.Reply.{Reply}
 use Rattle.reading_jobs.specs.CheckReply.{IsChecked, TellsRefusal}
 use Rattle.reading_jobs.specs.TellingFailures.{FailsForLack}
 

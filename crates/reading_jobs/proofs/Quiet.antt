@@ -6,15 +6,15 @@ use Rattle.reserved_places.specs.declared.form.PlaceForm.{PlaceForm}
 use Rattle.vol_check.specs.Answer.{is_device_error as check_failed}
 use Rattle.vol_check.specs.declared.error.CheckError.{CheckError}
 use Rattle.vol_check.specs.declared.error.CheckError.TheVariants as checks
-use Rattle.vol_opening.specs.Refused.{is_device_error as opening_failed}
-use Rattle.vol_opening.specs.declared.error.OpenError.{OpenError}
-use Rattle.vol_opening.specs.declared.error.OpenError.TheVariants as opens
-use Rattle.job_reply.specs.declared.refusal.Failure.TheVariants as failures
-use Rattle.job_reply.specs.declared.reply.Reply.{Reply}
-use Rattle.job_reply.specs.declared.reply.Status.{Status}
-use Rattle.job_reply.specs.declared.reply.Status.TheVariants.{Done, Refused, Wrong}
-use Rattle.job_reply.specs.declared.reply.Told.{Told}
-use Rattle.job_reply.specs.Reply.{IsTold, failed}
+use Rattle.vol_mover.specs.Refused.{is_device_error as opening_failed}
+use Rattle.vol_mover.specs.declared.error.OpenError.{OpenError}
+use Rattle.vol_mover.specs.declared.error.OpenError.TheVariants as opens
+use Rattle.shop_replies.specs.declared.refusal.Failure.TheVariants as failures
+use Rattle.shop_replies.specs.declared.reply.Reply.{Reply}
+use Rattle.shop_replies.specs.declared.reply.Status.{Status}
+use Rattle.shop_replies.specs.declared.reply.Status.TheVariants.{Done, Refused, Wrong}
+use Rattle.shop_replies.specs.declared.reply.Told.{Told}
+use Rattle.shop_replies.specs.Reply.{IsTold, failed}
 use Rattle.reading_jobs.specs.CheckReply.{TellsRefusal}
 use Rattle.reading_jobs.specs.PlanReply.{TellsOpening}
 use Rattle.reading_jobs.specs.TellingFailures.{fails_device, tells_device}

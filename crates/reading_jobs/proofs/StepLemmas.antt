@@ -3,7 +3,7 @@ use Rattle.std.proofs.Common.{◌≡◌, ◌∙◌, ℕ, ◌+◌, ◌<◌, List,
 use Rattle.std.specs.Prelude.{All, slice_index_or}
 use Rattle.std.proofs.lemmas.List.{drop_more, get_or_default, length-map, length-set, take-append-drop, take_more}
 use Rattle.std.proofs.lemmas.List.Elements.{All-push}
-use Rattle.vol_parts.specs.declared.part.Part.{Part}
+use Rattle.a2_device.specs.declared.part.Part.{Part}
 use Rattle.vol_layout.specs.declared.moves.Move.{Move}
 use Rattle.vol_layout.specs.Layouts.{IsLayout, Placement}
 use Rattle.vol_layout.specs.Plans.{IsLegal, IsPlan, after, moved}
@@ -12,7 +12,7 @@ use Rattle.vol_format.specs.Directory.{Directory, entries}
 use Rattle.vol_format.specs.Standing.{index_in, no_part}
 use Rattle.vol_check.specs.Told.{Told, IsToldOf}
 use Rattle.reading_jobs.specs.Steps.{AreSteps, IsStep}
-use Rattle.plan_steps.specs.declared.step.Step.{Step}
+use Rattle.file_listings.specs.declared.step.Step.{Step}
 
 length-after : (layout : List ℕ) (moves : List Move) → length (after layout moves) ≡ length layout
 length-after layout [] = refl

@@ -2,9 +2,9 @@
 use Rattle.std.proofs.Common.{Bool, Global, subst}
 use Rattle.a2_device.specs.Device.{DeviceState}
 use Rattle.vol_format.specs.Meaning.{Meaning}
-use Rattle.vol_opening.specs.Refused.{IsRefusal}
-use Rattle.vol_opening.specs.declared.error.OpenError.{OpenError}
-use Rattle.job_reply.specs.declared.reply.Reply.{Reply}
+use Rattle.vol_mover.specs.Refused.{IsRefusal}
+use Rattle.vol_mover.specs.declared.error.OpenError.{OpenError}
+use Rattle.shop_replies.specs.declared.reply.Reply.{Reply}
 use Rattle.reading_jobs.specs.PlanReply.{IsUnopenedReply, TellsOpening}
 use Rattle.reading_jobs.specs.TellingFailures.{FailsForLack}
 

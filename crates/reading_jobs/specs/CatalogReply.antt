@@ -8,12 +8,12 @@ use Rattle.vol_format.specs.Meaning.{Meaning}
 use Rattle.file_listings.specs.DosText.{Text, directory_text as dos_text}
 use Rattle.file_formats.specs.Listing.{HasHeaderFault}
 use Rattle.file_listings.specs.ProText.{directory_text as pro_text}
-use Rattle.job_reply.specs.declared.refusal.Refusal.TheVariants as refusals
-use Rattle.job_reply.specs.declared.refusal.Failure.TheVariants as failures
-use Rattle.job_reply.specs.declared.reply.Reply.{Reply}
-use Rattle.job_reply.specs.Reply.{IsTold, failed, refused, text_of}
-use Rattle.job_reply.specs.declared.reply.Status.TheVariants.{Done}
-use Rattle.image_volume.specs.Volume.{LacksUnit}
+use Rattle.shop_replies.specs.declared.refusal.Refusal.TheVariants as refusals
+use Rattle.shop_replies.specs.declared.refusal.Failure.TheVariants as failures
+use Rattle.shop_replies.specs.declared.reply.Reply.{Reply}
+use Rattle.shop_replies.specs.Reply.{IsTold, failed, refused, text_of}
+use Rattle.shop_replies.specs.declared.reply.Status.TheVariants.{Done}
+use Rattle.shop_replies.specs.Volume.{LacksUnit}
 
 -- the listing of a directory: of DOS 3.3, whose places are sectors, or of ProDOS
 abbrev pub text_by : PlaceForm → Directory → Text

@@ -1,7 +1,7 @@
 -- What is told of a volume that is checked.
 use Rattle.std.specs.Prelude.{◌≡◌, ◌⊎◌, ◌↔◌, ℕ, List, Contains, flat_map}
 use Rattle.a2_device.specs.Device.{DeviceState}
-use Rattle.vol_parts.specs.declared.fault.Fault.{Fault}
+use Rattle.a2_device.specs.declared.fault.Fault.{Fault}
 use Rattle.reserved_places.specs.declared.form.PlaceForm.{PlaceForm}
 use Rattle.vol_format.specs.Accepted.{IsAccepted}
 use Rattle.vol_format.specs.Directory.{Directory}
@@ -14,11 +14,11 @@ use Rattle.vol_check.specs.declared.error.CheckError.{CheckError}
 use Rattle.vol_check.specs.declared.error.CheckError.TheVariants as checks
 use Rattle.file_listings.specs.DosText.{Text}
 use Rattle.reading_jobs.specs.CheckText.{fault_line, told_line}
-use Rattle.job_reply.specs.declared.refusal.Failure.TheVariants as failures
-use Rattle.job_reply.specs.declared.reply.Reply.{Reply}
-use Rattle.job_reply.specs.Reply.{IsTold, failed, text_of}
-use Rattle.job_reply.specs.declared.reply.Status.TheVariants.{Done, Wrong}
-use Rattle.image_volume.specs.Volume.{LacksUnit}
+use Rattle.shop_replies.specs.declared.refusal.Failure.TheVariants as failures
+use Rattle.shop_replies.specs.declared.reply.Reply.{Reply}
+use Rattle.shop_replies.specs.Reply.{IsTold, failed, text_of}
+use Rattle.shop_replies.specs.declared.reply.Status.TheVariants.{Done, Wrong}
+use Rattle.shop_replies.specs.Volume.{LacksUnit}
 
 -- The volume is accepted, and these are its files, their parts, the available places and the lost ones, by number.
 pub record IsAcceptedText (format : Meaning) (store : List (List ℕ)) (text : Text) : Type 0 where

@@ -1,7 +1,7 @@
 -- What `check` prints of a volume.
 use Rattle.std.specs.Prelude.{ℕ, ◌∷◌, ◌++◌, length, codes, decimal}
-use Rattle.vol_parts.specs.declared.fault.Fault.{Fault}
-use Rattle.vol_parts.specs.declared.fault.Fault.TheVariants.{Geometry, CatalogLink, DirLink, MapPointer, StorageType, OutOfRange, InSystem, Shared, MarkedFree}
+use Rattle.a2_device.specs.declared.fault.Fault.{Fault}
+use Rattle.a2_device.specs.declared.fault.Fault.TheVariants.{Geometry, CatalogLink, DirLink, MapPointer, StorageType, OutOfRange, InSystem, Shared, MarkedFree}
 use Rattle.reserved_places.specs.Reserved.{told_place}
 use Rattle.reserved_places.specs.declared.form.PlaceForm.{PlaceForm}
 use Rattle.vol_check.specs.Told.{Told}

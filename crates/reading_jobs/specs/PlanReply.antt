@@ -11,16 +11,16 @@ use Rattle.vol_format.specs.Meaning.{Meaning}
 use Rattle.vol_format.specs.Reach.{IsPartsOf}
 use Rattle.vol_format.specs.Standing.{IsLost}
 use Rattle.vol_check.specs.Told.{Told, IsToldOf}
-use Rattle.vol_opening.specs.Opening.{IsAllowed, IsPlanOf}
-use Rattle.vol_opening.specs.Refused.{IsRefusal}
-use Rattle.vol_opening.specs.declared.error.OpenError.{OpenError}
-use Rattle.vol_opening.specs.declared.error.OpenError.TheVariants as opens
-use Rattle.job_reply.specs.declared.refusal.Refusal.TheVariants as refusals
-use Rattle.job_reply.specs.declared.refusal.Failure.TheVariants as failures
-use Rattle.job_reply.specs.declared.reply.Reply.{Reply}
-use Rattle.job_reply.specs.Reply.{IsTold, failed, refused, text_of}
-use Rattle.job_reply.specs.declared.reply.Status.TheVariants.{Done, Refused}
-use Rattle.image_volume.specs.Volume.{LacksUnit}
+use Rattle.vol_mover.specs.Opening.{IsAllowed, IsPlanOf}
+use Rattle.vol_mover.specs.Refused.{IsRefusal}
+use Rattle.vol_mover.specs.declared.error.OpenError.{OpenError}
+use Rattle.vol_mover.specs.declared.error.OpenError.TheVariants as opens
+use Rattle.shop_replies.specs.declared.refusal.Refusal.TheVariants as refusals
+use Rattle.shop_replies.specs.declared.refusal.Failure.TheVariants as failures
+use Rattle.shop_replies.specs.declared.reply.Reply.{Reply}
+use Rattle.shop_replies.specs.Reply.{IsTold, failed, refused, text_of}
+use Rattle.shop_replies.specs.declared.reply.Status.TheVariants.{Done, Refused}
+use Rattle.shop_replies.specs.Volume.{LacksUnit}
 
 -- The volume is accepted, and these are its parts, their layout and the lost places, none of which is lost but where they are reclaimed; and it has a free
 -- place or is in order.

@@ -8,15 +8,15 @@ use Rattle.reserved_places.specs.declared.form.PlaceForm.{PlaceForm}
 use Rattle.vol_format.specs.Directory.{Directory}
 use Rattle.vol_format.specs.Meaning.{Meaning}
 use Rattle.vol_check.specs.Told.{Told}
-use Rattle.vol_opening.specs.Opening.{IsPlanOf}
+use Rattle.vol_mover.specs.Opening.{IsPlanOf}
 use Rattle.file_listings.specs.DosText.{Text}
 use Rattle.file_formats.specs.Files.{FileMeaning}
-use Rattle.plan_steps.specs.Steps.{plan_words_text}
-use Rattle.plan_steps.specs.declared.step.Step.{Step}
-use Rattle.job_reply.specs.declared.refusal.Failure.TheVariants as failures
-use Rattle.job_reply.specs.declared.reply.Reply.{Reply}
-use Rattle.job_reply.specs.Reply.{IsTold, failed, text_of}
-use Rattle.job_reply.specs.declared.reply.Status.TheVariants.{Done}
+use Rattle.file_listings.specs.Steps.{plan_words_text}
+use Rattle.file_listings.specs.declared.step.Step.{Step}
+use Rattle.shop_replies.specs.declared.refusal.Failure.TheVariants as failures
+use Rattle.shop_replies.specs.declared.reply.Reply.{Reply}
+use Rattle.shop_replies.specs.Reply.{IsTold, failed, text_of}
+use Rattle.shop_replies.specs.declared.reply.Status.TheVariants.{Done}
 use Rattle.reading_jobs.specs.PlanReply.{IsOpened, IsUnopenedReply}
 use Rattle.reading_jobs.specs.Steps.{AreSteps}
 

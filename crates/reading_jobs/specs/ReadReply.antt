@@ -5,12 +5,12 @@ use Rattle.vol_format.specs.Meaning.{Meaning}
 use Rattle.file_listings.specs.DosText.{Text}
 use Rattle.file_formats.specs.Files.{FileMeaning}
 use Rattle.file_cmds.specs.Read.{HasNoFile, IsTextAt, IsUnreadable}
-use Rattle.job_reply.specs.declared.refusal.Refusal.TheVariants as refusals
-use Rattle.job_reply.specs.declared.refusal.Failure.TheVariants as failures
-use Rattle.job_reply.specs.declared.reply.Reply.{Reply}
-use Rattle.job_reply.specs.Reply.{IsTold, failed, refused, text_of}
-use Rattle.job_reply.specs.declared.reply.Status.TheVariants.{Done}
-use Rattle.image_volume.specs.Volume.{LacksUnit}
+use Rattle.shop_replies.specs.declared.refusal.Refusal.TheVariants as refusals
+use Rattle.shop_replies.specs.declared.refusal.Failure.TheVariants as failures
+use Rattle.shop_replies.specs.declared.reply.Reply.{Reply}
+use Rattle.shop_replies.specs.Reply.{IsTold, failed, refused, text_of}
+use Rattle.shop_replies.specs.declared.reply.Status.TheVariants.{Done}
+use Rattle.shop_replies.specs.Volume.{LacksUnit}
 
 -- The reply to `read`: the body of the first file with this name, or all of its units; `Check` for a directory or a file that can't be read; `NotFound` where no file has
 -- the name; a failure where a unit can't be read; or want of memory.

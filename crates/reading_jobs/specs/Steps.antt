@@ -1,10 +1,10 @@
 -- The steps of a plan: for each of its moves the part that moves and the place to which it goes.
 use Rattle.std.specs.Prelude.{◌≡◌, ℕ, List, [], ◌∷◌, slice_index}
-use Rattle.vol_parts.specs.declared.part.Part.{Part}
+use Rattle.a2_device.specs.declared.part.Part.{Part}
 use Rattle.vol_layout.specs.Plans.{moved}
 use Rattle.vol_layout.specs.declared.moves.Move.{Move}
 use Rattle.vol_format.specs.Standing.{part_now}
-use Rattle.plan_steps.specs.declared.step.Step.{Step}
+use Rattle.file_listings.specs.declared.step.Step.{Step}
 
 -- a move that is made in a layout takes its part, as it stands there, to the available place of its number
 pub record IsStep (parts : List Part) (available layout : List ℕ) (move : Move) (step : Step) : Type 0 where

@@ -1,14 +1,14 @@
 -- Which replies tell that the device failed.
 use Rattle.std.specs.Prelude.{◌≡◌, Bool, true, false}
 use Rattle.a2_device.specs.Device.{DeviceState}
-use Rattle.job_reply.specs.declared.refusal.Failure.TheVariants as failures
-use Rattle.job_reply.specs.declared.reply.Reply.{Reply}
-use Rattle.job_reply.specs.declared.reply.Status.{Status}
-use Rattle.job_reply.specs.declared.reply.Status.TheVariants as statuses
-use Rattle.job_reply.specs.declared.reply.Told.{Told}
-use Rattle.job_reply.specs.declared.reply.Told.TheVariants as tells
-use Rattle.job_reply.specs.Reply.{failed}
-use Rattle.image_volume.specs.Volume.{LacksUnit}
+use Rattle.shop_replies.specs.declared.refusal.Failure.TheVariants as failures
+use Rattle.shop_replies.specs.declared.reply.Reply.{Reply}
+use Rattle.shop_replies.specs.declared.reply.Status.{Status}
+use Rattle.shop_replies.specs.declared.reply.Status.TheVariants as statuses
+use Rattle.shop_replies.specs.declared.reply.Told.{Told}
+use Rattle.shop_replies.specs.declared.reply.Told.TheVariants as tells
+use Rattle.shop_replies.specs.Reply.{failed}
+use Rattle.shop_replies.specs.Volume.{LacksUnit}
 
 -- whether a reply tells a failure of the device
 abbrev is_of_device : Told → Bool

@@ -12,12 +12,12 @@ use Rattle.ring_cert.specs.declared.certificate.CertFault.TheVariants as faults
 use Rattle.vol_format.specs.Meaning.{Meaning}
 use Rattle.vol_check.specs.Told.{Told}
 use Rattle.file_listings.specs.DosText.{Text, line}
-use Rattle.job_reply.specs.declared.refusal.Refusal.TheVariants as refusals
-use Rattle.job_reply.specs.declared.refusal.Failure.TheVariants as failures
-use Rattle.job_reply.specs.declared.reply.Reply.{Reply}
+use Rattle.shop_replies.specs.declared.refusal.Refusal.TheVariants as refusals
+use Rattle.shop_replies.specs.declared.refusal.Failure.TheVariants as failures
+use Rattle.shop_replies.specs.declared.reply.Reply.{Reply}
 use Rattle.reading_jobs.specs.PlanReply.{IsOpened, IsUnopenedReply}
-use Rattle.job_reply.specs.Reply.{IsTold, failed, refused, text_of}
-use Rattle.job_reply.specs.declared.reply.Status.TheVariants.{Done, Wrong}
+use Rattle.shop_replies.specs.Reply.{IsTold, failed, refused, text_of}
+use Rattle.shop_replies.specs.declared.reply.Status.TheVariants.{Done, Wrong}
 
 -- the most bytes that are read of a certificate
 abbrev pub most_certificate : ℕ

@@ -4,11 +4,12 @@ ghost use Rattle.a2_device.specs.Device.{OnlyReads};
 ghost use Rattle.vol_check.specs.Told.{told_of};
 ghost use Rattle.reading_jobs.specs.CheckReply.{IsChecked, TellsAccepted, TellsRefusal};
 ghost use Rattle.reading_jobs.specs.TellingFailures.{FailsForLack, tells_device};
+ghost use Rattle.vol_format.specs.Fits.{Fits};
 
 use crate::check_text::{accepted_line, fault_lines};
 use a2_device::Device;
-use job_reply::{Failure, Reply};
 use reserved_places::PlaceForm;
+use shop_replies::{Failure, Reply};
 use std::alloc::Global;
 use vol_check::{CheckError, Checked, check};
 use vol_format::Format;
@@ -44,10 +45,10 @@ pub fn check_reply<D: Device, F: Format>(
     format: &F,
     form: PlaceForm,
 ) -> Reply
-    requires unit { (D.state device.old).unit_size ≡ (F.meaning format.now).unit_size }
-    requires places { (F.meaning format.now).Takes (D.state device.old).places }
+    requires fits { Fits (F.meaning format.now) (D.state device.old) }
     ensures reads { OnlyReads (tells_device result) (D.state device.old) (D.state device.new) }
-    ensures told { IsTrue (D.state device.old).honest → FailsForLack (D.state device.old) result → IsChecked form (F.meaning format.now) (D.state device.old) result }
+    ensures told { IsTrue (D.state device.old).honest → FailsForLack (D.state device.old) result
+        → IsChecked form (F.meaning format.now) (D.state device.old) result }
 {
     match check(alloc, device, format) {
         Ok(checked) => accepted_reply(alloc, &checked),

@@ -1,13 +1,20 @@
 // The text of what a check answers.
 ghost use Rattle.std.specs.Prelude.{◌≡◌, Some, IfOk, flat_map, string_bytes};
 ghost use Rattle.vol_check.specs.Told.{told_of};
-ghost use Rattle.reading_jobs.specs.CheckText.{accepted_text, fault_line, fault_name as name_of, fault_place as place_of, fault_text, told_line};
+ghost use Rattle.reading_jobs.specs.CheckText.{
+  accepted_text,
+  fault_line,
+  fault_name as name_of,
+  fault_place as place_of,
+  fault_text,
+  told_line,
+};
 
+use a2_device::Fault;
 use reserved_places::{PlaceForm, PlaceWord};
 use std::alloc::{AllocError, Global};
 use std::fmt;
 use vol_check::Checked;
-use vol_parts::Fault;
 
 fn fault_name(fault: Fault) -> &'static str
     ensures { result.now ≡ name_of fault }

@@ -5,17 +5,17 @@ ghost use Rattle.a2_device.specs.Device.{OnlyReads};
 ghost use Rattle.reading_jobs.specs.CatalogReply.{IsListed};
 ghost use Rattle.reading_jobs.specs.TellingFailures.{FailsForLack, tells_device};
 ghost use Rattle.reading_jobs.specs.Refusals.{reply_to_refusal};
+ghost use Rattle.vol_format.specs.Fits.{Fits};
 
 use crate::plan_words::steps_text;
 use a2_device::Device;
 use dos_format::{Dos33, DosVolume};
 use file_cmds::{CmdError, listing_of, read_volume};
 use file_formats::FileFormat;
-use file_listings::{ProLines, dos_listing_text};
-use job_reply::{Failure, Refusal, Reply};
-use plan_steps::{ProSteps, Step};
+use file_listings::{ProLines, ProSteps, Step, dos_listing_text};
 use pro_format::{ProVolume, Prodos};
 use reserved_places::PlaceForm;
+use shop_replies::{Failure, Refusal, Reply};
 use std::alloc::{AllocError, Global};
 use vol_format::Format;
 
@@ -60,7 +60,8 @@ pub trait ShownFormat: FileFormat {
     /// The steps of a plan of a volume that was read, in words, or want of memory.
     fn plan(&self, alloc: Global, volume: Self::Volume, steps: Vec<Step>) -> Reply
         requires { All (λ step. step.part.file < entries (Self.directory self.now volume)) steps.items }
-        ensures { TellsSteps (form self.now) (Self.files self.now) (Self.directory self.now volume) steps.items result };
+        ensures { TellsSteps (form self.now) (Self.files self.now)
+            (Self.directory self.now volume) steps.items result };
 }
 
 impl ShownFormat for Dos33 {
@@ -113,10 +114,10 @@ impl ShownFormat for Prodos {
 
 /// The listing of the volume on a device.
 pub fn catalog_reply<D: Device, F: ShownFormat>(alloc: Global, device: &mut D, format: &F) -> Reply
-    requires unit { (D.state device.old).unit_size ≡ (F.meaning format.now).unit_size }
-    requires places { (F.meaning format.now).Takes (D.state device.old).places }
+    requires fits { Fits (F.meaning format.now) (D.state device.old) }
     ensures reads { OnlyReads (tells_device result) (D.state device.old) (D.state device.new) }
-    ensures told { IsTrue (D.state device.old).honest → FailsForLack (D.state device.old) result → IsListed (F.form format.now) (F.meaning format.now) (D.state device.old) result }
+    ensures told { IsTrue (D.state device.old).honest → FailsForLack (D.state device.old) result
+        → IsListed (F.form format.now) (F.meaning format.now) (D.state device.old) result }
 {
     match read_volume(device, format) {
         Ok(volume) => format.listing(alloc, volume),

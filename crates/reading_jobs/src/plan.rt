@@ -1,16 +1,17 @@
 // The job that tells the fewest moves that bring the files of a volume into order.
 ghost use Rattle.std.specs.Prelude.{◌≡◌, IsTrue};
 ghost use Rattle.a2_device.specs.Device.{OnlyReads};
-ghost use Rattle.vol_opening.specs.Opening.{IsPlanOf};
+ghost use Rattle.vol_mover.specs.Opening.{IsPlanOf};
 ghost use Rattle.reading_jobs.specs.PlanReply.{IsPlanned, TellsOpening, TellsPlan};
 ghost use Rattle.reading_jobs.specs.TellingFailures.{FailsForLack, tells_device};
+ghost use Rattle.vol_format.specs.Fits.{Fits};
 
 use a2_device::Device;
-use job_reply::{Failure, Refusal, Reply};
 use ring_cert::print;
+use shop_replies::{Failure, Refusal, Reply};
 use std::alloc::Global;
 use vol_format::Format;
-use vol_opening::{OpenError, Opening, Options};
+use vol_mover::{OpenError, Opening, Options};
 
 /// The reply to a volume that is not opened.
 pub fn unopened_reply(alloc: Global, error: &OpenError) -> Reply
@@ -48,10 +49,10 @@ pub fn plan_reply<D: Device, F: Format>(
     format: &F,
     reclaim: bool,
 ) -> Reply
-    requires unit { (D.state device.old).unit_size ≡ (F.meaning format.now).unit_size }
-    requires places { (F.meaning format.now).Takes (D.state device.old).places }
+    requires fits { Fits (F.meaning format.now) (D.state device.old) }
     ensures reads { OnlyReads (tells_device result) (D.state device.old) (D.state device.new) }
-    ensures told { IsTrue (D.state device.old).honest → FailsForLack (D.state device.old) result → IsPlanned reclaim (F.meaning format.now) (D.state device.old) result }
+    ensures told { IsTrue (D.state device.old).honest → FailsForLack (D.state device.old) result
+        → IsPlanned reclaim (F.meaning format.now) (D.state device.old) result }
 {
     match Opening::read(alloc, device, format, Options { reclaim }) {
         Ok(opening) => certificate_reply(alloc, &opening),

@@ -1,9 +1,10 @@
 // The job that tells in words the fewest moves that bring the files of a volume into order.
 ghost use Rattle.std.specs.Prelude.{◌≡◌, ◌<◌, All, IfOk, IsTrue, string_bytes};
 ghost use Rattle.a2_device.specs.Device.{OnlyReads};
+ghost use Rattle.vol_format.specs.Fits.{Fits};
 ghost use Rattle.vol_format.specs.Directory.{entries};
-ghost use Rattle.vol_opening.specs.Opening.{IsPlanOf, IsToldIn, told_in};
-ghost use Rattle.plan_steps.specs.Steps.{plan_words_text};
+ghost use Rattle.vol_mover.specs.Opening.{IsPlanOf, IsToldIn, told_in};
+ghost use Rattle.file_listings.specs.Steps.{plan_words_text};
 ghost use Rattle.reading_jobs.specs.TellingFailures.{FailsForLack, tells_device};
 ghost use Rattle.reading_jobs.specs.PlanWords.{IsPlannedInWords, TellsWords};
 
@@ -12,11 +13,11 @@ use crate::plan::unopened_reply;
 use crate::steps::steps_of;
 use a2_device::Device;
 use file_formats::FileFormat;
-use job_reply::{Failure, Reply};
-use plan_steps::{CountText, Step, StepText};
+use file_listings::{CountText, Step, StepText};
 use reserved_places::PlaceForm;
+use shop_replies::{Failure, Reply};
 use std::alloc::{AllocError, Global};
-use vol_opening::{Opening, Options};
+use vol_mover::{Opening, Options};
 
 /// A line for each step, and how many there are.
 ///
@@ -30,7 +31,8 @@ pub fn steps_text<F: FileFormat>(
     steps: &[Step],
 ) -> Result<String, AllocError>
     requires { All (λ step. step.part.file < entries (F.directory format.now volume.now)) steps.now }
-    ensures { IfOk result (λ text. string_bytes text ≡ plan_words_text form (F.files format.now) (F.directory format.now volume.now) steps.now) }
+    ensures { IfOk result (λ text.
+        string_bytes text ≡ plan_words_text form (F.files format.now) (F.directory format.now volume.now) steps.now) }
 {
     let mut text = String::new(alloc);
     for step in steps {
@@ -68,11 +70,11 @@ pub fn plan_words_reply<D: Device, F: ShownFormat>(
     format: &F,
     reclaim: bool,
 ) -> Reply
-    requires unit { (D.state device.old).unit_size ≡ (F.meaning format.now).unit_size }
-    requires places { (F.meaning format.now).Takes (D.state device.old).places }
+    requires fits { Fits (F.meaning format.now) (D.state device.old) }
     ensures reads { OnlyReads (tells_device result) (D.state device.old) (D.state device.new) }
     ensures told { IsTrue (D.state device.old).honest → FailsForLack (D.state device.old) result
-        → IsPlannedInWords (F.form format.now) (F.files format.now) reclaim (F.meaning format.now) (D.state device.old) result }
+        → IsPlannedInWords (F.form format.now) (F.files format.now) reclaim (F.meaning format.now)
+        (D.state device.old) result }
 {
     match Opening::read(alloc, device, format, Options { reclaim }) {
         Ok(opening) => words_reply(alloc, format, opening),

@@ -3,12 +3,13 @@ ghost use Rattle.std.specs.Prelude.{◌≡◌, IsTrue};
 ghost use Rattle.a2_device.specs.Device.{OnlyReads};
 ghost use Rattle.reading_jobs.specs.ReadReply.{IsRead};
 ghost use Rattle.reading_jobs.specs.TellingFailures.{FailsForLack, tells_device};
+ghost use Rattle.vol_format.specs.Fits.{Fits};
 
 use crate::listing::refusal_reply;
 use a2_device::Device;
 use file_cmds::read;
 use file_formats::FileFormat;
-use job_reply::Reply;
+use shop_replies::Reply;
 use std::alloc::Global;
 
 /// The body of a file of the volume on a device, or all of its units.
@@ -19,10 +20,10 @@ pub fn read_reply<D: Device, F: FileFormat>(
     name: &[u8],
     whole: bool,
 ) -> Reply
-    requires unit { (D.state device.old).unit_size ≡ (F.meaning format.now).unit_size }
-    requires places { (F.meaning format.now).Takes (D.state device.old).places }
+    requires fits { Fits (F.meaning format.now) (D.state device.old) }
     ensures reads { OnlyReads (tells_device result) (D.state device.old) (D.state device.new) }
-    ensures told { IsTrue (D.state device.old).honest → FailsForLack (D.state device.old) result → IsRead name.now whole (F.files format.now) (F.meaning format.now) (D.state device.old) result }
+    ensures told { IsTrue (D.state device.old).honest → FailsForLack (D.state device.old) result
+        → IsRead name.now whole (F.files format.now) (F.meaning format.now) (D.state device.old) result }
 {
     match read(alloc, device, format, name, whole) {
         Ok(content) => Reply::content(content),

@@ -1,17 +1,17 @@
 // The steps of a plan.
 ghost use Rattle.std.specs.Prelude.{◌≡◌, ◌<◌, length, slice_index, All, Contains, IfOk};
-ghost use Rattle.vol_parts.specs.declared.part.Part.{Part};
+ghost use Rattle.a2_device.specs.declared.part.Part.{Part};
 ghost use Rattle.vol_layout.specs.Plans.{IsLegal};
 ghost use Rattle.vol_format.specs.Directory.{entries};
-ghost use Rattle.vol_opening.specs.Opening.{IsPlanOf, IsToldIn};
+ghost use Rattle.vol_mover.specs.Opening.{IsPlanOf, IsToldIn};
 ghost use Rattle.reading_jobs.specs.Steps.{AreSteps, IsStep};
 
-use plan_steps::Step;
+use a2_device::Part;
+use file_listings::Step;
 use std::alloc::{AllocError, Global};
 use vol_format::Format;
 use vol_layout::Move;
-use vol_opening::Opening;
-use vol_parts::Part;
+use vol_mover::Opening;
 
 // The available place of a number that there is.
 fn place_at<F: Format>(format: &F, volume: &F::Volume, number: u32) -> u32
@@ -58,9 +58,11 @@ pub fn steps_of<F: Format>(
 ) -> Result<Vec<Step>, AllocError>
     requires told { IsToldIn (F.directory format.now opening.now.volume) opening.now }
     requires plan { IsPlanOf opening.now.layout opening.now.plan }
-    ensures steps { IfOk result (λ steps. AreSteps opening.now.parts.items (F.directory format.now opening.now.volume).available
+    ensures steps { IfOk result (λ steps.
+        AreSteps opening.now.parts.items (F.directory format.now opening.now.volume).available
         opening.now.layout.at opening.now.plan.moves.items steps.items) }
-    ensures files { IfOk result (λ steps. All (λ step. step.part.file < entries (F.directory format.now opening.now.volume)) steps.items) }
+    ensures files { IfOk result (λ steps.
+        All (λ step. step.part.file < entries (F.directory format.now opening.now.volume)) steps.items) }
 {
     let parts = opening.parts.as_slice();
     let mut layout = Vec::from_slice(alloc, opening.layout.at())?;

@@ -3,16 +3,17 @@ ghost use Rattle.std.specs.Prelude.{◌≡◌, Some, IsTrue};
 ghost use Rattle.a2_device.specs.Device.{OnlyReads};
 ghost use Rattle.reading_jobs.specs.TellingFailures.{FailsForLack, tells_device};
 ghost use Rattle.reading_jobs.specs.VerifyReply.{IsVerdict, IsVerified, TellsFault, TellsNoText, fault_text};
+ghost use Rattle.vol_format.specs.Fits.{Fits};
 
 use crate::plan::unopened_reply;
 use a2_device::Device;
-use job_reply::{Failure, Refusal, Reply};
 use ring_cert::{CertError, CertFault, read, verify};
+use shop_replies::{Failure, Refusal, Reply};
 use std::alloc::Global;
 use std::fmt;
 use vol_format::Format;
 use vol_layout::Layout;
-use vol_opening::{Opening, Options};
+use vol_mover::{Opening, Options};
 
 /// The most bytes of a certificate's text that is read.
 pub const MOST_CERTIFICATE: usize = 16_777_216;
@@ -83,7 +84,8 @@ pub fn verdict_reply(alloc: Global, layout: &Layout, text: &[u8]) -> Reply
     }
 }
 
-/// Whether a text is a certificate that shows that no plan for the volume's layout is shorter, or what is wrong with it.
+/// Whether a text is a certificate that shows that no plan for the volume's layout is shorter, or what is wrong with
+/// it.
 pub fn verify_reply<D: Device, F: Format>(
     alloc: Global,
     device: &mut D,
@@ -91,10 +93,10 @@ pub fn verify_reply<D: Device, F: Format>(
     reclaim: bool,
     text: &[u8],
 ) -> Reply
-    requires unit { (D.state device.old).unit_size ≡ (F.meaning format.now).unit_size }
-    requires places { (F.meaning format.now).Takes (D.state device.old).places }
+    requires fits { Fits (F.meaning format.now) (D.state device.old) }
     ensures reads { OnlyReads (tells_device result) (D.state device.old) (D.state device.new) }
-    ensures told { IsTrue (D.state device.old).honest → FailsForLack (D.state device.old) result → IsVerified reclaim text.now (F.meaning format.now) (D.state device.old) result }
+    ensures told { IsTrue (D.state device.old).honest → FailsForLack (D.state device.old) result
+        → IsVerified reclaim text.now (F.meaning format.now) (D.state device.old) result }
 {
     if text.len() > MOST_CERTIFICATE {
         return Reply::refused(Refusal::InputTooLong);

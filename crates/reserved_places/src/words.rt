@@ -76,7 +76,8 @@ fn places_of_words<A: Allocator>(
     form: PlaceForm,
 ) -> Result<Vec<u32, A>, ReserveError>
     ensures named { IfOk result (λ places. ArePlaces form (map (λ w. w.now) words.now) places.items) }
-    ensures syntax { IfErr result (λ e. e ≡ Syntax → (places : List ℕ) → ¬ ArePlaces form (map (λ w. w.now) words.now) places) }
+    ensures syntax { IfErr result (λ e. e ≡ Syntax → (places : List ℕ)
+        → ¬ ArePlaces form (map (λ w. w.now) words.now) places) }
 {
     let mut places = Vec::new(alloc);
     for word in words {

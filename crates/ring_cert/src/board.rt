@@ -8,7 +8,8 @@ use std::alloc::{AllocError, Allocator};
 use std::marker::Model;
 use vol_layout::{Layout, Move};
 
-/// The place of each part, and which places are taken: of a layout no more than making moves needs, in less than half its memory.
+/// The place of each part, and which places are taken: of a layout no more than making moves needs, in less than half
+/// its memory.
 #[derive(Drop)]
 pub struct Board<A: Allocator> {
     at: Vec<u32, A>,

@@ -29,7 +29,8 @@ pub struct Cert<A: Allocator = Global> {
 /// Why a text is no certificate.
 #[derive(Clone, Copy, PartialEq, Eq, Debug, Error)]
 pub enum CertError {
-    /// The line of this number, from 1, is the first that cannot stand there. A line that is missing comes after the last.
+    /// The line of this number, from 1, is the first that cannot stand there. A line that is missing comes after the
+    /// last.
     #[error("line {0} cannot stand in a certificate")]
     Syntax(usize),
     /// Memory ran out.

@@ -1,5 +1,5 @@
-//! What holds of the texts of certificates, and of the certificate of a shortest plan. Each law is a function with nothing to do: its
-//! contract is the law.
+//! What holds of the texts of certificates, and of the certificate of a shortest plan. Each law is a function with
+//! nothing to do: its contract is the law.
 
 ghost use Rattle.std.specs.Prelude.{◌≡◌, ◌++◌, ℕ, List, [], length};
 ghost use Rattle.vol_layout.specs.Layouts.{IsTarget, Placement, misplaced};
@@ -16,7 +16,8 @@ pub fn each_text_has_one_certificate()
         → HasText c → HasText d → certificate_text c ≡ certificate_text d ++ more → more ≡ [] }
 {}
 
-/// The certificate of a shortest plan with its misplaced parts and all rings is good for its layout, and so is each with the same text.
+/// The certificate of a shortest plan with its misplaced parts and all rings is good for its layout, and so is each
+/// with the same text.
 pub fn the_certificate_of_a_shortest_plan_is_good()
     ensures { (layout : Placement) (rings : List (List ℕ)) (moves : List Move) (c : Certificate)
         → IsPlan layout.at layout.places moves → IsTarget (after layout.at moves) → IsDeficit layout.at (length moves)

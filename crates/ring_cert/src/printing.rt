@@ -3,7 +3,21 @@
 ghost use Rattle.std.specs.Prelude.{◌≡◌, ◌≢◌, ◌+◌, ◌^◌, ◌<◌, ◌++◌, [], All, OnOk, IfOk, length};
 ghost use Rattle.std.specs.Fmt.{decimal};
 ghost use Rattle.std.specs.List.{flat_map};
-ghost use Rattle.ring_cert.specs.Certificates.{HasText, IsMoveTold, IsSmall, certificate_of, certificate_text, claim_text, layout_text, line, off_line, plan_text, ring_line, size_line, word};
+ghost use Rattle.ring_cert.specs.Certificates.{
+  HasText,
+  IsMoveTold,
+  IsSmall,
+  certificate_of,
+  certificate_text,
+  claim_text,
+  layout_text,
+  line,
+  off_line,
+  plan_text,
+  ring_line,
+  size_line,
+  word,
+};
 ghost use Rattle.ring_cert.specs.Reading.{LayoutFits};
 
 use crate::words::MOST_DIGITS;
@@ -11,7 +25,8 @@ use move_plan::{Plan, Ring};
 use std::alloc::{AllocError, Allocator};
 use vol_layout::{Layout, Move};
 
-/// The text of the certificate of a plan: its misplaced parts and its rings as they stand in it, and their number as the bound.
+/// The text of the certificate of a plan: its misplaced parts and its rings as they stand in it, and their number as
+/// the bound.
 pub fn print<A: Allocator, B: Allocator, C: Allocator>(
     alloc: A,
     layout: &Layout<B>,
@@ -20,8 +35,10 @@ pub fn print<A: Allocator, B: Allocator, C: Allocator>(
     requires rings { All (λ ring. ring ≢ []) plan.now.rings.items }
     requires bound { length plan.now.misplaced.items + length plan.now.rings.items < 2 ^ 32 }
     ensures text { IfOk result (λ text. text.items
-        ≡ certificate_text (certificate_of layout.now plan.now.misplaced.items plan.now.rings.items plan.now.moves.items)) }
-    ensures fits { OnOk result (HasText (certificate_of layout.now plan.now.misplaced.items plan.now.rings.items plan.now.moves.items)) }
+        ≡ certificate_text
+        (certificate_of layout.now plan.now.misplaced.items plan.now.rings.items plan.now.moves.items)) }
+    ensures fits { OnOk result
+        (HasText (certificate_of layout.now plan.now.misplaced.items plan.now.rings.items plan.now.moves.items)) }
 {
     let mut text = Vec::new(alloc);
     push_layout(&mut text, layout)?;

@@ -10,8 +10,8 @@ use crate::certificate::{Cert, CertError};
 use crate::sections::{Stop, claim_at, layout_at, plan_at};
 use std::alloc::Allocator;
 
-/// The certificate of which these bytes are the text. `Syntax` exactly where they are the text of none, with the number of the first line
-/// that cannot stand there.
+/// The certificate of which these bytes are the text. `Syntax` exactly where they are the text of none, with the number
+/// of the first line that cannot stand there.
 pub fn read<A: Allocator + Copy>(alloc: A, bytes: &[u8]) -> Result<Cert<A>, CertError>
     ensures found { IfOk result (λ cert. bytes.now ≡ certificate_text (told cert)) }
     ensures fits { IfOk result (λ cert. HasText (told cert)) }

@@ -2,7 +2,17 @@
 
 ghost use Rattle.std.specs.Prelude.{◌≡◌, ◌<◌, ◌≤◌, ◌∷◌, ◌++◌, [], All, IfOk, IfErr, length};
 ghost use Rattle.std.specs.List.{flat_map};
-ghost use Rattle.ring_cert.specs.Certificates.{IsMoveTold, IsRingTold, IsSmall, claim_text, layout_text, line, move_line, plan_text, ring_line};
+ghost use Rattle.ring_cert.specs.Certificates.{
+  IsMoveTold,
+  IsRingTold,
+  IsSmall,
+  claim_text,
+  layout_text,
+  line,
+  move_line,
+  plan_text,
+  ring_line,
+};
 ghost use Rattle.ring_cert.specs.declared.sections.Stop.TheVariants.{OutOfMemory};
 ghost use Rattle.ring_cert.specs.Reading.{ClaimFits, Lacks, LayoutFits, PlanFits, StopsAt, claim_lines, layout_lines};
 

@@ -7,7 +7,8 @@ ghost use Rattle.ring_cert.specs.Good.{IsFirstRepeat};
 use std::alloc::{AllocError, Allocator};
 use std::collections::BTreeSet;
 
-/// The numbers met so far: a table of those that are parts, and a set of the others, which are few in a good certificate.
+/// The numbers met so far: a table of those that are parts, and a set of the others, which are few in a good
+/// certificate.
 #[derive(Drop)]
 pub struct Seen<A: Allocator> {
     pub parts: Vec<bool, A>,

@@ -1,6 +1,23 @@
 //! Whether a certificate is good for a layout.
 
-ghost use Rattle.std.specs.Prelude.{◌≡◌, ℕ, ◌<◌, ◌≤◌, ◌↔◌, List, [], length, IsTrue, All, MatchOption, OnOk, IfOk, IfErr, IsOkUnless, slice_index};
+ghost use Rattle.std.specs.Prelude.{
+  ◌≡◌,
+  ℕ,
+  ◌<◌,
+  ◌≤◌,
+  ◌↔◌,
+  List,
+  [],
+  length,
+  IsTrue,
+  All,
+  MatchOption,
+  OnOk,
+  IfOk,
+  IfErr,
+  IsOkUnless,
+  slice_index,
+};
 ghost use Rattle.vol_layout.specs.Layouts.{AreDistinct, IsMisplaced, IsTarget};
 ghost use Rattle.vol_layout.specs.Plans.{IsPlan, after};
 ghost use Rattle.vol_layout.specs.Rings.{IsRing, turned};
@@ -22,9 +39,10 @@ use vol_layout::{Layout, Move};
 /// The fewest parts of a ring.
 const SHORTEST_RING: usize = 2;
 
-/// Whether a certificate is good for a layout: its parts are misplaced and distinct, its rings are rings without a common part, its moves
-/// lead from the layout to the target, and its bound is the number of the parts and the rings, and that of the moves. Then no plan to the
-/// target has fewer moves. A refusal names the first fault, in the order of `CertFault`.
+/// Whether a certificate is good for a layout: its parts are misplaced and distinct, its rings are rings without a
+/// common part, its moves lead from the layout to the target, and its bound is the number of the parts and the rings,
+/// and that of the moves. Then no plan to the target has fewer moves. A refusal names the first fault, in the order of
+/// `CertFault`.
 pub fn verify<A: Allocator + Copy, B: Allocator, C: Allocator>(
     alloc: A,
     layout: &Layout<B>,
@@ -165,8 +183,8 @@ fn next_in(ring: &[u32], index: usize) -> u32
     }
 }
 
-/// Whether these lists are rings of which no two have a part in common: in one pass, where the first number told twice comes before the
-/// first list that is no ring.
+/// Whether these lists are rings of which no two have a part in common: in one pass, where the first number told twice
+/// comes before the first list that is no ring.
 fn weigh_rings<A: Allocator + Copy, B: Allocator>(
     at: &[u32],
     rings: &[Parts<B>],

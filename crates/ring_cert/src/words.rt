@@ -1,6 +1,26 @@
 //! Words and lines at the front of a text.
 
-ghost use Rattle.std.specs.Prelude.{◌≡◌, ℕ, ◌<◌, ◌≤◌, ◌∷◌, ◌++◌, [], List, IfSome, IfNone, IfOk, MatchOption, IsTrue, ◌↔◌, ◌≢◌, length, take, drop, slice_index};
+ghost use Rattle.std.specs.Prelude.{
+  ◌≡◌,
+  ℕ,
+  ◌<◌,
+  ◌≤◌,
+  ◌∷◌,
+  ◌++◌,
+  [],
+  List,
+  IfSome,
+  IfNone,
+  IfOk,
+  MatchOption,
+  IsTrue,
+  ◌↔◌,
+  ◌≢◌,
+  length,
+  take,
+  drop,
+  slice_index,
+};
 ghost use Rattle.std.specs.Fmt.{decimal};
 ghost use Rattle.std.specs.Str.Parse.{digits_value};
 ghost use Rattle.ring_cert.specs.Certificates.{IsRingTold, IsSmall, line, ring_line, word};
@@ -70,7 +90,8 @@ fn digits_at(bytes: &[u8]) -> usize
 
 /// What follows these bytes at the front.
 pub fn after<'a>(bytes: &'a [u8], front: &[u8]) -> Option<&'a [u8]>
-    ensures { MatchOption result ((rest : List ℕ) → bytes.now ≢ front.now ++ rest) (λ rest. bytes.now ≡ front.now ++ rest.now) }
+    ensures { MatchOption result
+        ((rest : List ℕ) → bytes.now ≢ front.now ++ rest) (λ rest. bytes.now ≡ front.now ++ rest.now) }
 {
     bytes.strip_prefix(front)
 }
@@ -107,7 +128,8 @@ pub fn two_numbers_at<'a>(
     second_name: &[u8],
 ) -> Option<(u32, u32, &'a [u8])>
     requires { BeginsWithNoDigit second_name.now }
-    ensures found { IfSome result (λ x. bytes.now ≡ name.now ++ (word x.0 ++ (line second_name.now (x.1 ∷ []) ++ x.2.now))) }
+    ensures found { IfSome result (λ x.
+        bytes.now ≡ name.now ++ (word x.0 ++ (line second_name.now (x.1 ∷ []) ++ x.2.now))) }
     ensures small { IfSome result (λ x. IsSmall x.0 × IsSmall x.1) }
     ensures none { IfNone result (LacksTwo name.now second_name.now bytes.now) }
 {

@@ -2,7 +2,7 @@
 use Rattle.std.specs.Prelude.{◌≡◌, ◌≢◌, ◌<◌, ◌≤◌, ◌+◌, ◌==◌, ℕ, suc, if◌then◌else◌, List, length, take, slice_index}
 use Rattle.std.proofs.Common.{sym, ◌∙◌, ap, arith}
 use Rattle.std.proofs.lemmas.List.{length-take-le, take_all, take_more}
-use Rattle.edit_writes.proofs.MarkingWrites.{other_number, same_number}
+use Rattle.edit_formats.proofs.MarkingWrites.{other_number, same_number}
 use Rattle.save_formats.specs.ProSaves.{name_start}
 use Rattle.save_formats.specs.lemmas.ProSavable.{next_start, start_within}
 

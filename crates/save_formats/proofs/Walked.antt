@@ -3,14 +3,14 @@ use Rattle.std.specs.Prelude.{◌≡◌, ◌≢◌, ℕ, Bool, List, slice_range
 use Rattle.std.specs.List.{list_any}
 use Rattle.std.specs.Str.{bytes_eq}
 use Rattle.std.proofs.Common.{refl, ap, ◌∙◌}
-use Rattle.vol_parts.specs.declared.fault.Fault.{Fault}
-use Rattle.vol_parts.specs.declared.fault.WalkError.{WalkError}
-use Rattle.vol_parts.specs.declared.fault.WalkError.TheVariants as walk
+use Rattle.a2_device.specs.declared.fault.Fault.{Fault}
+use Rattle.a2_device.specs.declared.fault.WalkError.{WalkError}
+use Rattle.a2_device.specs.declared.fault.WalkError.TheVariants as walk
 use Rattle.dos_catalog.specs.declared.catalog.Catalog.{Catalog}
 use Rattle.dos_catalog.specs.declared.entry.Entry.{Entry}
 use Rattle.dos_catalog.specs.Listed.{entries_of_catalog, sectors_of_catalog}
 use Rattle.dos_catalog.specs.Catalog.{CatalogFaultAt, IsCatalog}
-use Rattle.edit_writes.specs.declared.error.EditError.TheVariants.{Check}
+use Rattle.edit_formats.specs.declared.error.EditError.TheVariants.{Check}
 use Rattle.edit_formats.specs.Renamed.{refusal_of_walk}
 use Rattle.file_formats.specs.DosFiles.{dos_name}
 use Rattle.save_formats.specs.DosSaves.{HasWalked, is_name_used}

@@ -12,7 +12,7 @@ use Rattle.dos_catalog.specs.Entry.{entries_in, free_slots_in}
 use Rattle.dos_catalog.specs.Writes.{slot_offset, with_bytes, entry_bytes}
 use Rattle.vol_format.specs.Directory.{Listed}
 use Rattle.dos_entries.specs.Slots.{IsFreeSlot, number_of_slot, new_listed}
-use Rattle.edit_laws.specs.Writes.{Write}
+use Rattle.vol_laws.specs.Writes.{Write}
 use Rattle.new_files.specs.Order.{part_at}
 use Rattle.new_files.specs.Parts.{dos_parts_of}
 use Rattle.file_formats.specs.DosFiles.{dos_name}

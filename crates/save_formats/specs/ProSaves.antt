@@ -3,7 +3,7 @@ use Rattle.std.specs.Prelude.{◌≡◌, ◌<◌, ℕ, suc, ◌-◌, ◌*◌, �
 use Rattle.std.specs.List.{list_any}
 use Rattle.std.specs.Str.{bytes_eq}
 use Rattle.a2_device.specs.Device.{unit_at}
-use Rattle.vol_parts.specs.declared.part.PartKind.TheVariants.{Index, Master, Body}
+use Rattle.a2_device.specs.declared.part.PartKind.TheVariants.{Index, Master, Body}
 use Rattle.pro_dir.specs.declared.entry.Entry.{Entry}
 use Rattle.pro_dir.specs.declared.slot.NewFile.{NewFile}
 use Rattle.pro_dir.specs.Entry.{free_slots_in, is_directory, key_of}
@@ -15,7 +15,7 @@ use Rattle.pro_dir.specs.Writes.{entry_bytes, slot_offset, with_bytes}
 use Rattle.pro_tree.specs.Reach.{pro_root}
 use Rattle.vol_format.specs.Directory.{Listed}
 use Rattle.pro_format.specs.Pro.{without_key}
-use Rattle.edit_laws.specs.Writes.{Write}
+use Rattle.vol_laws.specs.Writes.{Write}
 use Rattle.new_files.specs.declared.part.NewPart.{NewPart}
 use Rattle.new_files.specs.Order.{part_at}
 use Rattle.new_files.specs.Parts.{kept, pro_parts_of, storage_type}

@@ -1,15 +1,15 @@
 -- What a format of volumes is to the command that saves a new file.
 use Rattle.std.specs.Prelude.{◌≡◌, ◌≢◌, ◌⊎◌, ◌<◌, ◌≤◌, ℕ, Bool, true, false, List, length, take}
 use Rattle.a2_device.specs.Device.{unit_at}
-use Rattle.vol_parts.specs.declared.part.PartKind.TheVariants.{Body}
+use Rattle.a2_device.specs.declared.part.PartKind.TheVariants.{Body}
 use Rattle.vol_format.specs.Directory.{Directory, Listed, entries, is_system, map_place}
 use Rattle.vol_format.specs.Meaning.{Meaning}
-use Rattle.write_laws.specs.Marked.{with_marks}
-use Rattle.write_laws.specs.declared.mark.Mark.{Mark}
-use Rattle.edit_laws.specs.Built.{Planned, IsBuilt, IsRisingPlan, place_of, unit_of}
-use Rattle.edit_laws.specs.Entered.{HasSameRest}
-use Rattle.edit_laws.specs.Inserted.{inserted}
-use Rattle.edit_laws.specs.Writes.{Write, store_after}
+use Rattle.vol_laws.specs.Marked.{with_marks}
+use Rattle.vol_laws.specs.declared.mark.Mark.{Mark}
+use Rattle.vol_laws.specs.Built.{Planned, IsBuilt, IsRisingPlan, place_of, unit_of}
+use Rattle.vol_laws.specs.Entered.{HasSameRest}
+use Rattle.vol_laws.specs.Inserted.{inserted}
+use Rattle.vol_laws.specs.Writes.{Write, store_after}
 use Rattle.new_files.specs.declared.part.NewPart.{NewPart}
 use Rattle.new_files.specs.Order.{HasStored, part_at}
 use Rattle.new_files.specs.Placed.{HavePlaces, HasPlaced}

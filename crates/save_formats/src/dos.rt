@@ -8,7 +8,7 @@ ghost use Rattle.dos_catalog.specs.Listed.{free_slot_of_catalog};
 ghost use Rattle.dos_catalog.specs.Writes.{slot_offset, with_bytes, entry_bytes};
 ghost use Rattle.dos_catalog.specs.declared.slot.NewEntry.{NewEntry};
 ghost use Rattle.edit_formats.specs.DosNames.{is_dos_name};
-ghost use Rattle.edit_writes.specs.Refusal.{told_device};
+ghost use Rattle.edit_formats.specs.Refusal.{told_device};
 ghost use Rattle.edit_formats.specs.Renamed.{IsReadRefusal};
 ghost use Rattle.save_formats.specs.DosSaves.{new_entry, HasWalked};
 
@@ -17,8 +17,9 @@ use a2_device::Device;
 use dos_catalog::{Catalog, NewEntry, encode};
 use dos_format::{Dos33, read_vtoc};
 use dos_vtoc::Vtoc;
-use edit_formats::{dos_name, has_name, is_dos_name, refusal};
-use edit_writes::{EditError, Prepared, alone, copy_unit};
+use edit_formats::{
+    EditError, Prepared, alone, copy_unit, dos_name, has_name, is_dos_name, refusal,
+};
 use new_files::{NewFileError, NewPart, build_list, dos_parts};
 use std::alloc::Allocator;
 
@@ -39,7 +40,8 @@ fn walk_from<D: Device, A: Allocator + Copy>(
     ensures device { OnlyReads (told_device result) (D.state device.old) (D.state device.new) }
     ensures refused { IfErr result IsReadRefusal }
     ensures slot { IfOk result (λ catalog. IfSome (free_slot_of_catalog catalog) IsSlotOnTrack) }
-    ensures walked { IsTrue (D.state device.old).honest → vtoc.now ≡ unit_at (D.state device.old).store 272 → IfOk result (HasWalked (D.state device.old).store) }
+    ensures walked { IsTrue (D.state device.old).honest → vtoc.now ≡ unit_at (D.state device.old).store 272
+        → IfOk result (HasWalked (D.state device.old).store) }
     ensures described { IsTrue (D.state device.old).honest → vtoc.now ≡ unit_at (D.state device.old).store 272
         → ((sectors : List ℕ) × IsCatalog (D.state device.old).store sectors) → result ≢ Err EditError.Check }
 {

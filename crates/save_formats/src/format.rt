@@ -1,21 +1,40 @@
 // The trait of formats to which files are saved.
 use crate::{Attributes, Extent, Slot, Target};
 use a2_device::Device;
-use edit_formats::EditableFormat;
-use edit_writes::{EditError, Prepared};
+use edit_formats::{EditError, EditableFormat, Prepared};
 use new_files::{NewFileError, NewPart};
 use std::alloc::Allocator;
 
 /// A format of volumes into whose directories new files are entered.
 pub trait SavableFormat: EditableFormat {
-    ghost use Rattle.std.specs.Prelude.{◌≡◌, ◌≢◌, ◌<◌, ◌≤◌, ◌↔◌, ℕ, Bool, List, true, false, length, map, All, Err, IfErr, IfOk, IsErrOf, IsTrue};
+    ghost use Rattle.std.specs.Prelude.{
+      ◌≡◌,
+      ◌≢◌,
+      ◌<◌,
+      ◌≤◌,
+      ◌↔◌,
+      ℕ,
+      Bool,
+      List,
+      true,
+      false,
+      length,
+      map,
+      All,
+      Err,
+      IfErr,
+      IfOk,
+      IsErrOf,
+      IsTrue,
+    };
     ghost use Rattle.a2_device.specs.Device.{OnlyReads};
-    ghost use Rattle.vol_parts.specs.declared.part.PartKind.TheVariants.{Body};
+    ghost use Rattle.a2_device.specs.declared.part.PartKind.TheVariants.{Body};
+    ghost use Rattle.vol_format.specs.Fits.{Fits};
     ghost use Rattle.vol_format.specs.Directory.{Directory};
     ghost use Rattle.new_files.specs.Order.{part_at};
-    ghost use Rattle.edit_writes.specs.declared.writes.Prepared.{Prepared};
-    ghost use Rattle.edit_writes.specs.Prepared.{write_of};
-    ghost use Rattle.edit_writes.specs.Refusal.{told_device};
+    ghost use Rattle.edit_formats.specs.declared.writes.Prepared.{Prepared};
+    ghost use Rattle.edit_formats.specs.Prepared.{write_of};
+    ghost use Rattle.edit_formats.specs.Refusal.{told_device};
     ghost use Rattle.edit_formats.specs.Renamed.{IsReadRefusal};
     ghost use Rattle.save_formats.specs.Saves.{SaveMeaning, IsSavable, IsSlotWithin, IsTargetOf, IsTargetWithin};
 
@@ -31,8 +50,7 @@ pub trait SavableFormat: EditableFormat {
         device: &mut D,
         path: &[u8],
     ) -> Result<Target, EditError>
-        requires unit { (D.state device.old).unit_size ≡ (Self.meaning self.now).unit_size }
-        requires places { (Self.meaning self.now).Takes (D.state device.old).places }
+        requires fits { Fits (Self.meaning self.now) (D.state device.old) }
 
         // every device
         ensures device { OnlyReads (told_device result) (D.state device.old) (D.state device.new) }
@@ -41,9 +59,11 @@ pub trait SavableFormat: EditableFormat {
         ensures name { IfOk result (IsTargetOf (saves self.now) path.now) }
 
         // an honest device that has the directory
-        ensures told { (directory : Directory) → IsTrue (D.state device.old).honest → (Self.meaning self.now).Describes (D.state device.old).store directory
+        ensures told { (directory : Directory) → IsTrue (D.state device.old).honest
+            → (Self.meaning self.now).Describes (D.state device.old).store directory
             → IfOk result ((saves self.now).IsTarget (D.state device.old).store path.now) }
-        ensures described { (directory : Directory) → IsTrue (D.state device.old).honest → (Self.meaning self.now).Describes (D.state device.old).store directory
+        ensures described { (directory : Directory) → IsTrue (D.state device.old).honest
+            → (Self.meaning self.now).Describes (D.state device.old).store directory
             → result ≢ Err EditError.Check };
 
     /// Whether a file of so many units, and of so many bytes, is longer than a file can be.
@@ -60,11 +80,13 @@ pub trait SavableFormat: EditableFormat {
         stored: &[bool],
     ) -> Result<Vec<NewPart, A>, NewFileError>
         ensures parts { IfOk result (λ parts. parts.items ≡ (saves self.now).parts stored.now) }
-        ensures too_long { IsErrOf result NewFileError.TooLong → (saves self.now).too_long 0 (length stored.now) ≢ false };
+        ensures too_long { IsErrOf result NewFileError.TooLong
+            → (saves self.now).too_long 0 (length stored.now) ≢ false };
 
     /// Builds the unit of a table of a new file, from the places of the file's parts.
     fn build(&self, parts: &[NewPart], places: &[u32], at: usize, unit: &mut [u8])
-        requires parts { (stored : List Bool) × ((saves self.now).too_long 0 (length stored) ≡ false) × (parts.now ≡ (saves self.now).parts stored) }
+        requires parts { (stored : List Bool) × ((saves self.now).too_long 0 (length stored) ≡ false)
+            × (parts.now ≡ (saves self.now).parts stored) }
         requires at { at < length parts.now }
         requires table { (part_at parts.now at).kind ≢ Body }
         requires count { length places.now ≡ length parts.now }
@@ -85,8 +107,7 @@ pub trait SavableFormat: EditableFormat {
         attributes: &Attributes,
         extent: &Extent,
     ) -> Result<Vec<Prepared<A>, A>, EditError>
-        requires unit { (D.state device.old).unit_size ≡ (Self.meaning self.now).unit_size }
-        requires places { (Self.meaning self.now).Takes (D.state device.old).places }
+        requires fits { Fits (Self.meaning self.now) (D.state device.old) }
         requires slot { IsSlotWithin (Self.meaning self.now) (D.state device.old).places slot }
         requires name { (saves self.now).may_have path.now ≡ true }
         requires first { (count : ℕ) × (Self.meaning self.now).CanName count extent.now.first }
@@ -95,10 +116,13 @@ pub trait SavableFormat: EditableFormat {
         ensures device { OnlyReads (told_device result) (D.state device.old) (D.state device.new) }
         ensures refused { IfErr result IsReadRefusal }
         ensures checked { result ≢ Err EditError.Check }
-        ensures inside { IfOk result (λ writes. All (λ (write : Prepared A). write.place < (D.state device.old).places) writes.items) }
-        ensures sizes { IfOk result (λ writes. All (λ (write : Prepared A). length write.unit.items ≡ (D.state device.old).unit_size) writes.items) }
+        ensures inside { IfOk result (λ writes.
+            All (λ (write : Prepared A). write.place < (D.state device.old).places) writes.items) }
+        ensures sizes { IfOk result (λ writes.
+            All (λ (write : Prepared A). length write.unit.items ≡ (D.state device.old).unit_size) writes.items) }
         ensures enters { IsTrue (D.state device.old).honest
-            → IfOk result (λ writes. map write_of writes.items ≡ (saves self.now).entering (D.state device.old).store path.now slot attributes.now extent.now) };
+            → IfOk result (λ writes. map write_of writes.items
+            ≡ (saves self.now).entering (D.state device.old).store path.now slot attributes.now extent.now) };
 
     ghost savable: { (format : Self) → IsSavable (Self.meaning format) (saves format) };
 }

@@ -3,7 +3,15 @@ ghost use Rattle.std.specs.Prelude.{◌≡◌, ◌≤◌, ◌<◌, length, IfSom
 ghost use Rattle.pro_dir.specs.Listed.{directory_of};
 ghost use Rattle.pro_dir.specs.Paths.{folded};
 ghost use Rattle.edit_formats.specs.ProNames.{is_name_in};
-ghost use Rattle.save_formats.specs.ProSaves.{above_name, is_directory_named, last_name, name_start, IsDirectoryAbove, IsFirstDirectory, IsNoDirectory};
+ghost use Rattle.save_formats.specs.ProSaves.{
+  above_name,
+  is_directory_named,
+  last_name,
+  name_start,
+  IsDirectoryAbove,
+  IsFirstDirectory,
+  IsNoDirectory,
+};
 
 use edit_formats::{is_name_in, pro_name};
 use pro_dir::{Entry, VolumeDir};

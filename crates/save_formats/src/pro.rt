@@ -1,5 +1,20 @@
 // ProDOS as a format to which files are saved.
-ghost use Rattle.std.specs.Prelude.{◌≡◌, ◌≢◌, ◌<◌, ◌≤◌, ℕ, true, List, length, slice_get, Err, IfErr, IfOk, IfSome, IsTrue};
+ghost use Rattle.std.specs.Prelude.{
+  ◌≡◌,
+  ◌≢◌,
+  ◌<◌,
+  ◌≤◌,
+  ℕ,
+  true,
+  List,
+  length,
+  slice_get,
+  Err,
+  IfErr,
+  IfOk,
+  IfSome,
+  IsTrue,
+};
 ghost use Rattle.a2_device.specs.Device.{OnlyReads};
 ghost use Rattle.pro_dir.specs.Entry.{free_slots_in};
 ghost use Rattle.pro_dir.specs.Listed.{directory_of, free_slot_of};
@@ -9,20 +24,20 @@ ghost use Rattle.pro_dir.specs.Walk.{IsKeyOf};
 ghost use Rattle.pro_dir.specs.Within.{IsFreeWithin};
 ghost use Rattle.pro_dir.specs.Writes.{entry_bytes, slot_offset, with_bytes};
 ghost use Rattle.edit_formats.specs.ProNames.{is_pro_name};
-ghost use Rattle.edit_writes.specs.Refusal.{told_device};
+ghost use Rattle.edit_formats.specs.Refusal.{told_device};
 ghost use Rattle.edit_formats.specs.Renamed.{IsReadRefusal};
 ghost use Rattle.save_formats.specs.ProSaves.{last_name, new_file};
 
 use crate::paths::{directory_above, is_in_use, last_name};
 use crate::{Attributes, Extent, SavableFormat, Slot, Target};
-use a2_device::Device;
-use edit_formats::{FileCount, counted_writes, is_pro_name, pro_name, refusal};
-use edit_writes::{EditError, Prepared, copy_unit};
+use a2_device::{Device, PartKind};
+use edit_formats::{
+    EditError, FileCount, Prepared, copy_unit, counted_writes, is_pro_name, pro_name, refusal,
+};
 use new_files::{NewFileError, NewPart, build_index, build_master, pro_parts, pro_storage};
 use pro_dir::{NewFile, VolumeDir, encode};
 use pro_format::Prodos;
 use std::alloc::Allocator;
-use vol_parts::PartKind;
 
 /// The units of the longest file, and its bytes.
 const UNITS: usize = 32768;
@@ -41,11 +56,16 @@ fn walk_directories<D: Device, A: Allocator + Copy>(
     requires places { 16 ≤ (D.state device.old).places }
     ensures device { OnlyReads (told_device result) (D.state device.old) (D.state device.new) }
     ensures refused { IfErr result IsReadRefusal }
-    ensures slots { IfOk result (λ walked. (key : ℕ) → IfSome (free_slot_of walked key) (IsFreeWithin (D.state device.old).places key)) }
-    ensures walked { IsTrue (D.state device.old).honest → IfOk result (λ walked. Describes (D.state device.old).store (directory_of walked)) }
-    ensures free { IsTrue (D.state device.old).honest → IfOk result (λ walked. (key : ℕ) (own : List ℕ) → IsKeyOf (directory_of walked).entries key
-        → IsRun (D.state device.old).store key own → free_slot_of walked key ≡ slice_get (free_slots_in (D.state device.old).store key own) 0) }
-    ensures described { (tree : Tree) → IsTrue (D.state device.old).honest → Describes (D.state device.old).store tree → result ≢ Err EditError.Check }
+    ensures slots { IfOk result (λ walked. (key : ℕ)
+        → IfSome (free_slot_of walked key) (IsFreeWithin (D.state device.old).places key)) }
+    ensures walked { IsTrue (D.state device.old).honest
+        → IfOk result (λ walked. Describes (D.state device.old).store (directory_of walked)) }
+    ensures free { IsTrue (D.state device.old).honest
+        → IfOk result (λ walked. (key : ℕ) (own : List ℕ) → IsKeyOf (directory_of walked).entries key
+        → IsRun (D.state device.old).store key own
+        → free_slot_of walked key ≡ slice_get (free_slots_in (D.state device.old).store key own) 0) }
+    ensures described { (tree : Tree) → IsTrue (D.state device.old).honest → Describes (D.state device.old).store tree
+        → result ≢ Err EditError.Check }
 {
     match VolumeDir::walk(alloc, device) {
         Ok(walked) => Ok(walked),

@@ -24,7 +24,8 @@ pub enum Target {
     At(Slot),
 }
 
-/// What the owner says of a new file: its kind, for DOS 3.3 with the bit that locks it; for ProDOS the auxiliary type, the length in bytes, and the date of its creation.
+/// What the owner says of a new file: its kind, for DOS 3.3 with the bit that locks it; for ProDOS the auxiliary type,
+/// the length in bytes, and the date of its creation.
 #[derive(Clone, Copy, Debug, PartialEq, Eq)]
 pub struct Attributes {
     pub kind: u8,
@@ -33,7 +34,8 @@ pub struct Attributes {
     pub date: ProDate,
 }
 
-/// The size of a new file, and where it begins: how many units it has, stored or not, how many parts, and the place of the first of these.
+/// The size of a new file, and where it begins: how many units it has, stored or not, how many parts, and the place of
+/// the first of these.
 #[derive(Clone, Copy, Debug, PartialEq, Eq)]
 pub struct Extent {
     pub units: u32,

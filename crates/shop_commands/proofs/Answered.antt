@@ -4,7 +4,7 @@ use Rattle.std.proofs.lemmas.Bool.{false≢true}
 use Rattle.std.proofs.lemmas.Option.{same_Some}
 use Rattle.std.specs.Io.KnownBytes.{Appends, Keeps}
 use Rattle.std.specs.Prelude.{◌⊎◌, Option, Some, None, IfSome, codes}
-use Rattle.sector_order.specs.declared.order.Order.{Order}
+use Rattle.a2_device.specs.declared.order.Order.{Order}
 use Rattle.given_file.specs.Content.{GivenView, most_input}
 use Rattle.shop_jobs.specs.Job.{EditView, JobView, SaveView, catalog, check, read, convert, plan, optimize, edit, save, verify, identify}
 use Rattle.shop_words.specs.Job.{asked_job, IsTaken}
@@ -12,17 +12,17 @@ use Rattle.shop_words.specs.Fault.{IsFaultOf}
 use Rattle.shop_words.specs.declared.fault.WordsFault.{WordsFault}
 use Rattle.shop_words.specs.declared.fault.WordsFault.TheVariants as words
 use Rattle.shop_jobs.specs.declared.job.VolumeOptions.{VolumeOptions}
-use Rattle.job_reply.specs.declared.refusal.Failure.{Failure}
-use Rattle.job_reply.specs.declared.reply.Reply.{Reply}
-use Rattle.job_reply.specs.declared.reply.Status.{Status}
-use Rattle.job_reply.specs.declared.reply.Told.{Told}
-use Rattle.job_reply.specs.Disk.{most_bytes}
-use Rattle.job_reply.specs.Reply.{HandsOut, Held, IsDelivered, IsMade, IsMadeReply, failed, held, refused, status_number, told_text}
-use Rattle.job_reply.proofs.Fronts.{convert-whole}
-use Rattle.job_reply.proofs.NotMade.{converted_image, refused_not_made}
-use Rattle.job_reply.specs.declared.refusal.Refusal.TheVariants as refusals
+use Rattle.shop_replies.specs.declared.refusal.Failure.{Failure}
+use Rattle.shop_replies.specs.declared.reply.Reply.{Reply}
+use Rattle.shop_replies.specs.declared.reply.Status.{Status}
+use Rattle.shop_replies.specs.declared.reply.Told.{Told}
+use Rattle.shop_replies.specs.Disk.{most_bytes}
+use Rattle.shop_replies.specs.Reply.{HandsOut, Held, IsDelivered, IsMade, IsMadeReply, failed, held, refused, status_number, told_text}
+use Rattle.shop_replies.proofs.Fronts.{convert-whole}
+use Rattle.shop_replies.proofs.NotMade.{converted_image, refused_not_made}
+use Rattle.shop_replies.specs.declared.refusal.Refusal.TheVariants as refusals
 use Rattle.reading_jobs.specs.VerifyReply.{most_certificate}
-use Rattle.image_volume.specs.Volume.{device_of, form_of, meaning_of, order_of}
+use Rattle.shop_replies.specs.Volume.{device_of, form_of, meaning_of, order_of}
 use Rattle.volume_jobs.specs.FileSystems.{edits_of, files_of}
 use Rattle.volume_jobs.specs.Work.{IsWorkReply, WorkView, Catalog, Read, Check, Plan, Optimize, Change, Save, Verify}
 use Rattle.volume_jobs.proofs.NotMade.{edited_image, saved_image, volume_made}

@@ -3,14 +3,14 @@ use Rattle.std.proofs.Common.{◌≡◌, ap, ℕ, List, Option, Some, None, inl,
 use Rattle.std.proofs.lemmas.Option.{same_Some}
 use Rattle.std.specs.Prelude.{IfSome}
 use Rattle.a2_device.specs.Device.{DeviceState}
-use Rattle.sector_order.specs.declared.order.Order.{Order}
+use Rattle.a2_device.specs.declared.order.Order.{Order}
 use Rattle.shop_jobs.specs.Job.{JobView, catalog, check, read, convert, plan, optimize, edit, save, verify, identify}
 use Rattle.shop_jobs.specs.Paths.{reserve_of, volume_of}
 use Rattle.shop_jobs.specs.declared.job.VolumeOptions.{VolumeOptions}
-use Rattle.job_reply.specs.declared.refusal.Refusal.{Refusal}
-use Rattle.job_reply.specs.declared.reply.Reply.{Reply}
-use Rattle.job_reply.specs.Reply.{refused}
-use Rattle.image_volume.specs.Volume.{HasUnitsOf, form_of, order_of}
+use Rattle.shop_replies.specs.declared.refusal.Refusal.{Refusal}
+use Rattle.shop_replies.specs.declared.reply.Reply.{Reply}
+use Rattle.shop_replies.specs.Reply.{refused}
+use Rattle.shop_replies.specs.Volume.{HasUnitsOf, form_of, order_of}
 use Rattle.volume_jobs.specs.FileSystems.{edits_of, files_of}
 use Rattle.volume_jobs.specs.VolumeReply.{IsVolumeReply}
 use Rattle.volume_jobs.specs.Work.{IsReading, IsWorkReply, WorkView, Catalog, Read, Check, Plan, Optimize, Change, Verify}

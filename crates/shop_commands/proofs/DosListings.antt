@@ -2,9 +2,9 @@
 use Rattle.std.proofs.Common.{◌≡◌, ◌⊎◌, ℕ, List, true, false, inl, inr, ⊎_elim}
 use Rattle.std.specs.Prelude.{Option, Some, None, IfSome}
 use Rattle.shop_jobs.specs.Job.{JobView, catalog, check, read, convert, plan, optimize, edit, save, verify, identify}
-use Rattle.job_reply.specs.Reply.{Held}
+use Rattle.shop_replies.specs.Reply.{Held}
 use Rattle.volume_jobs.proofs.DosListings.{dos_catalog_listed}
-use Rattle.image_volume.specs.Volume.{order_of}
+use Rattle.shop_replies.specs.Volume.{order_of}
 use Rattle.shop_commands.specs.Answer.{IsAnswer, IsDosCatalogAnswer}
 
 -- a job that is none in place is told of its bytes

@@ -1,8 +1,8 @@
 -- What the program answers to a job on an image, and to words.
 use Rattle.std.specs.Prelude.{◌≡◌, ◌⊎◌, ℕ, Bool, true, false, List, Option, Some, None, IfSome, IsSome, codes, string_bytes, option_map}
 use Rattle.std.specs.Io.KnownBytes.{Appends, Keeps}
-use Rattle.sector_order.specs.declared.order.Order.{Order}
-use Rattle.sector_order.specs.declared.order.Order.TheVariants as orders
+use Rattle.a2_device.specs.declared.order.Order.{Order}
+use Rattle.a2_device.specs.declared.order.Order.TheVariants as orders
 use Rattle.file_listings.specs.DosText.{Text}
 use Rattle.given_file.specs.Content.{GivenView}
 use Rattle.given_file.specs.Words.{dos_head, dos_kind, pro_kind}
@@ -18,18 +18,18 @@ use Rattle.shop_jobs.specs.declared.job.VolumeOptions.{VolumeOptions}
 use Rattle.shop_words.specs.Fault.{IsFaultOf}
 use Rattle.shop_words.specs.declared.fault.WordsFault.{WordsFault}
 use Rattle.shop_words.specs.declared.fault.WordsFault.TheVariants as words
-use Rattle.job_reply.specs.declared.refusal.Failure.{Failure}
-use Rattle.job_reply.specs.declared.refusal.Failure.TheVariants as failures
-use Rattle.job_reply.specs.declared.reply.Reply.{Reply}
-use Rattle.job_reply.specs.declared.refusal.Refusal.{Refusal}
-use Rattle.job_reply.specs.declared.refusal.Refusal.TheVariants as refusals
-use Rattle.job_reply.specs.Reply.{HandsImage, Held, IsDelivered, IsWritten, failed, failure_line, refused}
+use Rattle.shop_replies.specs.declared.refusal.Failure.{Failure}
+use Rattle.shop_replies.specs.declared.refusal.Failure.TheVariants as failures
+use Rattle.shop_replies.specs.declared.reply.Reply.{Reply}
+use Rattle.shop_replies.specs.declared.refusal.Refusal.{Refusal}
+use Rattle.shop_replies.specs.declared.refusal.Refusal.TheVariants as refusals
+use Rattle.shop_replies.specs.Reply.{HandsImage, Held, IsDelivered, IsWritten, failed, failure_line, refused}
 use Rattle.volume_jobs.specs.DosCatalogReply.{IsDosCatalogReply}
-use Rattle.image_volume.specs.Volume.{form_of, order_of}
+use Rattle.shop_replies.specs.Volume.{form_of, order_of}
 use Rattle.volume_jobs.specs.FileSystems.{edits_of, files_of}
 use Rattle.volume_jobs.specs.VolumeReply.{IsVolumeReply}
 use Rattle.volume_jobs.specs.Work.{IsWorkReply, WorkView, Catalog, Read, Check, Plan, Optimize, Change, Save, Verify}
-use Rattle.job_reply.specs.ConvertReply.{IsConvertReply}
+use Rattle.shop_replies.specs.ConvertReply.{IsConvertReply}
 use Rattle.image_readings.specs.IdentifyReply.{IsIdentifyReply}
 
 -- the order by which it is known how many bytes to read at most: no order allows more than ProDOS order

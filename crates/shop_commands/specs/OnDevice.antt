@@ -4,11 +4,11 @@ use Rattle.a2_device.specs.Device.{DeviceState}
 use Rattle.shop_jobs.specs.Job.{JobView}
 use Rattle.shop_jobs.specs.Paths.{reserve_of, volume_of}
 use Rattle.shop_jobs.specs.declared.job.VolumeOptions.{VolumeOptions}
-use Rattle.job_reply.specs.declared.refusal.Failure.TheVariants as failures
-use Rattle.job_reply.specs.declared.refusal.Refusal.{Refusal}
-use Rattle.job_reply.specs.declared.reply.Reply.{Reply}
-use Rattle.job_reply.specs.Reply.{failed, refused}
-use Rattle.image_volume.specs.Volume.{HasUnitsOf, form_of}
+use Rattle.shop_replies.specs.declared.refusal.Failure.TheVariants as failures
+use Rattle.shop_replies.specs.declared.refusal.Refusal.{Refusal}
+use Rattle.shop_replies.specs.declared.reply.Reply.{Reply}
+use Rattle.shop_replies.specs.Reply.{failed, refused}
+use Rattle.shop_replies.specs.Volume.{HasUnitsOf, form_of}
 use Rattle.volume_jobs.specs.FileSystems.{edits_of, files_of}
 use Rattle.volume_jobs.specs.Work.{IsWorkReply, WorkView}
 use Rattle.device_jobs.specs.Changing.{IsChangeOutcome, IsWorkOutcome}

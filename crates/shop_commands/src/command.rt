@@ -3,12 +3,20 @@ ghost use Rattle.std.specs.Prelude.{◌≡◌, ◌≢◌, ◌⊎◌, IfErr, IfOk
 ghost use Rattle.shop_jobs.specs.Job.{job_view};
 ghost use Rattle.shop_words.specs.Job.{asked_job};
 ghost use Rattle.shop_words.specs.Plain.{IsPlain};
-ghost use Rattle.shop_commands.specs.Answer.{CommandHandsOut, CommandReads, CommandReadsImage, IsCommandAnswer, IsInPlaceCommandAnswer, IsWordsAnswer, TellsNoJob};
-ghost use Rattle.job_reply.specs.Reply.{held};
+ghost use Rattle.shop_commands.specs.Answer.{
+  CommandHandsOut,
+  CommandReads,
+  CommandReadsImage,
+  IsCommandAnswer,
+  IsInPlaceCommandAnswer,
+  IsWordsAnswer,
+  TellsNoJob,
+};
+ghost use Rattle.shop_replies.specs.Reply.{held};
 
 use crate::job::run_job;
-use job_reply::{Failure, Reply, written};
 use shop_jobs::Job;
+use shop_replies::{Failure, Reply, written};
 use shop_words::{WordsFault, parse_words};
 use std::alloc::Global;
 use std::io::{Read, Write};
@@ -30,12 +38,13 @@ pub fn tell_words_fault<T: Write>(fault: &WordsFault, text: &mut T) -> u8
     }
 }
 
-/// The job that words ask for. Where they ask for none, tells why and answers the status of it: 0 with the help that they ask for,
-/// 2 with why they are refused, 4 for want of memory or where the text can't be written.
+/// The job that words ask for. Where they ask for none, tells why and answers the status of it: 0 with the help that
+/// they ask for, 2 with why they are refused, 4 for want of memory or where the text can't be written.
 pub fn job_of_words<T: Write>(alloc: Global, words: &[String], text: &mut T) -> Result<Job, u8>
     ensures job { IfOk result (λ job. asked_job (map string_bytes words.now) ≡ Some (job_view job)) }
     ensures untold { OnOk result (text.new ≡ text.old) }
-    ensures told { IfErr result (λ status. TellsNoJob (map string_bytes words.now) status (T.contents text.old) (T.contents text.new)) }
+    ensures told { IfErr result (λ status.
+        TellsNoJob (map string_bytes words.now) status (T.contents text.old) (T.contents text.new)) }
     ensures plain { IsPlain (map string_bytes words.now) → IfErr result (λ status. status ≢ WORDS_REFUSED) }
 {
     match parse_words(alloc, words) {
@@ -55,11 +64,14 @@ pub fn run_command<I: Read, E: Read, T: Write, O: Write>(
 ) -> u8
     ensures plain { IsPlain (map string_bytes words.now) → result ≢ WORDS_REFUSED }
     ensures answer { IfSome (I.remaining image.old) (λ bytes.
-        IsCommandAnswer (map string_bytes words.now) bytes (E.remaining extra.old) result (held (T.contents text.old) (O.contents out.old)) (held (T.contents text.new) (O.contents out.new))) }
-    ensures in_place { IsInPlaceCommandAnswer (map string_bytes words.now) result (held (T.contents text.old) (O.contents out.old)) (held (T.contents text.new) (O.contents out.new)) }
+        IsCommandAnswer (map string_bytes words.now) bytes (E.remaining extra.old) result
+        (held (T.contents text.old) (O.contents out.old)) (held (T.contents text.new) (O.contents out.new))) }
+    ensures in_place { IsInPlaceCommandAnswer (map string_bytes words.now) result
+        (held (T.contents text.old) (O.contents out.old)) (held (T.contents text.new) (O.contents out.new)) }
     ensures image { (image.new ≡ image.old) ⊎ CommandReadsImage (map string_bytes words.now) }
     ensures extra { (extra.new ≡ extra.old) ⊎ CommandReads (map string_bytes words.now) }
-    ensures out { (out.new ≡ out.old) ⊎ CommandHandsOut (map string_bytes words.now) result (T.contents text.old) (T.contents text.new) }
+    ensures out { (out.new ≡ out.old)
+        ⊎ CommandHandsOut (map string_bytes words.now) result (T.contents text.old) (T.contents text.new) }
 {
     match job_of_words(alloc, words, text) {
         Ok(job) => run_job(alloc, &job, image, extra, text, out),

@@ -1,12 +1,12 @@
 // The bytes of an image.
 ghost use Rattle.std.specs.Prelude.{◌≡◌, ◌<◌, ◌+◌, IfOk, IfErr, IfSome, take};
-ghost use Rattle.job_reply.specs.Disk.{most_bytes as most};
+ghost use Rattle.shop_replies.specs.Disk.{most_bytes as most};
 ghost use Rattle.shop_commands.specs.Answer.{IsReadFailure};
 ghost use Rattle.reading_jobs.specs.VerifyReply.{most_certificate};
 
-use job_reply::{Failure, most_bytes};
+use a2_device::Order;
 use reading_jobs::MOST_CERTIFICATE;
-use sector_order::Order;
+use shop_replies::{Failure, most_bytes};
 use std::alloc::Global;
 use std::io::{ErrorKind, Read};
 
@@ -15,7 +15,8 @@ use std::io::{ErrorKind, Read};
 /// # Errors
 /// `Input` where the reader fails, `Memory` where there is no room for the bytes.
 pub fn read_extra<E: Read>(alloc: Global, extra: &mut E) -> Result<Vec<u8>, Failure>
-    ensures read { IfSome (E.remaining extra.old) (λ bytes. IfOk result (λ read. read.items ≡ take (most_certificate + 1) bytes)) }
+    ensures read { IfSome
+        (E.remaining extra.old) (λ bytes. IfOk result (λ read. read.items ≡ take (most_certificate + 1) bytes)) }
     ensures failed { IfErr result IsReadFailure }
 {
     read_front(alloc, extra, MOST_CERTIFICATE)
@@ -41,7 +42,8 @@ fn read_front<R: Read>(alloc: Global, reader: &mut R, most: usize) -> Result<Vec
 /// # Errors
 /// `Input` where the reader fails, `Memory` where there is no room for the bytes.
 pub fn read_image<I: Read>(alloc: Global, image: &mut I, order: Order) -> Result<Vec<u8>, Failure>
-    ensures read { IfSome (I.remaining image.old) (λ bytes. IfOk result (λ read. read.items ≡ take (most order + 1) bytes)) }
+    ensures read { IfSome
+        (I.remaining image.old) (λ bytes. IfOk result (λ read. read.items ≡ take (most order + 1) bytes)) }
     ensures failed { IfErr result IsReadFailure }
 {
     read_front(alloc, image, most_bytes(order))

@@ -1,20 +1,44 @@
 // Jobs, from an image's reader to the text and the output file.
 ghost use Rattle.std.specs.Prelude.{◌≡◌, ◌⊎◌, ◌↔◌, ◌+◌, Some, false, take, IfOk, IfErr, IfSome, IsTrue, option_map};
 ghost use Rattle.shop_jobs.specs.Job.{job_view};
-ghost use Rattle.job_reply.specs.Reply.{held};
+ghost use Rattle.shop_replies.specs.Reply.{held};
 ghost use Rattle.given_file.specs.Content.{given_view};
 ghost use Rattle.reading_jobs.specs.VerifyReply.{most_certificate};
 ghost use Rattle.volume_jobs.specs.Work.{work_view};
-ghost use Rattle.shop_commands.specs.Answer.{AsksFor, ChangesVolume, HandsOutFor, IsAnswer, IsDosCatalogAnswer, IsGiven, IsInPlaceAnswer, IsOnVolume, IsReadFailure, IsReplyToBytes, IsStatus, MakesImage, ReadsExtra, ReadsImage, RefusesAttributes, ReadsVolume, RefusesWords, attributes_view, head_of as first_of, image_order_of, is_in_place as in_place, kind_of as type_of, limit_of as of_limit, reading_of};
+ghost use Rattle.shop_commands.specs.Answer.{
+  AsksFor,
+  ChangesVolume,
+  HandsOutFor,
+  IsAnswer,
+  IsDosCatalogAnswer,
+  IsGiven,
+  IsInPlaceAnswer,
+  IsOnVolume,
+  IsReadFailure,
+  IsReplyToBytes,
+  IsStatus,
+  MakesImage,
+  ReadsExtra,
+  ReadsImage,
+  RefusesAttributes,
+  ReadsVolume,
+  RefusesWords,
+  attributes_view,
+  head_of as first_of,
+  image_order_of,
+  is_in_place as in_place,
+  kind_of as type_of,
+  limit_of as of_limit,
+  reading_of,
+};
 
 use crate::input::{read_extra, read_image};
+use a2_device::Order;
 use given_file::{GivenFile, Head, dos_head, dos_kind, pro_kind};
 use image_readings::identify_reply;
-use image_volume::order_of;
-use job_reply::{Failure, Refusal, Reply, convert_reply};
 use pro_dates::date;
-use sector_order::Order;
 use shop_jobs::{FileSystem, Job, SaveAttributes, Target, VolumeOptions, reserve_of, volume_of};
+use shop_replies::{Failure, Refusal, Reply, convert_reply, order_of};
 use std::alloc::Global;
 use std::io::{Read, Write};
 use volume_jobs::{Work, volume_reply};
@@ -63,7 +87,8 @@ fn limit_of(stop_after: Option<u64>) -> u64
 // The bytes of the file beside the image, of a job that reads one and is none in place.
 fn extra_for<E: Read>(alloc: Global, job: &Job, extra: &mut E) -> Result<Vec<u8>, Failure>
     requires { in_place (job_view job.now) ≡ false }
-    ensures read { ReadsExtra (job_view job.now) → IfSome (E.remaining extra.old) (λ bytes. IfOk result (λ read. read.items ≡ take (most_certificate + 1) bytes)) }
+    ensures read { ReadsExtra (job_view job.now) → IfSome
+        (E.remaining extra.old) (λ bytes. IfOk result (λ read. read.items ≡ take (most_certificate + 1) bytes)) }
     ensures kept { (extra.new ≡ extra.old) ⊎ ReadsExtra (job_view job.now) }
     ensures failed { IfErr result IsReadFailure }
 {
@@ -74,7 +99,8 @@ fn extra_for<E: Read>(alloc: Global, job: &Job, extra: &mut E) -> Result<Vec<u8>
     }
 }
 
-/// What a job that only reads its volume asks of it, with the bytes of a file beside the image; `None` of any other job.
+/// What a job that only reads its volume asks of it, with the bytes of a file beside the image; `None` of any other
+/// job.
 pub fn reading_work<'a>(job: &'a Job, extra: &'a [u8]) -> Option<Work<'a>>
     ensures { option_map work_view result ≡ reading_of (job_view job.now) extra.now }
 {
@@ -155,7 +181,8 @@ fn given_by<'a>(
     attributes: &SaveAttributes,
     bytes: &'a [u8],
 ) -> Result<GivenFile<'a>, Refusal>
-    ensures given { IfOk result (λ given. IsGiven file_system (attributes_view attributes.now) bytes.now (given_view given)) }
+    ensures given { IfOk result (λ given.
+        IsGiven file_system (attributes_view attributes.now) bytes.now (given_view given)) }
     ensures refused { IfErr result (RefusesAttributes file_system (attributes_view attributes.now)) }
 {
     let Some(kind) = kind_of(file_system, attributes.kind.as_deref()) else {
@@ -269,8 +296,9 @@ pub fn reply_to(alloc: Global, job: &Job, image: Vec<u8>, extra: &[u8]) -> Reply
     }
 }
 
-/// Does a job on the image of a reader, tells it and hands the image that it makes to `out`: 0 done, 1 where something is found
-/// wrong, 3 refused, 4 where a reader, a writer or memory fails. A job in place is refused with `InPlace` before anything is read.
+/// Does a job on the image of a reader, tells it and hands the image that it makes to `out`: 0 done, 1 where something
+/// is found wrong, 3 refused, 4 where a reader, a writer or memory fails. A job in place is refused with `InPlace`
+/// before anything is read.
 pub fn run_job<I: Read, E: Read, T: Write, O: Write>(
     alloc: Global,
     job: &Job,
@@ -281,13 +309,17 @@ pub fn run_job<I: Read, E: Read, T: Write, O: Write>(
 ) -> u8
     ensures status { IsStatus result }
     ensures answer { IfSome (I.remaining image.old) (λ bytes.
-        IsAnswer (job_view job.now) bytes (E.remaining extra.old) result (held (T.contents text.old) (O.contents out.old)) (held (T.contents text.new) (O.contents out.new))) }
-    ensures in_place { IsInPlaceAnswer (job_view job.now) result (held (T.contents text.old) (O.contents out.old)) (held (T.contents text.new) (O.contents out.new)) }
+        IsAnswer (job_view job.now) bytes (E.remaining extra.old) result
+        (held (T.contents text.old) (O.contents out.old)) (held (T.contents text.new) (O.contents out.new))) }
+    ensures in_place { IsInPlaceAnswer (job_view job.now) result (held (T.contents text.old) (O.contents out.old))
+        (held (T.contents text.new) (O.contents out.new)) }
     ensures dos_catalog { IfSome (I.remaining image.old) (λ bytes.
-        IsDosCatalogAnswer (job_view job.now) bytes result (held (T.contents text.old) (O.contents out.old)) (held (T.contents text.new) (O.contents out.new))) }
+        IsDosCatalogAnswer (job_view job.now) bytes result (held (T.contents text.old) (O.contents out.old))
+        (held (T.contents text.new) (O.contents out.new))) }
     ensures image { (image.new ≡ image.old) ⊎ ReadsImage (job_view job.now) }
     ensures extra { (extra.new ≡ extra.old) ⊎ ReadsExtra (job_view job.now) }
-    ensures out { (out.new ≡ out.old) ⊎ (MakesImage (job_view job.now) × HandsOutFor (job_view job.now) result (T.contents text.old) (T.contents text.new)) }
+    ensures out { (out.new ≡ out.old) ⊎ (MakesImage (job_view job.now)
+        × HandsOutFor (job_view job.now) result (T.contents text.old) (T.contents text.new)) }
 {
     if is_in_place(job) {
         return Reply::refused(Refusal::InPlace).deliver(text, out);

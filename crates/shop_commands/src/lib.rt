@@ -1,8 +1,9 @@
 //! Commands of the workshop, from words to bytes.
 //!
-//! `run_job` turns the bytes of an image into one `Reply` by the jobs of `volume_jobs` and `job_reply`, writes its text once and hands its image to the output
-//! file; `specs/Answer.antt` says which reply that is, by the job and the bytes. `job_of_words` is the job that words ask for, or tells why there is none: the program runs it, and
-//! `run_command` is `job_of_words` followed by `run_job`.
+//! `run_job` turns the bytes of an image into one `Reply` by the jobs of `volume_jobs` and `shop_replies`, writes its text
+//! once and hands its image to the output file; `specs/Answer.antt` says which reply that is, by the job and the bytes.
+//! `job_of_words` is the job that words ask for, or tells why there is none: the program runs it, and `run_command` is
+//! `job_of_words` followed by `run_job`.
 #![tactic(auto)]
 
 mod command;

@@ -1,7 +1,8 @@
 //! What the workshop is asked for: a job with its words, as `Job` has them.
 //!
-//! The libraries of jobs stand on this crate, and know nothing of how words are read; `shop_words` reads them. Contracts see a job
-//! with texts for its words (`specs/Job.antt`), and which files it names are functions of that view (`specs/Paths.antt`).
+//! The libraries of jobs stand on this crate, and know nothing of how words are read; `shop_words` reads them.
+//! Contracts see a job with texts for its words (`specs/Job.antt`), and which files it names are functions of that view
+//! (`specs/Paths.antt`).
 #![tactic(auto)]
 
 mod job;

@@ -1,7 +1,17 @@
 // The files and the image order that a job names.
 ghost use Rattle.std.specs.Prelude.{◌≡◌, ◌↔◌, IsTrue, option_map};
 ghost use Rattle.shop_jobs.specs.Job.{job_view, target_view};
-ghost use Rattle.shop_jobs.specs.Paths.{IsOnStandardInput, certificate_of, file_of, from_of, image_of, named_order_of, out_of, reserve_of as said_places, volume_of as read_as};
+ghost use Rattle.shop_jobs.specs.Paths.{
+  IsOnStandardInput,
+  certificate_of,
+  file_of,
+  from_of,
+  image_of,
+  named_order_of,
+  out_of,
+  reserve_of as said_places,
+  volume_of as read_as,
+};
 
 use crate::{ImageOrder, Job, Target, VolumeOptions};
 

@@ -24,3 +24,5 @@ pub mod EditLines
 pub mod SaveLine
 pub mod VerifyLine
 pub mod IdentifyLine
+pub mod Walk
+pub mod Left

@@ -53,7 +53,8 @@ impl Help {
             Help::Certificate => "File of the certificate, as optimize --cert and plan write it",
             Help::Content => "File whose bytes are saved",
             Help::Type =>
-                "Type of the file: a letter T I A B S R for DOS 3.3, T if left out; two hexadecimal digits for ProDOS, 06 if left out",
+                "Type of the file: a letter T I A B S R for DOS 3.3, T if left out; two hexadecimal digits for \
+                    ProDOS, 06 if left out",
             Help::Aux =>
                 "Auxiliary type, 0 to 65535; for DOS 3.3 the address of a binary file; 0 if left out",
             Help::Date =>

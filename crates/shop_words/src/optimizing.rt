@@ -31,7 +31,8 @@ fn limit_named(word: Option<&str>) -> Option<Option<u64>>
 }
 
 fn optimization_in<'a>(matches: &ArgMatches<'a>) -> Option<Optimization<'a>>
-    ensures { option_map optimization_view result ≡ optimization_by (λ name. first_of name (rows_of (found_of matches.now))) }
+    ensures { option_map optimization_view result
+        ≡ optimization_by (λ name. first_of name (rows_of (found_of matches.now))) }
 {
     Some(Optimization {
         image: said(matches, "image")?,

@@ -1,5 +1,17 @@
 //! The job that clap's matches say.
-ghost use Rattle.std.specs.Prelude.{◌≡◌, ◌≤◌, codes, if◌then◌else◌, IfOk, IfSome, nat_le, None, option_map, Some, string_bytes};
+ghost use Rattle.std.specs.Prelude.{
+  ◌≡◌,
+  ◌≤◌,
+  codes,
+  if◌then◌else◌,
+  IfOk,
+  IfSome,
+  nat_le,
+  None,
+  option_map,
+  Some,
+  string_bytes,
+};
 ghost use Rattle.std.specs.Char.{is_ascii_digit};
 ghost use Rattle.std.specs.List.{list_all};
 ghost use Rattle.clap.specs.Matches.{found_of};
@@ -189,7 +201,8 @@ struct Conversion<'a> {
 }
 
 fn conversion_in<'a>(matches: &ArgMatches<'a>) -> Option<Conversion<'a>>
-    ensures { option_map conversion_view result ≡ conversion_by (λ name. first_of name (rows_of (found_of matches.now))) }
+    ensures { option_map conversion_view result
+        ≡ conversion_by (λ name. first_of name (rows_of (found_of matches.now))) }
 {
     Some(Conversion {
         image: said(matches, "image")?,

@@ -7,9 +7,9 @@ use crate::fault::WordsFault;
 use crate::grammar::{full_command, program};
 use crate::reading::{has_flag, number_named, said};
 use crate::table::{Form, Kind, Parameter, Values, table};
+use crate::{all_escaped, escaped};
 use clap::error::ErrorKind;
 use clap::{ArgMatches, Command, Error};
-use shown_words::{all_escaped, escaped};
 use std::alloc::{AllocError, Global};
 
 /// The form of the command with this name.

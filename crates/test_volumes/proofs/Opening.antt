@@ -1,9 +1,9 @@
 -- An image in DOS order of the right length is taken, and how many blocks one in ProDOS order has.
 use Rattle.std.proofs.Common.{◌≡◌, ◌<◌, ◌≤◌, ◌/◌, ℕ, length, ap, arith}
-use Rattle.sector_order.specs.declared.order.Order.TheVariants.{Dos, Prodos}
+use Rattle.a2_device.specs.declared.order.Order.TheVariants.{Dos, Prodos}
 use Rattle.a2_image.specs.declared.error.ImageError.{ImageError}
 use Rattle.a2_image.specs.declared.error.ImageError.TheVariants.{Length, Memory, Number, NoSector}
-use Rattle.sector_order.specs.Order.{IsImageLength, blocks_of}
+use Rattle.a2_device.specs.Order.{IsImageLength, blocks_of}
 use Rattle.a2_image.specs.Image.{DiskImage, block_count}
 use Rattle.a2_image.specs.Opening.{RefusesToOpen}
 use Rattle.a2_image.proofs.Opened.{IsImageLength-Dos}

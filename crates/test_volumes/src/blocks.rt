@@ -1,13 +1,27 @@
 // ProDOS volumes.
-ghost use Rattle.std.specs.Prelude.{◌≡◌, ◌+◌, ◌*◌, ◌<◌, ◌≤◌, length, take, drop, slice_range, vec_len, IfOk, IfSome, IfNone, IsTrue};
-ghost use Rattle.sector_order.specs.declared.order.Order.TheVariants.{Prodos};
-ghost use Rattle.sector_order.specs.Order.{IsImageLength};
+ghost use Rattle.std.specs.Prelude.{
+  ◌≡◌,
+  ◌+◌,
+  ◌*◌,
+  ◌<◌,
+  ◌≤◌,
+  length,
+  take,
+  drop,
+  slice_range,
+  vec_len,
+  IfOk,
+  IfSome,
+  IfNone,
+  IsTrue,
+};
+ghost use Rattle.a2_device.specs.declared.order.Order.TheVariants.{Prodos};
+ghost use Rattle.a2_device.specs.Order.{IsImageLength};
 
 use crate::IMAGE_BYTES;
-use a2_device::Device;
+use a2_device::{Device, Order};
 use a2_image::Image;
-use image_device::ImageDevice;
-use sector_order::Order;
+use a2_media::ImageDevice;
 use std::alloc::{AllocError, Allocator, Global};
 
 /// The bytes of an image of 8,192 blocks.
@@ -20,9 +34,11 @@ const DATE: [u8; 4] = [0xa1, 0xac, 0x1e, 0x0c];
 pub fn put_in_block(image: &mut [u8], block: usize, offset: usize, bytes: &[u8])
     requires block { 512 * block + 512 ≤ length image.old }
     requires within { offset + length bytes.now ≤ 512 }
-    ensures written { slice_range image.new (512 * block + offset) (512 * block + offset + length bytes.now) ≡ bytes.now }
+    ensures written { slice_range image.new (512 * block + offset) (512 * block + offset + length bytes.now)
+        ≡ bytes.now }
     ensures before { take (512 * block + offset) image.new ≡ take (512 * block + offset) image.old }
-    ensures behind { drop (512 * block + offset + length bytes.now) image.new ≡ drop (512 * block + offset + length bytes.now) image.old }
+    ensures behind { drop (512 * block + offset + length bytes.now) image.new
+        ≡ drop (512 * block + offset + length bytes.now) image.old }
 {
     let start = 512 * block + offset;
     image[start..start + bytes.len()].copy_from_slice(bytes);
@@ -41,8 +57,8 @@ fn put_directory(image: &mut [u8], files: u8, blocks: [u8; 2])
     put_in_block(image, 5, 0x00, &[4, 0, 0, 0]);
 }
 
-/// A volume of 280 blocks with the one file `BIG`, a tree of 131,075 bytes: its master index is block 7, index 1 block 9
-/// and unit 256 of its body block 8.
+/// A volume of 280 blocks with the one file `BIG`, a tree of 131,075 bytes: its master index is block 7, index 1 block
+/// 9 and unit 256 of its body block 8.
 pub fn tree<A: Allocator>(alloc: A) -> Result<Vec<u8, A>, AllocError>
     ensures { IfOk result (λ image. vec_len image ≡ 143360) }
 {
@@ -117,7 +133,8 @@ pub fn seedlings_far_out<A: Allocator>(alloc: A) -> Result<Vec<u8, A>, AllocErro
 /// blocks.
 pub fn block_device(image: Vec<u8>) -> Option<ImageDevice>
     ensures unit { IfSome result (λ device. (⟦<ImageDevice<Global> as Device>⟧.state device).unit_size ≡ 512) }
-    ensures places { IfSome result (λ device. (16 ≤ (⟦<ImageDevice<Global> as Device>⟧.state device).places) × ((⟦<ImageDevice<Global> as Device>⟧.state device).places < 65536)) }
+    ensures places { IfSome result (λ device. (16 ≤ (⟦<ImageDevice<Global> as Device>⟧.state device).places)
+        × ((⟦<ImageDevice<Global> as Device>⟧.state device).places < 65536)) }
     ensures honest { IfSome result (λ device. IsTrue (⟦<ImageDevice<Global> as Device>⟧.state device).honest) }
     ensures refused { IfNone result (IsImageLength Prodos (vec_len image) → ⊥) }
 {

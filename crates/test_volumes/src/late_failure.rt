@@ -78,7 +78,8 @@ impl<D: Device> LateFailure<D> {
 impl<D: Device> Device for LateFailure<D> {
     ghost state = { λ s. unbounded (⟦<FaultDevice<D> as Device>⟧.state s.device) };
 
-    ghost whole = { λ s h. record { all = (D.whole s.device.device h).all; units = (D.whole s.device.device h).units } };
+    ghost whole = { λ s h. record
+        { all = (D.whole s.device.device h).all; units = (D.whole s.device.device h).units } };
 
     fn places(&self) -> u32 {
         self.device.places()

@@ -1,5 +1,5 @@
-//! The volumes that tests are run on, made in memory from the formats, and a device of which one call fails after so many
-//! others. No program uses it.
+//! The volumes that tests are run on, made in memory from the formats, and a device of which one call fails after so
+//! many others. No program uses it.
 //!
 //! Each is the bytes of an image: in DOS order, 35 tracks of 16 sectors of 256 bytes; in ProDOS order, blocks of 512
 //! bytes. What is not named is 0.
@@ -10,14 +10,13 @@ mod late_failure;
 
 ghost use Rattle.std.specs.Prelude.{◌≡◌, ◌+◌, ◌*◌, ◌<◌, ◌≤◌, length, take, drop, slice_range, vec_len, IfOk, IsTrue};
 
-use a2_device::Device;
+use a2_device::{Device, Order};
 use a2_image::Image;
+use a2_media::ImageDevice;
 pub use blocks::{
     LARGE_BYTES, block_device, put_in_block, seedlings_far_out, tree, tree_and_subdirectory,
 };
-use image_device::ImageDevice;
 pub use late_failure::LateFailure;
-use sector_order::Order;
 use std::alloc::{AllocError, Allocator, Global};
 
 /// The bytes of a disk's image.
@@ -40,9 +39,11 @@ pub fn put(image: &mut [u8], place: usize, offset: usize, bytes: &[u8])
     requires whole { length image.old ≡ 143360 }
     requires place { place < 560 }
     requires within { offset + length bytes.now ≤ 256 }
-    ensures written { slice_range image.new (256 * place + offset) (256 * place + offset + length bytes.now) ≡ bytes.now }
+    ensures written { slice_range image.new (256 * place + offset) (256 * place + offset + length bytes.now)
+        ≡ bytes.now }
     ensures before { take (256 * place + offset) image.new ≡ take (256 * place + offset) image.old }
-    ensures behind { drop (256 * place + offset + length bytes.now) image.new ≡ drop (256 * place + offset + length bytes.now) image.old }
+    ensures behind { drop (256 * place + offset + length bytes.now) image.new
+        ≡ drop (256 * place + offset + length bytes.now) image.old }
 {
     let start = 256 * place + offset;
     image[start..start + bytes.len()].copy_from_slice(bytes);
@@ -114,7 +115,8 @@ pub fn put_entry(
     put(image, place, FIRST_ENTRY + ENTRY_BYTES * slot, &entry);
 }
 
-/// The volume with the one file `HELLO`, locked and binary: its list at track 3 sector 14, its body at track 3 sector 15.
+/// The volume with the one file `HELLO`, locked and binary: its list at track 3 sector 14, its body at track 3 sector
+/// 15.
 pub fn hello<A: Allocator>(alloc: A) -> Result<Vec<u8, A>, AllocError>
     ensures { IfOk result (λ image. vec_len image ≡ 143360) }
 {

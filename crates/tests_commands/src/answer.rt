@@ -1,6 +1,6 @@
 // Lines of words, and what is answered to them.
-use job_reply::Reply;
 use shop_commands::run_command;
+use shop_replies::Reply;
 use std::alloc::{AllocError, Global};
 use std::io::{Read, Write};
 use std::process::Abort;

@@ -1,11 +1,17 @@
-//! Tests of `shop_words`, `job_reply` and `shop_commands`: the words of each command, replies and how they are told, commands from
-//! words to the text, and readers and writers that fail. What is answered on worked volumes, `tests/end_to_end` tests on the program.
+//! Tests of the libraries of jobs and words: the words of each command, lists of words for the program itself
+//! (`shop_words`), replies and how they are told (`shop_replies`), commands from words to the text, readers and writers
+//! that fail (`shop_commands`), and what is explained of a text (`explanations`). Each public call on its happy path,
+//! with literal values. What is answered on worked volumes, `tests/end_to_end` tests on the program.
 #![tactic(auto)]
 
 #[cfg(test)]
 mod answer;
 #[cfg(test)]
 mod commands;
+#[cfg(test)]
+mod explained;
+#[cfg(test)]
+mod front;
 #[cfg(test)]
 mod replies;
 #[cfg(test)]

@@ -1,8 +1,8 @@
-// What is told and handed out of replies: `job_reply`.
+// What is told and handed out of replies: `shop_replies`.
 use crate::answer::Answer;
+use a2_device::Order;
 use a2_image::ImageError;
-use job_reply::{Reply, most_bytes, open_disk, written};
-use sector_order::Order;
+use shop_replies::{Reply, most_bytes, open_disk, written};
 use std::test::Fail;
 
 #[test]

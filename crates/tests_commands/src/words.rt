@@ -107,8 +107,8 @@ fn an_image_may_be_in_each_order(rt: HostRuntime) -> Result<(), Fail> {
     Ok(())
 }
 
-/// The words of a line are those of a check of the DOS volume in a.dsk, in ProDOS order, with this text of the places to
-/// reserve.
+/// The words of a line are those of a check of the DOS volume in a.dsk, in ProDOS order, with this text of the places
+/// to reserve.
 fn checks(
     rt: &impl Abort,
     alloc: Global,

@@ -1,13 +1,12 @@
 //! The catalog: its walk, its slots, and writes into them.
 ghost use Rattle.std.specs.Prelude.{◌≡◌, length, vec_len};
 
-use a2_device::Device;
+use a2_device::{Device, WalkError};
 use dos_catalog::{Catalog, NewEntry, encode, erase, set_kind, set_name, set_pointer};
 use dos_vtoc::{VTOC_PLACE, Vtoc};
 use std::alloc::{Allocator, Global};
 use std::test::Fail;
 use test_volumes::{FIRST_CATALOG, VTOC, dos_device, dos_volume, hello, put};
-use vol_parts::WalkError;
 
 // The catalog of a volume, with memory of its own.
 pub fn catalog_of<A: Allocator + Copy>(alloc: A, image: Vec<u8>) -> Result<Catalog<A>, WalkError>

@@ -3,6 +3,7 @@ ghost use Rattle.std.specs.Prelude.{◌≡◌, ◌<◌, ◌≤◌};
 ghost use Rattle.dos_format.specs.Dos.{HasDosSlot};
 
 use crate::gaps::gaps;
+use a2_device::{Part, PartKind};
 use dos_format::Dos33;
 use reserved_places::Reserved;
 use std::alloc::{AllocError, Global};
@@ -10,7 +11,6 @@ use std::test::Fail;
 use test_volumes::{dos_device, hello};
 use vol_format::{Format, Holder, WritableFormat};
 use vol_layout::Layout;
-use vol_parts::{Part, PartKind};
 
 // A part of the first file.
 fn part(kind: PartKind, number: u32) -> Part

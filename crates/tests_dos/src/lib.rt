@@ -1,5 +1,5 @@
-//! The tests of `reserved_places`, `dos_vtoc`, `dos_catalog`, `dos_tslist` and `dos_format`, and of `new_files`
-//! for DOS 3.3: the worked rows with literal values, each public call on its happy path, refused memory, and reads that fail.
+//! The tests of `reserved_places`, `dos_vtoc`, `dos_catalog`, `dos_tslist` and `dos_format`, and of `new_files` for DOS
+//! 3.3: the worked rows with literal values, each public call on its happy path, refused memory, and reads that fail.
 #![tactic(auto)]
 
 #[cfg(test)]

@@ -2,13 +2,12 @@
 ghost use Rattle.std.specs.Prelude.{◌≡◌, ◌<◌, ◌≤◌, ◌+◌, vec_len};
 
 use crate::gaps::gaps;
-use a2_device::{Device, FaultDevice};
+use a2_device::{Device, Fault, FaultDevice, Part, PartKind, WalkError};
 use dos_catalog::Entry;
 use dos_tslist::{next, pair, set_next, set_pair, walk};
 use std::alloc::{AllocError, Allocator, Global};
 use std::test::Fail;
 use test_volumes::{dos_device, put};
-use vol_parts::{Fault, Part, PartKind, WalkError};
 
 // An entry in the first slot of track 17, sector 15, that points to a list.
 fn entry(track: u8, sector: u8) -> Entry {

@@ -1,11 +1,12 @@
 //! The map of free sectors.
+use a2_device::Fault;
 use dos_vtoc::Vtoc;
 use std::alloc::{AllocError, Global};
 use std::test::Fail;
 use test_volumes::{VTOC, dos_volume};
-use vol_parts::Fault;
 
-// The VTOC of volume 254, whose catalog begins at track 17, sector 15: tracks 0, 1, 2 and 17 are used, and of track 3 two sectors.
+// The VTOC of volume 254, whose catalog begins at track 17, sector 15: tracks 0, 1, 2 and 17 are used, and of track 3
+// two sectors.
 fn sample(alloc: Global) -> Result<[u8; 256], AllocError> {
     let image = dos_volume(alloc, [0x3f, 0xff])?;
     let mut unit = [0; 256];

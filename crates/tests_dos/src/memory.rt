@@ -2,11 +2,11 @@
 use crate::catalogs::catalog_of;
 use crate::gaps::gaps;
 use crate::lists::parts_of;
+use a2_device::WalkError;
 use refusing::Refusing;
 use std::alloc::{AllocError, Global};
 use std::test::Fail;
 use test_volumes::hello;
-use vol_parts::WalkError;
 
 #[derive(Clone, Copy, Debug)]
 enum Call {

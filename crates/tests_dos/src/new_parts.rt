@@ -1,11 +1,11 @@
 //! The parts of new files, and the units of their lists.
 ghost use Rattle.std.specs.Prelude.{◌≤◌, ◌<◌};
 
+use a2_device::PartKind;
 use new_files::{NewFileError, NewPart, build_list, dos_parts, parts_of_a_new_dos_file};
 use refusing::Refusing;
 use std::alloc::{Allocator, Global};
 use std::test::Fail;
-use vol_parts::PartKind;
 
 // The parts of a file of which these units are stored.
 fn parts_of<A: Allocator>(alloc: A, stored: &[bool]) -> Result<Vec<NewPart, A>, NewFileError> {
@@ -87,8 +87,8 @@ fn refused_memory_is_told_of_a_new_file(rt: HostRuntime) {
     }
 }
 
-// The unit of part `at` of a file, if that is a list. The units 0 and 122 of the file are stored, and its four parts stand at
-// this place and behind it.
+// The unit of part `at` of a file, if that is a list. The units 0 and 122 of the file are stored, and its four parts
+// stand at this place and behind it.
 fn unit_of_list(alloc: Global, place: u32, at: usize) -> Result<Option<[u8; 256]>, NewFileError>
     requires low { 16 ≤ place }
     requires high { place < 556 }

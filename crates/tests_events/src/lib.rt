@@ -1,4 +1,5 @@
-//! Tests of lists of events (`event_replay`): worked rows with literal values on both formats, random lists, and refused memory.
+//! Tests of lists of events (`event_replay`): worked rows with literal values on both formats, random lists, and
+//! refused memory.
 #![tactic(auto)]
 
 #[cfg(test)]

@@ -1,4 +1,5 @@
-//! Refused memory: whichever block is refused, the answers end where there is no memory for a session, and a read tells the want of it.
+//! Refused memory: whichever block is refused, the answers end where there is no memory for a session, and a read tells
+//! the want of it.
 use crate::volumes::{Told, answered, are_told, dos33};
 use event_replay::Event;
 use refusing::Refusing;

@@ -1,5 +1,5 @@
-//! Random lists of events on two volumes, weighed by a plain program that shares nothing with the code: it knows the eight writes that bring
-//! each of them into order, and what stands after so many of them.
+//! Random lists of events on two volumes, weighed by a plain program that shares nothing with the code: it knows the
+//! eight writes that bring each of them into order, and what stands after so many of them.
 use crate::blocks::{big, on_tree};
 use crate::volumes::{Told, dos33, end_of};
 use event_replay::Event;

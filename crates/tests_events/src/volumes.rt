@@ -2,9 +2,9 @@
 ghost use Rattle.std.specs.Prelude.{◌≡◌, IfOk, vec_len};
 
 use a2_device::Device;
+use a2_media::ImageDevice;
 use dos_format::Dos33;
 use event_replay::{Answer, Event, replay};
-use image_device::ImageDevice;
 use reserved_places::Reserved;
 use std::alloc::{AllocError, Allocator, Global};
 use test_volumes::dos_device;

@@ -5,7 +5,7 @@ ghost use Rattle.a2_device.specs.Device.{DeviceState};
 use crate::dos_listings::dos_33;
 use crate::pieces::{Piece, hello_with, put_pieces, sub_with};
 use a2_device::Device;
-use edit_writes::EditError;
+use edit_formats::EditError;
 use file_edits::delete;
 use pro_format::Prodos;
 use reserved_places::Reserved;
@@ -72,7 +72,8 @@ fn is_deleted(alloc: Global, image: Vec<u8>, path: &[u8], wanted: &[u8]) -> bool
     deleted_on_blocks(alloc, image, path, wanted) == Some((None, true))
 }
 
-/// BIG is deleted: its entry stands in the key block, its master index is block 7, its index block 9 and its body block 8.
+/// BIG is deleted: its entry stands in the key block, its master index is block 7, its index block 9 and its body block
+/// 8.
 static BIG_DELETED: [Piece; 3] = [
     (2, 0x2b, &[0x00]),
     (2, 0x25, &[1]),
@@ -106,7 +107,8 @@ fn a_file_far_out_is_deleted(rt: HostRuntime) -> Result<(), Fail> {
     Ok(())
 }
 
-/// A path, the first bytes of the list of HELLO, which is locked; they lead to no list or to itself; and why no file is deleted.
+/// A path, the first bytes of the list of HELLO, which is locked; they lead to no list or to itself; and why no file is
+/// deleted.
 static DOS_REFUSALS: [(&[u8], [u8; 3], EditError); 4] = [
     (b"HELLO", [0, 0, 0], EditError::Locked),
     (b"NONE", [0, 0, 0], EditError::NotFound),

@@ -45,8 +45,8 @@ fn lists_one_file(rt: HostRuntime) -> Result<(), Fail> {
     Ok(())
 }
 
-/// Entries of catalog sectors: the place of the sector, the slot, the track of the list, the kind, the name, and the length in sectors.
-/// Two of the first sector are free, and one slot of the second.
+/// Entries of catalog sectors: the place of the sector, the slot, the track of the list, the kind, the name, and the
+/// length in sectors. Two of the first sector are free, and one slot of the second.
 static ENTRIES: [(usize, usize, u8, u8, &str, u8); 13] = [
     (FIRST_CATALOG, 0, 3, 0x00, "TEXT", 1),
     (FIRST_CATALOG, 1, 3, 0x81, "INTEGER", 2),

@@ -5,12 +5,11 @@ ghost use Rattle.a2_device.specs.Device.{DeviceState};
 use crate::dos_listings::dos_33;
 use crate::pieces::{Piece, hello_with, put_pieces};
 use crate::runs::are_runs;
-use a2_device::Device;
+use a2_device::{Device, Order};
 use a2_image::Image;
+use a2_media::ImageDevice;
 use file_cmds::{CmdError, read};
-use image_device::ImageDevice;
 use refusing::Refusing;
-use sector_order::Order;
 use std::alloc::{AllocError, Allocator, Global};
 use std::test::Fail;
 use test_volumes::{FIRST_CATALOG, dos_device, dos_volume, hello, put_entry};
@@ -87,7 +86,8 @@ fn gaps(alloc: Global) -> Result<Vec<u8>, AllocError>
     Ok(image)
 }
 
-/// Whether a read of the body, where the file has this kind and its unit begins with these bytes, gives these runs of bytes.
+/// Whether a read of the body, where the file has this kind and its unit begins with these bytes, gives these runs of
+/// bytes.
 fn reads_kind(
     alloc: Global,
     kind: u8,
@@ -98,8 +98,8 @@ fn reads_kind(
     Ok(reads(alloc, image, false, runs))
 }
 
-/// A kind, the first bytes of the unit, and the runs of the body: of programs that are cut, of binary files that are, and of other
-/// files, which are left.
+/// A kind, the first bytes of the unit, and the runs of the body: of programs that are cut, of binary files that are,
+/// and of other files, which are left.
 static KINDS: [(u8, [u8; 7], &[(usize, u8)]); 8] = [
     (0x02, [2, 0, 7, 8, 9, 9, 0], &[(1, 7), (1, 8)]),
     (0x81, [3, 0, 7, 8, 9, 9, 0], &[(1, 7), (1, 8), (1, 9)]),
@@ -176,7 +176,8 @@ fn broken_tracks(alloc: Global, at: usize) -> Result<Image, Fail> {
     opened(bytes, Order::Nibble)
 }
 
-/// Why a read of HELLO fails on its volume with a broken sector, and how many faults the device has told; a body is the right one.
+/// Why a read of HELLO fails on its volume with a broken sector, and how many faults the device has told; a body is the
+/// right one.
 fn read_broken(alloc: Global, at: usize) -> Result<(Option<CmdError>, u64), Fail> {
     let image = broken_tracks(alloc, at)?;
     if image.blocks() != 280 {
@@ -190,8 +191,8 @@ fn read_broken(alloc: Global, at: usize) -> Result<(Option<CmdError>, u64), Fail
     }
 }
 
-/// Sectors of tracks: in turn those of the map, the last of the catalog's, the list's, the body's, and one that is not read; and how many
-/// faults there are.
+/// Sectors of tracks: in turn those of the map, the last of the catalog's, the list's, the body's, and one that is not
+/// read; and how many faults there are.
 static SECTORS: [(usize, usize, u64); 5] = [
     (17, 0, 1),
     (17, 13, 1),

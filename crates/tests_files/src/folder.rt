@@ -182,7 +182,8 @@ impl Folder {
         self.calls.get()
     }
 
-    /// Whether these names stand there, in the order in which they were put there, each with this access mode and this text.
+    /// Whether these names stand there, in the order in which they were put there, each with this access mode and this
+    /// text.
     pub fn holds(&self, stated: &[(&str, u32, &str)]) -> bool {
         match self.entries.try_borrow() {
             Ok(entries) => are_entries(&entries, stated),

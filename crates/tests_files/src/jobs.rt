@@ -1,4 +1,5 @@
-//! Jobs that change the files of a volume, each block of memory refused in turn, and each of their reads and writes failing.
+//! Jobs that change the files of a volume, each block of memory refused in turn, and each of their reads and writes
+//! failing.
 ghost use Rattle.std.specs.Prelude.{◌≡◌, ◌<◌, ◌≤◌};
 ghost use Rattle.a2_device.specs.Device.{DeviceState};
 
@@ -7,7 +8,7 @@ use crate::late_failures::{Failure, late};
 use crate::pieces::{Piece, hello_with, put_writes, sub_with, tree_with};
 use crate::savings::{fill_block, save_hi, save_hole, save_note};
 use a2_device::Device;
-use edit_writes::EditError;
+use edit_formats::EditError;
 use refusing::Refusing;
 use std::alloc::{AllocError, Allocator, Global};
 use std::test::Fail;
@@ -45,8 +46,8 @@ static JOBS: [(&str, Job, u64); 6] = [
     ("save HOLE", Job::Pro(ProJob::SaveHole), 6),
 ];
 
-/// HELLO, which is not locked, is deleted: its entry gets its track, 3, in the last byte of its name, and FF in its place;
-/// sectors 14 and 15 of track 3 become free.
+/// HELLO, which is not locked, is deleted: its entry gets its track, 3, in the last byte of its name, and FF in its
+/// place; sectors 14 and 15 of track 3 become free.
 static HELLO_DELETED: [&[Piece]; 2] = [
     &[
         (FIRST_CATALOG, 0x0b, &[0xff]),
@@ -55,8 +56,8 @@ static HELLO_DELETED: [&[Piece]; 2] = [
     &[(VTOC, 0x44, &[0xff, 0xff])],
 ];
 
-/// SUB/A is deleted, whose entry stands in the key block, 10: its slot becomes inactive, the subdirectory has no file, and block 11
-/// becomes free.
+/// SUB/A is deleted, whose entry stands in the key block, 10: its slot becomes inactive, the subdirectory has no file,
+/// and block 11 becomes free.
 static SUB_DELETED: [&[Piece]; 2] = [
     &[(10, 0x2b, &[0x00]), (10, 0x25, &[0])],
     &[(6, 0x01, &[0x1f])],
@@ -72,15 +73,16 @@ static SECOND: [Piece; 6] = [
     (6, 0x01, &[0x37]),
 ];
 
-/// C is deleted: its slot becomes inactive; the volume directory, whose key block is block 2, has one file; block 12 becomes free.
+/// C is deleted: its slot becomes inactive; the volume directory, whose key block is block 2, has one file; block 12
+/// becomes free.
 static SECOND_DELETED: [&[Piece]; 3] = [
     &[(3, 0x04, &[0x00])],
     &[(2, 0x25, &[1])],
     &[(6, 0x01, &[0x3f])],
 ];
 
-/// HI is saved: its list at track 3 sector 13, its body at track 3 sector 12, the map of track 3, and its entry at byte 2E of the
-/// first sector of the catalog.
+/// HI is saved: its list at track 3 sector 13, its body at track 3 sector 12, the map of track 3, and its entry at byte
+/// 2E of the first sector of the catalog.
 static HI_SAVED: [&[Piece]; 4] = [
     &[(61, 0x0c, &[3, 12])],
     &[(60, 0x00, &[0x00, 0x03, 0x03, 0x00, 0xa9, 0x00, 0x60])],
@@ -92,8 +94,8 @@ static HI_SAVED: [&[Piece]; 4] = [
     ],
 ];
 
-/// The three bytes of NOTE are saved: the seedling in block 10, the map, and its entry at byte 52 of block 2, where the volume
-/// directory counts its files.
+/// The three bytes of NOTE are saved: the seedling in block 10, the map, and its entry at byte 52 of block 2, where the
+/// volume directory counts its files.
 static NOTE_SAVED: [&[Piece]; 3] = [
     &[(10, 0x00, b"abc")],
     &[(6, 0x01, &[0x1f])],
@@ -107,8 +109,8 @@ static NOTE_SAVED: [&[Piece]; 3] = [
     ],
 ];
 
-/// HOLE is saved, a file of three units of which the second is a hole: its index block 10, its body in blocks 11 and 12, the map,
-/// its entry in the first slot of block 3, and the count in block 2.
+/// HOLE is saved, a file of three units of which the second is a hole: its index block 10, its body in blocks 11 and
+/// 12, the map, its entry in the first slot of block 3, and the count in block 2.
 static HOLE_SAVED: [&[Piece]; 6] = [
     &[(10, 0x00, &[11, 0, 12])],
     &[(11, 0x00, &[1; 512])],
@@ -266,8 +268,8 @@ fn is_image(alloc: Global, job: Job, writes: u64, image: &[u8]) -> bool {
     }
 }
 
-/// Why a job is not done with a failure after so many calls of its kind, and whether the image is then as it is after so many of its
-/// writes.
+/// Why a job is not done with a failure after so many calls of its kind, and whether the image is then as it is after
+/// so many of its writes.
 fn told(
     alloc: Global,
     job: Job,

@@ -5,10 +5,10 @@ ghost use Rattle.a2_device.specs.Device.{DeviceState};
 use crate::dos_listings::dos_33;
 use crate::pieces::{hello_with, sub_with};
 use a2_device::Device;
-use edit_writes::EditError;
+use a2_media::ImageDevice;
+use edit_formats::EditError;
 use file_cmds::{CmdError, catalog, read};
 use file_edits::lock;
-use image_device::ImageDevice;
 use pro_format::Prodos;
 use reserved_places::Reserved;
 use std::alloc::{AllocError, Global};
@@ -118,8 +118,10 @@ fn is_image(alloc: Global, volume: Volume, is_locked: bool, image: &[u8]) -> boo
 
 /// The device with this failure after so many calls.
 pub fn late(device: ImageDevice, failure: Failure, before: u64) -> LateFailure<ImageDevice>
-    ensures unit { (⟦<LateFailure<ImageDevice> as Device>⟧.state result).unit_size ≡ (⟦<ImageDevice as Device>⟧.state device).unit_size }
-    ensures places { (⟦<LateFailure<ImageDevice> as Device>⟧.state result).places ≡ (⟦<ImageDevice as Device>⟧.state device).places }
+    ensures unit { (⟦<LateFailure<ImageDevice> as Device>⟧.state result).unit_size
+        ≡ (⟦<ImageDevice as Device>⟧.state device).unit_size }
+    ensures places { (⟦<LateFailure<ImageDevice> as Device>⟧.state result).places
+        ≡ (⟦<ImageDevice as Device>⟧.state device).places }
 {
     match failure {
         Failure::Read => LateFailure::read(device, before),
@@ -169,8 +171,8 @@ fn ended_on(alloc: Global, (volume, call): Row, failure: Failure, before: u64) -
     }
 }
 
-/// Whether the end of a call on a volume with such a failure is told, and the image is then as it was, or for a write whose new unit stands
-/// as the call leaves it.
+/// Whether the end of a call on a volume with such a failure is told, and the image is then as it was, or for a write
+/// whose new unit stands as the call leaves it.
 fn is_told(alloc: Global, (volume, _): Row, failure: Failure, ended: &Ended) -> bool {
     let is_locked = matches!(failure, Failure::Write { took: true });
     let is_failed = ended.end == End::Failed && ended.faults == 1;
@@ -200,7 +202,8 @@ fn tell(alloc: Global, row: Row, failure: Failure, before: u64) -> Told {
     }
 }
 
-/// How many reads or writes a call on a volume makes, where each of them fails in turn and is told; `None` where one is told otherwise.
+/// How many reads or writes a call on a volume makes, where each of them fails in turn and is told; `None` where one is
+/// told otherwise.
 fn count_told(alloc: Global, row: Row, failure: Failure) -> Option<u64> {
     for before in 0..1000u64 {
         match tell(alloc, row, failure, before) {

@@ -1,6 +1,7 @@
-//! Tests of the libraries of files: of `file_cmds`, `file_listings`, `file_edits`, `file_saving` and `plan_steps` worked volumes of DOS 3.3 and ProDOS with the literal text of
-//! their listings and the literal bytes of their files, each public call on its happy path, refused memory, and each read and write failing in turn; of
-//! `whole_file` files that are replaced in a folder in memory, whose calls fail in turn.
+//! Tests of the libraries of files: of `file_cmds`, `file_listings` and `file_edits` worked volumes of DOS 3.3 and
+//! ProDOS with the literal text of their listings and the literal bytes of their files, each public call on its happy
+//! path, refused memory, and each read and write failing in turn; of `shop_files` files that are replaced in a folder
+//! in memory, whose calls fail in turn.
 #![tactic(auto)]
 
 #[cfg(test)]

@@ -2,16 +2,15 @@
 ghost use Rattle.std.specs.Prelude.{◌≡◌, ◌<◌, ◌≤◌};
 ghost use Rattle.a2_device.specs.Device.{DeviceState};
 
-use a2_device::Device;
+use a2_device::{Device, Part, PartKind};
 use file_cmds::{CmdError, read_volume};
-use plan_steps::{ProSteps, Step};
+use file_listings::{ProSteps, Step};
 use pro_format::Prodos;
 use refusing::Refusing;
 use reserved_places::Reserved;
 use std::alloc::{AllocError, Allocator, Global};
 use std::test::Fail;
 use test_volumes::{block_device, tree_and_subdirectory};
-use vol_parts::{Part, PartKind};
 
 /// A unit of BIG goes past the blocks of SUB/A, whose body then comes to stand where it stood.
 static STEPS: [Step; 2] = [

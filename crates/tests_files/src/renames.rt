@@ -5,7 +5,7 @@ ghost use Rattle.a2_device.specs.Device.{DeviceState};
 use crate::dos_listings::dos_33;
 use crate::pieces::{Piece, hello_with, sub_with};
 use a2_device::Device;
-use edit_writes::EditError;
+use edit_formats::EditError;
 use file_edits::rename;
 use pro_format::Prodos;
 use reserved_places::Reserved;

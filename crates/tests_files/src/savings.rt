@@ -5,8 +5,8 @@ ghost use Rattle.a2_device.specs.Device.{DeviceState};
 use crate::dos_listings::dos_33;
 use crate::pieces::{Piece, hello_with, put_pieces};
 use a2_device::Device;
-use edit_writes::EditError;
-use file_saving::save;
+use edit_formats::EditError;
+use file_edits::save;
 use pro_dir::ProDate;
 use pro_format::Prodos;
 use reserved_places::Reserved;
@@ -43,8 +43,8 @@ fn save_on_dos<A: Allocator + Copy, D: Device>(
     }
 }
 
-/// Why a file is not saved to a ProDOS volume; `None` where it is. Its type is 06, its auxiliary type 2000, and its date
-/// 1 May 1986, 12:30.
+/// Why a file is not saved to a ProDOS volume; `None` where it is. Its type is 06, its auxiliary type 2000, and its
+/// date 1 May 1986, 12:30.
 fn save_on_blocks<A: Allocator + Copy, D: Device>(
     alloc: A,
     device: &mut D,
@@ -67,7 +67,8 @@ fn save_on_blocks<A: Allocator + Copy, D: Device>(
     save(alloc, device, &format, path, &said, stored, units).err()
 }
 
-/// Why the file HI, of one unit, is not saved to a DOS 3.3 volume: its body is the address 768, the length 3, and three bytes.
+/// Why the file HI, of one unit, is not saved to a DOS 3.3 volume: its body is the address 768, the length 3, and three
+/// bytes.
 pub fn save_hi<A: Allocator + Copy, D: Device>(alloc: A, device: &mut D) -> Option<EditError>
     requires unit { (D.state device.old).unit_size ≡ 256 }
     requires places { (D.state device.old).places ≡ 560 }
@@ -270,7 +271,8 @@ static PRO_REFUSALS: [(&[u8], u32, EditError); 9] = [
     (b"SUB/B", 16_777_216, EditError::TooLong),
 ];
 
-/// Why a file of one unit is not saved to a ProDOS volume, and whether the image then has these bytes; `None` where there is no image.
+/// Why a file of one unit is not saved to a ProDOS volume, and whether the image then has these bytes; `None` where
+/// there is no image.
 fn unit_saved(
     alloc: Global,
     image: Vec<u8>,

@@ -2,12 +2,12 @@
 
 use crate::folder::{Folder, Kind, Mounted};
 use refusing::Refusing;
+use shop_files::{AsideFile, Place, Standing, Target, target_of};
 use std::alloc::{AllocError, Allocator, Global};
 use std::io::{self, ErrorKind, Write};
 use std::os::unix::fs::PermissionsExt;
 use std::rt::Files;
 use std::test::Fail;
-use whole_file::{AsideFile, Place, Standing, Target, target_of};
 
 /// What of a mode is no kind.
 const MODE_BITS: u32 = 0o7777;
@@ -50,8 +50,8 @@ static OLD: [(&str, u32, &str); 2] = [("image", 0o644, "old"), ("link", 0o777, "
 
 static NEWER: [(&str, u32, &str); 2] = [("link", 0o777, "image"), ("image", 0o644, "newer")];
 
-/// Why the file is not replaced that a path leads to in that folder, where the call after so many others fails, and whether then this stands
-/// in the folder.
+/// Why the file is not replaced that a path leads to in that folder, where the call after so many others fails, and
+/// whether then this stands in the folder.
 fn replaced(
     alloc: Global,
     failing: Option<u32>,
@@ -79,8 +79,9 @@ fn a_file_that_is_new(rt: HostRuntime) -> Result<(), Fail> {
     Ok(())
 }
 
-/// Where a call fails, its error is the answer, or that no file can be written there, what stood there stands, and no file aside
-/// does. The calls: asked twice where the path leads; made, given its mode, written twice, put onto the disk, renamed.
+/// Where a call fails, its error is the answer, or that no file can be written there, what stood there stands, and no
+/// file aside does. The calls: asked twice where the path leads; made, given its mode, written twice, put onto the
+/// disk, renamed.
 #[test]
 fn each_call_failing(rt: HostRuntime) -> Result<(), Fail> {
     for failing in 0..8u32 {

@@ -1,3 +1,3 @@
 mod Trials
-mod Plans
+mod MadePlans
 mod Resumes

@@ -9,7 +9,7 @@ use Rattle.vol_layout.specs.Plans.{IsPlan, after, moved}
 use Rattle.vol_layout.specs.declared.moves.Move.{Move}
 use Rattle.vol_layout.proofs.Lists.{has, has-Contains, Contains-has}
 use Rattle.vol_format.specs.Directory.{Directory}
-use Rattle.plan_writes.specs.Work.{LeadsToTarget, AreSpare}
+use Rattle.vol_mover.specs.Work.{LeadsToTarget, AreSpare}
 
 both : (a b : Bool) → (a && b) ≡ true → (a ≡ true) × (b ≡ true)
 both true b is = (refl, is)

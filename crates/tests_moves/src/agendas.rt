@@ -1,22 +1,22 @@
 //! The writes that make the moves of a plan.
 ghost use Rattle.std.specs.Prelude.{◌≡◌, ◌<◌, [], length};
-ghost use Rattle.plan_writes.specs.Work.{LeadsToTarget, AreSpare};
+ghost use Rattle.vol_mover.specs.Work.{LeadsToTarget, AreSpare};
 ghost use Rattle.vol_format.specs.Directory.{Directory};
 ghost use Rattle.dos_format.specs.Dos.{dos_available};
 
 use dos_format::Dos33;
-use plan_writes::{Agenda, Write};
 use refusing::Refusing;
 use reserved_places::Reserved;
 use std::alloc::{AllocError, Allocator, Global};
 use std::test::Fail;
 use test_volumes::{dos_device, hello};
 use vol_format::Format;
+use vol_laws::Mark;
 use vol_layout::Move;
-use write_laws::Mark;
+use vol_mover::{Agenda, Write};
 
-// A write of an agenda: how many writes and moves are left before it, and of the map the places that it marks used, and those that it
-// then marks free.
+// A write of an agenda: how many writes and moves are left before it, and of the map the places that it marks used, and
+// those that it then marks free.
 #[derive(Clone, Copy)]
 struct Step<'a> {
     writes: usize,
@@ -100,8 +100,10 @@ fn agenda_of<A: Allocator + Copy>(
     lost: &[u32],
     moves: &[Move],
 ) -> Result<Agenda<A>, AllocError>
-    requires plan { (directory : Directory) → directory.available ≡ dos_available data_disk [] → LeadsToTarget directory at.now moves.now }
-    requires spare { (directory : Directory) → directory.available ≡ dos_available data_disk [] → directory.map_size ≡ 560 → AreSpare directory at.now lost.now }
+    requires plan { (directory : Directory) → directory.available ≡ dos_available data_disk []
+        → LeadsToTarget directory at.now moves.now }
+    requires spare { (directory : Directory) → directory.available ≡ dos_available data_disk []
+        → directory.map_size ≡ 560 → AreSpare directory at.now lost.now }
     requires few { length moves.now < 4294967296 }
 {
     let format = Dos33::new(rt_alloc, data_disk, Reserved::none(rt_alloc))?;

@@ -2,13 +2,12 @@
 ghost use Rattle.std.specs.Prelude.{◌≡◌, vec_len, IfOk};
 
 use crate::volumes::{dos33, failing_device};
-use a2_device::Device;
+use a2_device::{Device, Fault, Part, PartKind};
 use dos_format::DosVolume;
 use std::alloc::{AllocError, Global};
 use std::test::Fail;
 use test_volumes::{FIRST_CATALOG, dos_device, dos_volume, hello, put, put_entry};
 use vol_check::{CheckError, Checked, check};
-use vol_parts::{Fault, Part, PartKind};
 
 // What a check of the volume on a device answers.
 fn checked<D: Device>(
@@ -52,7 +51,8 @@ fn parts_of_hello() -> [Part; 2] {
     ]
 }
 
-// Whether `HELLO` is told of a volume, where its parts stand among so many available places, and which of these are lost.
+// Whether `HELLO` is told of a volume, where its parts stand among so many available places, and which of these are
+// lost.
 fn tells_hello(checked: &Checked<DosVolume>, at: &[u32], available: u32, lost: &[u32]) -> bool {
     checked.files() == 1
         && checked.parts() == parts_of_hello().as_slice()

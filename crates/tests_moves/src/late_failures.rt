@@ -1,10 +1,11 @@
 //! Each read of a check, and each read and write of an optimizer, failing in turn.
 ghost use Rattle.std.specs.Prelude.{◌≡◌};
 ghost use Rattle.a2_device.specs.Device.{DeviceState};
+ghost use Rattle.vol_format.specs.Fits.{Fits};
 
 use crate::volumes::{ALL, KEEP, dos33};
 use a2_device::Device;
-use image_device::ImageDevice;
+use a2_media::ImageDevice;
 use pro_format::Prodos;
 use reserved_places::Reserved;
 use std::alloc::{AllocError, Global};
@@ -67,8 +68,7 @@ fn counts_of<D: Device, F: Format>(
     device: &mut D,
     format: &F,
 ) -> Result<(u32, usize), CheckError>
-    requires unit { (D.state device.old).unit_size ≡ (F.meaning format.now).unit_size }
-    requires places { (F.meaning format.now).Takes (D.state device.old).places }
+    requires fits { Fits (F.meaning format.now) (D.state device.old) }
 {
     let checked = check(alloc, device, format)?;
     Ok((checked.files(), checked.parts().len()))
@@ -76,8 +76,7 @@ fn counts_of<D: Device, F: Format>(
 
 /// How a check of a volume ends.
 fn check_ended<F: Format>(alloc: Global, mut device: LateFailure<ImageDevice>, format: &F) -> Ended
-    requires unit { (⟦<LateFailure<ImageDevice> as Device>⟧.state device).unit_size ≡ (F.meaning format.now).unit_size }
-    requires places { (F.meaning format.now).Takes (⟦<LateFailure<ImageDevice> as Device>⟧.state device).places }
+    requires fits { Fits (F.meaning format.now) (⟦<LateFailure<ImageDevice> as Device>⟧.state device) }
 {
     let end = match &counts_of(alloc, &mut device, format) {
         Ok(_) => End::Done,
@@ -103,8 +102,7 @@ fn optimizer_ended<F: WritableFormat>(
     device: LateFailure<ImageDevice>,
     format: &F,
 ) -> Ended
-    requires unit { (⟦<LateFailure<ImageDevice> as Device>⟧.state device).unit_size ≡ (F.meaning format.now).unit_size }
-    requires places { (F.meaning format.now).Takes (⟦<LateFailure<ImageDevice> as Device>⟧.state device).places }
+    requires fits { Fits (F.meaning format.now) (⟦<LateFailure<ImageDevice> as Device>⟧.state device) }
 {
     match optimize(alloc, device, format, KEEP, ALL) {
         Ok((device, _)) => ended_over(End::Done, device),
@@ -119,8 +117,7 @@ fn call_ended<F: WritableFormat>(
     device: LateFailure<ImageDevice>,
     format: &F,
 ) -> Ended
-    requires unit { (⟦<LateFailure<ImageDevice> as Device>⟧.state device).unit_size ≡ (F.meaning format.now).unit_size }
-    requires places { (F.meaning format.now).Takes (⟦<LateFailure<ImageDevice> as Device>⟧.state device).places }
+    requires fits { Fits (F.meaning format.now) (⟦<LateFailure<ImageDevice> as Device>⟧.state device) }
 {
     match call {
         Call::Check => check_ended(alloc, device, format),
@@ -130,8 +127,10 @@ fn call_ended<F: WritableFormat>(
 
 /// The device with this failure after so many calls.
 fn late(device: ImageDevice, failure: Failure, before: u64) -> LateFailure<ImageDevice>
-    ensures unit { (⟦<LateFailure<ImageDevice> as Device>⟧.state result).unit_size ≡ (⟦<ImageDevice as Device>⟧.state device).unit_size }
-    ensures places { (⟦<LateFailure<ImageDevice> as Device>⟧.state result).places ≡ (⟦<ImageDevice as Device>⟧.state device).places }
+    ensures unit { (⟦<LateFailure<ImageDevice> as Device>⟧.state result).unit_size
+        ≡ (⟦<ImageDevice as Device>⟧.state device).unit_size }
+    ensures places { (⟦<LateFailure<ImageDevice> as Device>⟧.state result).places
+        ≡ (⟦<ImageDevice as Device>⟧.state device).places }
 {
     match failure {
         Failure::Read => LateFailure::read(device, before),
@@ -205,8 +204,8 @@ fn is_told(failure: Failure, end: End) -> bool {
     }
 }
 
-/// How many reads or writes a call on a volume makes, where each of them fails in turn and is told, and the image is then accepted with
-/// all files and parts.
+/// How many reads or writes a call on a volume makes, where each of them fails in turn and is told, and the image is
+/// then accepted with all files and parts.
 fn count_told(alloc: Global, row: Row, failure: Failure) -> Result<u64, Fail> {
     for before in 0..1000u64 {
         let Ended { end, faults, image } = ended_on(alloc, row, failure, before)?;

@@ -9,8 +9,7 @@ use std::alloc::{AllocError, Global};
 use std::test::Fail;
 use test_volumes::{dos_device, hello};
 use vol_check::{CheckError, check};
-use vol_mover::{OpenError, OptError, optimize};
-use vol_opening::Opening;
+use vol_mover::{OpenError, Opening, OptError, optimize};
 
 #[derive(Clone, Copy, Debug)]
 enum Call {

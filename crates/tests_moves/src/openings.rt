@@ -2,13 +2,12 @@
 ghost use Rattle.std.specs.Prelude.{◌≡◌, vec_len};
 
 use crate::volumes::{KEEP, RECLAIM, dos33, failing_device};
-use a2_device::Device;
+use a2_device::{Device, Fault};
 use dos_format::DosVolume;
 use std::alloc::{AllocError, Global};
 use std::test::Fail;
 use test_volumes::{dos_device, hello, put};
-use vol_opening::{OpenError, Opening, Options};
-use vol_parts::Fault;
+use vol_mover::{OpenError, Opening, Options};
 
 // What is known of the volume on a device.
 fn opened<D: Device>(

@@ -81,8 +81,8 @@ fn end_by(error: &OptError) -> End {
     }
 }
 
-// How an optimizer of `HELLO` ends over a device that passes so many writes on, how many writes it tried, and whether it leaves what
-// stands after those that were passed on.
+// How an optimizer of `HELLO` ends over a device that passes so many writes on, how many writes it tried, and whether
+// it leaves what stands after those that were passed on.
 fn stopped(alloc: Global, passes: u64) -> Result<(End, u64, bool), Fail> {
     let format = dos33(alloc, false)?;
     let device = StopDevice::new(dos_device(hello(alloc)?), passes);

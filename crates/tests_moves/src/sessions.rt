@@ -1,12 +1,12 @@
 //! Sessions step by step, also where a read or a write of the device fails.
 ghost use Rattle.std.specs.Prelude.{ℕ};
-ghost use Rattle.plan_writes.specs.Tasks.{Course};
+ghost use Rattle.vol_mover.specs.Tasks.{Course};
 ghost use Rattle.vol_mover.specs.Present.{IsSession};
 ghost use Rattle.vol_mover.specs.Shown.{present};
 
 use crate::volumes::{KEEP, dos33, stands};
 use a2_device::{Device, FaultDevice};
-use image_device::ImageDevice;
+use a2_media::ImageDevice;
 use std::alloc::{Allocator, Global};
 use std::test::Fail;
 use test_volumes::{dos_device, hello};
@@ -25,8 +25,10 @@ enum Failure {
 fn unreadable<'a, D: Device, F: WritableFormat, A: Allocator>(
     session: Session<'a, FaultDevice<D>, F, A>,
 ) -> Session<'a, FaultDevice<D>, F, A>
-    requires { (course : Course) × IsSession (F.meaning session.format.now) (present ⟦<FaultDevice<D> as Device>⟧.state F.directory session) course }
-    ensures { (course : Course) × IsSession (F.meaning result.format.now) (present ⟦<FaultDevice<D> as Device>⟧.state F.directory result) course }
+    requires { (course : Course) × IsSession (F.meaning session.format.now)
+        (present ⟦<FaultDevice<D> as Device>⟧.state F.directory session) course }
+    ensures { (course : Course) × IsSession (F.meaning result.format.now)
+        (present ⟦<FaultDevice<D> as Device>⟧.state F.directory result) course }
 {
     let (mut device, paused) = session.pause();
     device.fail_read();
@@ -38,8 +40,10 @@ fn unwritable<'a, D: Device, F: WritableFormat, A: Allocator>(
     session: Session<'a, FaultDevice<D>, F, A>,
     took: bool,
 ) -> Session<'a, FaultDevice<D>, F, A>
-    requires { (course : Course) × IsSession (F.meaning session.format.now) (present ⟦<FaultDevice<D> as Device>⟧.state F.directory session) course }
-    ensures { (course : Course) × IsSession (F.meaning result.format.now) (present ⟦<FaultDevice<D> as Device>⟧.state F.directory result) course }
+    requires { (course : Course) × IsSession (F.meaning session.format.now)
+        (present ⟦<FaultDevice<D> as Device>⟧.state F.directory session) course }
+    ensures { (course : Course) × IsSession (F.meaning result.format.now)
+        (present ⟦<FaultDevice<D> as Device>⟧.state F.directory result) course }
 {
     let (mut device, paused) = session.pause();
     device.fail_write(took);
@@ -55,7 +59,8 @@ type Answers = (
 );
 
 fn two_steps<F: WritableFormat>(mut session: Session<FaultDevice<ImageDevice>, F>) -> Answers
-    requires { (course : Course) × IsSession (F.meaning session.format.now) (present ⟦<FaultDevice<ImageDevice> as Device>⟧.state F.directory session) course }
+    requires { (course : Course) × IsSession (F.meaning session.format.now)
+        (present ⟦<FaultDevice<ImageDevice> as Device>⟧.state F.directory session) course }
 {
     let first = session.step();
     let then = session.step();
@@ -66,8 +71,10 @@ fn two_steps<F: WritableFormat>(mut session: Session<FaultDevice<ImageDevice>, F
 
 // Makes so many writes, and tells whether each was made.
 fn makes<D: Device, F: WritableFormat>(session: &mut Session<D, F>, writes: u64) -> bool
-    requires { (course : Course) × IsSession (F.meaning session.old.format.now) (present D.state F.directory session.old) course }
-    ensures { (course : Course) × IsSession (F.meaning session.new.format.now) (present D.state F.directory session.new) course }
+    requires { (course : Course)
+        × IsSession (F.meaning session.old.format.now) (present D.state F.directory session.old) course }
+    ensures { (course : Course)
+        × IsSession (F.meaning session.new.format.now) (present D.state F.directory session.new) course }
 {
     for _ in 0..writes {
         if session.step().is_err() {
@@ -82,8 +89,10 @@ fn failing<'a, D: Device, F: WritableFormat, A: Allocator>(
     session: Session<'a, FaultDevice<D>, F, A>,
     failure: Failure,
 ) -> Session<'a, FaultDevice<D>, F, A>
-    requires { (course : Course) × IsSession (F.meaning session.format.now) (present ⟦<FaultDevice<D> as Device>⟧.state F.directory session) course }
-    ensures { (course : Course) × IsSession (F.meaning result.format.now) (present ⟦<FaultDevice<D> as Device>⟧.state F.directory result) course }
+    requires { (course : Course) × IsSession (F.meaning session.format.now)
+        (present ⟦<FaultDevice<D> as Device>⟧.state F.directory session) course }
+    ensures { (course : Course) × IsSession (F.meaning result.format.now)
+        (present ⟦<FaultDevice<D> as Device>⟧.state F.directory result) course }
 {
     match failure {
         Failure::Read => unreadable(session),
@@ -97,7 +106,8 @@ fn answers<F: WritableFormat>(
     writes: u64,
     failure: Failure,
 ) -> Result<Answers, Fail>
-    requires { (course : Course) × IsSession (F.meaning session.format.now) (present ⟦<FaultDevice<ImageDevice> as Device>⟧.state F.directory session) course }
+    requires { (course : Course) × IsSession (F.meaning session.format.now)
+        (present ⟦<FaultDevice<ImageDevice> as Device>⟧.state F.directory session) course }
 {
     if makes(&mut session, writes) {
         Ok(two_steps(failing(session, failure)))
@@ -106,7 +116,8 @@ fn answers<F: WritableFormat>(
     }
 }
 
-// The answers after so many writes of `HELLO`, with whether the image is that after so many of the eight writes in the end.
+// The answers after so many writes of `HELLO`, with whether the image is that after so many of the eight writes in the
+// end.
 fn answers_of(
     alloc: Global,
     writes: u64,
@@ -167,8 +178,8 @@ fn a_failed_read_is_tried_again(rt: HostRuntime) -> Result<(), Fail> {
     Ok(())
 }
 
-// Whether a session of `HELLO` is closed by a write that fails after so many others, and leaves the new unit where that stands, and no
-// other one.
+// Whether a session of `HELLO` is closed by a write that fails after so many others, and leaves the new unit where that
+// stands, and no other one.
 fn closes(alloc: Global, made: u64, took: bool, moves_left: u32) -> Result<bool, Fail> {
     let standing = made.saturating_add(u64::from(took));
     let (first, then, left, is_right) = answers_of(alloc, made, Failure::Write(took), standing)?;

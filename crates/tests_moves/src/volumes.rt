@@ -2,12 +2,12 @@
 ghost use Rattle.std.specs.Prelude.{◌≡◌, ◌<◌, IfOk, length, vec_len};
 
 use a2_device::{Device, FaultDevice};
+use a2_media::ImageDevice;
 use dos_format::Dos33;
-use image_device::ImageDevice;
 use reserved_places::Reserved;
 use std::alloc::{AllocError, Allocator, Global};
 use test_volumes::{FIRST_CATALOG, VTOC, dos_device, hello, put};
-use vol_opening::Options;
+use vol_mover::Options;
 
 pub const KEEP: Options = Options { reclaim: false };
 

@@ -1,13 +1,13 @@
 //! What a check tells of ProDOS volumes.
 ghost use Rattle.std.specs.Prelude.{◌≡◌, vec_len};
 
+use a2_device::{Fault, Part, PartKind};
 use pro_format::{ProVolume, Prodos};
 use reserved_places::{PlaceForm, Reserved};
 use std::alloc::{AllocError, Global};
 use std::test::Fail;
 use test_volumes::{block_device, put_in_block, seedlings_far_out, tree, tree_and_subdirectory};
 use vol_check::{CheckError, Checked, check};
-use vol_parts::{Fault, Part, PartKind};
 
 // What a check of a volume answers where these places are reserved.
 fn checked(
@@ -21,8 +21,8 @@ fn checked(
     }
 }
 
-// What is told of an accepted volume: how many files it has, their parts, where these stand among the available places, and how
-// many of those there are.
+// What is told of an accepted volume: how many files it has, their parts, where these stand among the available places,
+// and how many of those there are.
 #[derive(Clone, Copy)]
 struct Told<'a> {
     files: u32,

@@ -1,14 +1,13 @@
 //! Directories, their entries and their faults.
 ghost use Rattle.std.specs.Prelude.{◌≡◌, ◌<◌, length};
 
-use a2_device::FaultDevice;
+use a2_device::{Fault, FaultDevice, WalkError};
 use bitflags::Flags;
 use pro_dates::to_civil;
 use pro_dir::{Entry, ProDate, VolumeDir};
 use std::alloc::{AllocError, Allocator, Global};
 use std::test::Fail;
 use test_volumes::{block_device, put_in_block, tree, tree_and_subdirectory};
-use vol_parts::{Fault, WalkError};
 
 // The directories of a volume, with memory of their own.
 pub fn volume_of<A: Allocator + Copy>(alloc: A, image: Vec<u8>) -> Result<VolumeDir<A>, WalkError> {

@@ -1,12 +1,11 @@
 //! Walks over the parts of one file.
 ghost use Rattle.std.specs.Prelude.{◌≡◌, vec_len, IfOk};
 
-use a2_device::{Device, FaultDevice};
+use a2_device::{Device, Fault, FaultDevice, Part, PartKind, WalkError};
 use pro_tree::walk;
 use std::alloc::{AllocError, Allocator, Global};
 use std::test::Fail;
 use test_volumes::{IMAGE_BYTES, block_device, put_in_block};
-use vol_parts::{Fault, Part, PartKind, WalkError};
 
 // A disk of 140K with a master index in block 7, whose indexes 0 and 2 are blocks 8 and 10.
 pub fn tree(alloc: Global) -> Result<Vec<u8>, AllocError>
@@ -114,8 +113,8 @@ fn names_the_fault(rt: HostRuntime) -> Result<(), Fail> {
     Ok(())
 }
 
-// Why two walks over a device whose next read fails end, and how many calls the device has refused. The first is over a seedling, of
-// which no block is read, the second over a sapling.
+// Why two walks over a device whose next read fails end, and how many calls the device has refused. The first is over a
+// seedling, of which no block is read, the second over a sapling.
 fn failed(alloc: Global) -> Result<([Option<WalkError>; 2], u64), AllocError> {
     let Some(inner) = block_device(tree(alloc)?) else {
         return Ok(([None; 2], 0));

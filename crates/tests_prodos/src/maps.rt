@@ -1,12 +1,11 @@
 //! The maps of free blocks.
 ghost use Rattle.std.specs.Prelude.{◌≡◌, IfOk};
 
-use a2_device::{Device, FaultDevice};
+use a2_device::{Device, FaultDevice, WalkError};
 use pro_bitmap::Bitmap;
 use std::alloc::{AllocError, Allocator, Global};
 use std::test::Fail;
 use test_volumes::{LARGE_BYTES, block_device, put_in_block, seedlings_far_out, tree};
-use vol_parts::WalkError;
 
 /// The first block of the bitmaps here.
 const FIRST: u32 = 6;

@@ -2,6 +2,7 @@
 use crate::directories::volume_of;
 use crate::files::{self, walked};
 use crate::maps::bitmap_of;
+use a2_device::WalkError;
 use pro_format::Prodos;
 use refusing::Refusing;
 use reserved_places::Reserved;
@@ -9,7 +10,6 @@ use std::alloc::{AllocError, Allocator, Global};
 use std::test::Fail;
 use test_volumes::{block_device, tree, tree_and_subdirectory};
 use vol_format::Format;
-use vol_parts::WalkError;
 
 #[derive(Clone, Copy, Debug)]
 enum Call {

@@ -1,6 +1,7 @@
 //! The parts of new files, and the blocks of their indexes.
 ghost use Rattle.std.specs.Prelude.{◌<◌};
 
+use a2_device::PartKind;
 use new_files::{
     NewFileError, NewPart, build_index, build_master, parts_of_a_new_pro_file, pro_parts,
     pro_storage,
@@ -8,7 +9,6 @@ use new_files::{
 use refusing::Refusing;
 use std::alloc::{Allocator, Global};
 use std::test::Fail;
-use vol_parts::PartKind;
 
 // The parts of a file of which these units are stored.
 fn parts_of<A: Allocator>(alloc: A, stored: &[bool]) -> Result<Vec<NewPart, A>, NewFileError> {
@@ -95,8 +95,8 @@ fn refused_memory_is_told_of_a_new_file(rt: HostRuntime) {
     }
 }
 
-// The block of part `at` of a file, if that is an index or a master index. The units 0 and 512 of the file are stored, and its
-// five parts stand at this block and behind it.
+// The block of part `at` of a file, if that is an index or a master index. The units 0 and 512 of the file are stored,
+// and its five parts stand at this block and behind it.
 fn block_of_index(alloc: Global, block: u32, at: usize) -> Result<Option<[u8; 512]>, NewFileError>
     requires { block < 65531 }
 {

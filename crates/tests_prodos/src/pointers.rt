@@ -2,9 +2,9 @@
 ghost use Rattle.std.specs.Prelude.{◌≡◌, ◌<◌};
 ghost use Rattle.pro_tree.specs.Reach.{pro_pointers, pro_depth};
 
+use a2_device::{Part, PartKind};
 use pro_tree::{child, part_above, pointer, pointer_count, root, set_pointer, slot};
 use vol_format::Link;
-use vol_parts::{Part, PartKind};
 
 /// The blocks of a disk of 140K.
 const PLACES: u32 = 280;

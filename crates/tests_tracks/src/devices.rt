@@ -1,7 +1,9 @@
-use a2_device::{Device, DeviceError, FaultDevice, StopDevice};
+use a2_device::{
+    BLOCK_BYTES, DISK_BLOCKS, Device, DeviceError, FaultDevice, IMAGE_BYTES, NIBBLE_BYTES, Order,
+    StopDevice,
+};
 use a2_image::{Image, SECTOR_BYTES};
-use image_device::{ImageDevice, LentDevice};
-use sector_order::{BLOCK_BYTES, DISK_BLOCKS, IMAGE_BYTES, NIBBLE_BYTES, Order};
+use a2_media::{ImageDevice, LentDevice};
 use std::test::Fail;
 
 const ORDERS: [Order; 3] = [Order::Dos, Order::Prodos, Order::Nibble];

@@ -1,6 +1,6 @@
+use a2_device::{BLOCK_BYTES, IMAGE_BYTES, NIBBLE_BYTES, Order, block_to_phys, dos_to_phys};
 use a2_image::{Image, ImageError, SECTOR_BYTES, sectors_of_block};
 use refusing::Refusing;
-use sector_order::{BLOCK_BYTES, IMAGE_BYTES, NIBBLE_BYTES, Order, block_to_phys, dos_to_phys};
 use std::alloc::Allocator;
 use std::test::Fail;
 

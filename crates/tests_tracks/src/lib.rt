@@ -1,5 +1,5 @@
-//! The tests of `a2_nibble`, `a2_image`, `a2_device` and `refusing`: the worked rows with literal values, printed text, each
-//! public call on its happy path, refused memory, and reads and writes that fail.
+//! The tests of `a2_nibble`, `a2_image`, `a2_device` and `refusing`: the worked rows with literal values, printed text,
+//! each public call on its happy path, refused memory, and reads and writes that fail.
 #![tactic(auto)]
 
 #[cfg(test)]

@@ -5,8 +5,8 @@ use Rattle.std.specs.List.{Contains, AllPairs, All}
 use Rattle.std.proofs.lemmas.Bool.Decides.{nat_tests}
 use Rattle.std.proofs.lemmas.Option.{slice_get_within, get_or_from_slice_get}
 use Rattle.std.proofs.lemmas.List.{get_or-map, get_or_default, length-map}
-use Rattle.vol_parts.specs.declared.part.Part.{Part}
-use Rattle.vol_parts.specs.declared.part.PartKind.TheVariants.{Body}
+use Rattle.a2_device.specs.declared.part.Part.{Part}
+use Rattle.a2_device.specs.declared.part.PartKind.TheVariants.{Body}
 use Rattle.vol_layout.specs.Layouts.{AreDistinct, IsInRange}
 use Rattle.vol_format.specs.Directory.{Directory, is_system}
 use Rattle.vol_format.specs.Meaning.{Meaning}

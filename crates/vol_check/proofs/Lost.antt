@@ -4,7 +4,7 @@ use Rattle.std.specs.Prelude.{◌==◌, ◌↔◌, not, ◌&&◌}
 use Rattle.std.specs.List.{Contains, list_any}
 use Rattle.std.proofs.lemmas.List.Folds.{list_any_at, list_any_none}
 use Rattle.std.proofs.lemmas.Bool.Decides.{nat_tests}
-use Rattle.vol_parts.specs.declared.part.Part.{Part}
+use Rattle.a2_device.specs.declared.part.Part.{Part}
 use Rattle.vol_format.specs.Directory.{Directory, is_free}
 use Rattle.vol_format.specs.Meaning.{Meaning}
 use Rattle.vol_format.specs.Reach.{Reach, IsPartsOf}

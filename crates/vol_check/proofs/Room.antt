@@ -5,9 +5,9 @@ use Rattle.std.specs.Prelude.{not, ◌&&◌, ◌==◌, if◌then◌else◌}
 use Rattle.std.proofs.lemmas.List.Sums.{sum_by-set}
 use Rattle.std.proofs.lemmas.List.{get_or-set_same, get_or-set_other}
 use Rattle.std.proofs.lemmas.Bool.Decides.{nat_tests}
-use Rattle.vol_parts.specs.declared.part.Part.{Part}
-use Rattle.vol_parts.specs.declared.fault.Fault.{Fault}
-use Rattle.vol_parts.specs.declared.fault.Fault.TheVariants.{OutOfRange, StorageType, InSystem, Shared, MarkedFree}
+use Rattle.a2_device.specs.declared.part.Part.{Part}
+use Rattle.a2_device.specs.declared.fault.Fault.{Fault}
+use Rattle.a2_device.specs.declared.fault.Fault.TheVariants.{OutOfRange, StorageType, InSystem, Shared, MarkedFree}
 use Rattle.vol_format.specs.declared.link.Link.{Link}
 use Rattle.vol_format.specs.declared.link.Link.TheVariants.{Null, Wild, Directory as ToDirectory, OtherType, To}
 use Rattle.vol_format.specs.Directory.{Directory, entries, is_system, is_free}

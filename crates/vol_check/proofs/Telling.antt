@@ -1,7 +1,7 @@
 -- What a fault that is told, or was told before, leaves.
 use Rattle.std.proofs.Common.{◌≡◌, ◌≢◌, Bool, true, false, List, [], ◌∷◌, ◌++◌, length, refl, ap}
 use Rattle.std.specs.Prelude.{◌==◌, not, ◌&&◌, if◌then◌else◌}
-use Rattle.vol_parts.specs.declared.fault.Fault.{Fault}
+use Rattle.a2_device.specs.declared.fault.Fault.{Fault}
 use Rattle.vol_check.specs.Known.{is_known, knowing}
 use Rattle.vol_check.specs.declared.known.Known.{Known}
 use Rattle.vol_check.specs.Walk.{Lists, told}

@@ -5,9 +5,9 @@ use Rattle.std.specs.List.{Contains, All, AllPairs, list_any}
 use Rattle.std.proofs.lemmas.List.Folds.{list_any_at, list_any_none}
 use Rattle.std.proofs.lemmas.Bool.Decides.{nat_tests}
 use Rattle.a2_device.specs.Device.{DeviceState, OnlyReads}
-use Rattle.vol_parts.specs.declared.part.Part.{Part}
-use Rattle.vol_parts.specs.declared.fault.Fault.{Fault}
-use Rattle.vol_parts.specs.declared.fault.Fault.TheVariants.{OutOfRange, StorageType, InSystem, Shared, MarkedFree, Geometry, CatalogLink, DirLink, MapPointer}
+use Rattle.a2_device.specs.declared.part.Part.{Part}
+use Rattle.a2_device.specs.declared.fault.Fault.{Fault}
+use Rattle.a2_device.specs.declared.fault.Fault.TheVariants.{OutOfRange, StorageType, InSystem, Shared, MarkedFree, Geometry, CatalogLink, DirLink, MapPointer}
 use Rattle.vol_format.specs.Directory.{Directory, entries, is_system, is_free, files}
 use Rattle.vol_format.specs.Meaning.{Meaning}
 use Rattle.vol_format.specs.Accepted.{PartFaultAt, FaultAt, IsAccepted}

@@ -1,13 +1,13 @@
 -- What a check answers.
 use Rattle.std.specs.Prelude.{◌<◌, ℕ, List, Bool, true, false, Result, Err, length, Contains}
-use Rattle.vol_parts.specs.declared.fault.Fault.{Fault}
+use Rattle.a2_device.specs.declared.fault.Fault.{Fault}
 use Rattle.vol_format.specs.Directory.{Directory}
 use Rattle.vol_format.specs.Meaning.{Meaning}
 use Rattle.vol_format.specs.Accepted.{FaultAt, IsAccepted}
 use Rattle.vol_check.specs.declared.error.CheckError.{CheckError}
 use Rattle.vol_check.specs.declared.error.CheckError.TheVariants.{Faults, Device, Memory}
-use Rattle.vol_parts.specs.declared.stop.Stop.{Stop}
-use Rattle.vol_parts.specs.declared.stop.Stop.TheVariants.{Device as DeviceStop, Memory as MemoryStop}
+use Rattle.a2_device.specs.declared.stop.Stop.{Stop}
+use Rattle.a2_device.specs.declared.stop.Stop.TheVariants.{Device as DeviceStop, Memory as MemoryStop}
 
 -- whether a check ended by a failure of the device
 abbrev pub is_device_error : {T A : Type 0} → Result T (CheckError A) → Bool

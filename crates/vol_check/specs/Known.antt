@@ -1,7 +1,7 @@
 -- Which faults are known of each place, so that none is told twice.
 use Rattle.std.specs.Prelude.{ℕ, Bool, true, false, List, slice_index_or, slice_set}
-use Rattle.vol_parts.specs.declared.fault.Fault.{Fault}
-use Rattle.vol_parts.specs.declared.fault.Fault.TheVariants.{Geometry, CatalogLink, DirLink, MapPointer, StorageType, OutOfRange, InSystem, Shared, MarkedFree}
+use Rattle.a2_device.specs.declared.fault.Fault.{Fault}
+use Rattle.a2_device.specs.declared.fault.Fault.TheVariants.{Geometry, CatalogLink, DirLink, MapPointer, StorageType, OutOfRange, InSystem, Shared, MarkedFree}
 use Rattle.vol_check.specs.declared.known.Known.{Known}
 
 -- the place of a fault

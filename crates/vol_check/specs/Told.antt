@@ -1,6 +1,6 @@
 -- What is told of an accepted volume.
 use Rattle.std.specs.Prelude.{◌≡◌, ◌≢◌, ◌<◌, ℕ, List, length, AllPairs, Contains}
-use Rattle.vol_parts.specs.declared.part.Part.{Part}
+use Rattle.a2_device.specs.declared.part.Part.{Part}
 use Rattle.vol_layout.specs.Layouts.{Placement}
 use Rattle.vol_format.specs.Directory.{Directory, entries, files}
 use Rattle.vol_format.specs.Standing.{layout_of, lost_places}

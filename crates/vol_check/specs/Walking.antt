@@ -1,7 +1,7 @@
 -- What is known of an honest device's volume at each moment of a walk over it.
 use Rattle.std.specs.Prelude.{◌≡◌, ◌≢◌, ◌⊎◌, ◌<◌, ℕ, ◌+◌, true, false, List, [], AllPairs, Contains}
-use Rattle.vol_parts.specs.declared.part.Part.{Part}
-use Rattle.vol_parts.specs.declared.fault.Fault.{Fault}
+use Rattle.a2_device.specs.declared.part.Part.{Part}
+use Rattle.a2_device.specs.declared.fault.Fault.{Fault}
 use Rattle.vol_format.specs.declared.link.Link.TheVariants.{Wild, OtherType, To}
 use Rattle.vol_format.specs.Directory.{Directory, root_of, is_system, is_free}
 use Rattle.vol_format.specs.Meaning.{Meaning, link_from}

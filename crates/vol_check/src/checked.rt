@@ -2,12 +2,12 @@
 ghost use Rattle.std.specs.Prelude.{◌≡◌};
 ghost use Rattle.vol_check.specs.Told.{told_of, volume_of};
 
+use a2_device::Part;
 use std::alloc::{Allocator, Global};
 use vol_layout::Layout;
-use vol_parts::Part;
 
-/// An accepted volume: its header, directory and map, how many files it has, their parts in order, where these stand among the available
-/// places, and which of these places are lost.
+/// An accepted volume: its header, directory and map, how many files it has, their parts in order, where these stand
+/// among the available places, and which of these places are lost.
 #[derive(Drop)]
 pub struct Checked<V: Drop, A: Allocator = Global> {
     pub(crate) volume: V,

@@ -1,6 +1,7 @@
 // The checker.
 ghost use Rattle.std.specs.Prelude.{◌≡◌, ◌↔◌, ◌<◌, ℕ, IsTrue, OnOk, IfOk, IfErr, Contains};
 ghost use Rattle.a2_device.specs.Device.{OnlyReads};
+ghost use Rattle.vol_format.specs.Fits.{Fits};
 ghost use Rattle.vol_format.specs.Directory.{entries};
 ghost use Rattle.vol_format.specs.Reach.{IsPartsOf};
 ghost use Rattle.vol_format.specs.Accepted.{IsAccepted};
@@ -12,10 +13,9 @@ ghost use Rattle.vol_check.specs.Walk.{lists, IsSound};
 use crate::standing::{count_files, layout_of, lost_of};
 use crate::walk::{Walk, walk_files};
 use crate::{CheckError, Checked, Faults};
-use a2_device::Device;
+use a2_device::{Device, WalkError};
 use std::alloc::{AllocError, Allocator};
 use vol_format::Format;
-use vol_parts::WalkError;
 
 // The header, the directory and the map of a volume, or what is wrong with them.
 fn read_volume<D: Device, F: Format, A: Allocator + Copy>(
@@ -23,14 +23,15 @@ fn read_volume<D: Device, F: Format, A: Allocator + Copy>(
     device: &mut D,
     format: &F,
 ) -> Result<F::Volume, CheckError<A>>
-    requires unit { (D.state device.old).unit_size ≡ (F.meaning format.now).unit_size }
-    requires places { (F.meaning format.now).Takes (D.state device.old).places }
+    requires fits { Fits (F.meaning format.now) (D.state device.old) }
 
     ensures device { OnlyReads (is_device_error result) (D.state device.old) (D.state device.new) }
     ensures places { IfOk result (λ volume. (F.directory format.now volume).places ≡ (D.state device.old).places) }
     ensures described { IsTrue (D.state device.old).honest
-        → IfOk result (λ volume. (F.meaning format.now).Describes (D.state device.old).store (F.directory format.now volume)) }
-    ensures refused { IsTrue (D.state device.old).honest → IfErr result (IsRefusal (F.meaning format.now) (D.state device.old).store) }
+        → IfOk result (λ volume. (F.meaning format.now).Describes (D.state device.old).store
+        (F.directory format.now volume)) }
+    ensures refused { IsTrue (D.state device.old).honest
+        → IfErr result (IsRefusal (F.meaning format.now) (D.state device.old).store) }
 {
     match format.volume(device) {
         Ok(volume) => Ok(volume),
@@ -68,8 +69,8 @@ fn checked<F: Format, A: Allocator + Copy>(
     })
 }
 
-/// Accepts a volume, or tells what is wrong with it. It makes no write, and reads the header, the directory and, once each, the unit of
-/// each part that has pointers.
+/// Accepts a volume, or tells what is wrong with it. It makes no write, and reads the header, the directory and, once
+/// each, the unit of each part that has pointers.
 ///
 /// # Errors
 /// `Faults` with every fault that was met, in the order of the parts; `Device` where a read fails; `Memory`.
@@ -78,22 +79,26 @@ pub fn check<D: Device, F: Format, A: Allocator + Copy>(
     device: &mut D,
     format: &F,
 ) -> Result<Checked<F::Volume, A>, CheckError<A>>
-    requires unit { (D.state device.old).unit_size ≡ (F.meaning format.now).unit_size }
-    requires places { (F.meaning format.now).Takes (D.state device.old).places }
+    requires fits { Fits (F.meaning format.now) (D.state device.old) }
 
     // every device
     ensures device { OnlyReads (is_device_error result) (D.state device.old) (D.state device.new) }
-    ensures places { IfOk result (λ checked. (F.directory format.now (volume_of checked)).places ≡ (D.state device.old).places) }
+    ensures places { IfOk result (λ checked. (F.directory format.now (volume_of checked)).places
+        ≡ (D.state device.old).places) }
     ensures told { IfOk result (λ checked. IsToldOf (F.directory format.now (volume_of checked)) (told_of checked)) }
 
     // an honest device
     ensures accepted { IsTrue (D.state device.old).honest
-        → IfOk result (λ checked. IsAccepted (F.meaning format.now) (F.directory format.now (volume_of checked)) (D.state device.old).store) }
+        → IfOk result (λ checked.
+        IsAccepted (F.meaning format.now) (F.directory format.now (volume_of checked)) (D.state device.old).store) }
     ensures parts { IsTrue (D.state device.old).honest
-        → IfOk result (λ checked. IsPartsOf (F.meaning format.now) (F.directory format.now (volume_of checked)) (D.state device.old).store (told_of checked).parts) }
-    ensures lost { IsTrue (D.state device.old).honest → IfOk result (λ checked. (place : ℕ) → Contains (told_of checked).lost place
+        → IfOk result (λ checked. IsPartsOf (F.meaning format.now) (F.directory format.now (volume_of checked))
+        (D.state device.old).store (told_of checked).parts) }
+    ensures lost { IsTrue (D.state device.old).honest
+        → IfOk result (λ checked. (place : ℕ) → Contains (told_of checked).lost place
         ↔ IsLost (F.meaning format.now) (F.directory format.now (volume_of checked)) (D.state device.old).store place) }
-    ensures refused { IsTrue (D.state device.old).honest → IfErr result (IsRefusal (F.meaning format.now) (D.state device.old).store) }
+    ensures refused { IsTrue (D.state device.old).honest
+        → IfErr result (IsRefusal (F.meaning format.now) (D.state device.old).store) }
 {
     let volume = read_volume(alloc, device, format)?;
     let walk = walk_files(alloc, device, format, &volume)?;

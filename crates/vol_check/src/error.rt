@@ -3,10 +3,10 @@ ghost use Rattle.std.specs.Prelude.{◌≡◌};
 ghost use Rattle.vol_check.specs.declared.error.CheckError.TheVariants.{Memory};
 ghost use Rattle.vol_check.specs.Answer.{error_of};
 
+use a2_device::{Fault, Stop};
 use std::alloc::{AllocError, AllocFailed, Allocator, Global};
 use std::marker::Model;
 use thiserror::Error;
-use vol_parts::{Fault, Stop};
 
 /// The faults of a volume, in the order of its parts.
 #[derive(Debug, Drop)]
@@ -16,7 +16,7 @@ pub struct Faults<A: Allocator = Global> {
 
 impl<A: Allocator> Model for Faults<A> {
     ghost use Rattle.std.specs.Prelude.{List};
-    ghost use Rattle.vol_parts.specs.declared.fault.Fault.{Fault};
+    ghost use Rattle.a2_device.specs.declared.fault.Fault.{Fault};
 
     ghost Value = { List Fault };
 

@@ -1,8 +1,15 @@
 // Which faults are known of each place, so that none is told twice.
 ghost use Rattle.std.specs.Prelude.{◌≡◌};
-ghost use Rattle.vol_check.specs.Known.{has_fault, is_known as is_in, knowing, none_known, place_of as place_in, with_fault};
+ghost use Rattle.vol_check.specs.Known.{
+  has_fault,
+  is_known as is_in,
+  knowing,
+  none_known,
+  place_of as place_in,
+  with_fault,
+};
 
-use vol_parts::Fault;
+use a2_device::Fault;
 
 /// Which of the faults that many pointers can meet were told of a place.
 #[derive(Clone, Copy)]

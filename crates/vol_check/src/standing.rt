@@ -1,13 +1,28 @@
 // Where the parts of a volume stand among its available places, and which of these are lost.
-ghost use Rattle.std.specs.Prelude.{◌≡◌, ◌<◌, ◌≢◌, ◌≤◌, false, not, length, filter, All, AllPairs, IfOk, ◌&&◌, slice_index, slice_index_or};
+ghost use Rattle.std.specs.Prelude.{
+  ◌≡◌,
+  ◌<◌,
+  ◌≢◌,
+  ◌≤◌,
+  false,
+  not,
+  length,
+  filter,
+  All,
+  AllPairs,
+  IfOk,
+  ◌&&◌,
+  slice_index,
+  slice_index_or,
+};
 ghost use Rattle.vol_format.specs.Directory.{files, is_system, is_free};
 ghost use Rattle.vol_format.specs.Standing.{index_in, layout_of};
 ghost use Rattle.vol_layout.specs.Layouts.{AreDistinct, IsInRange};
 
+use a2_device::Part;
 use std::alloc::{AllocError, Allocator};
 use vol_format::{Format, Link};
 use vol_layout::{Layout, LayoutError};
-use vol_parts::Part;
 
 // How many places are available.
 pub fn count_available<F: Format>(format: &F, volume: &F::Volume) -> u32
@@ -66,7 +81,8 @@ pub fn lost_of<F: Format, A: Allocator>(
 ) -> Result<Vec<u32, A>, AllocError>
     requires { length taken.now ≡ (F.directory format.now volume.now).places }
     ensures { IfOk result (λ lost. lost.items
-        ≡ filter (λ place. not (is_free (F.directory format.now volume.now) place) && not (slice_index_or taken.now place false))
+        ≡ filter (λ place.
+        not (is_free (F.directory format.now volume.now) place) && not (slice_index_or taken.now place false))
         (F.directory format.now volume.now).available) }
 {
     let mut lost = Vec::new(alloc);
@@ -105,7 +121,8 @@ fn numbers_of<F: Format, A: Allocator>(
     parts: &[Part],
 ) -> Result<Vec<u32, A>, AllocError>
     requires places { All (λ (part : Part). part.place < (F.directory format.now volume.now).places) parts.now }
-    requires outside { All (λ (part : Part). is_system (F.directory format.now volume.now) part.place ≡ false) parts.now }
+    requires outside { All (λ (part : Part). is_system (F.directory format.now volume.now) part.place
+        ≡ false) parts.now }
     ensures { IfOk result (λ at. at.items ≡ layout_of (F.directory format.now volume.now) parts.now) }
 {
     let mut at = Vec::new(alloc);
@@ -123,7 +140,8 @@ pub fn layout_of<F: Format, A: Allocator + Copy>(
     parts: &[Part],
 ) -> Result<Layout<A>, AllocError>
     requires places { All (λ (part : Part). part.place < (F.directory format.now volume.now).places) parts.now }
-    requires outside { All (λ (part : Part). is_system (F.directory format.now volume.now) part.place ≡ false) parts.now }
+    requires outside { All (λ (part : Part). is_system (F.directory format.now volume.now) part.place
+        ≡ false) parts.now }
     requires apart { AllPairs (λ (part later : Part). part.place ≢ later.place) parts.now }
     ensures { IfOk result (λ layout. layout ≡ record {
       at = layout_of (F.directory format.now volume.now) parts.now;

@@ -1,19 +1,47 @@
 // The walk over the parts of all files.
-ghost use Rattle.std.specs.Prelude.{◌≡◌, ◌==◌, ◌&&◌, ◌<◌, ◌≤◌, ◌+◌, [], false, not, replicate, length, OnOk, IfOk, IsTrue};
+ghost use Rattle.std.specs.Prelude.{
+  ◌≡◌,
+  ◌==◌,
+  ◌&&◌,
+  ◌<◌,
+  ◌≤◌,
+  ◌+◌,
+  [],
+  false,
+  not,
+  replicate,
+  length,
+  OnOk,
+  IfOk,
+  IsTrue,
+};
 ghost use Rattle.a2_device.specs.Device.{OnlyReads, unit_at};
+ghost use Rattle.vol_format.specs.Fits.{Fits};
 ghost use Rattle.vol_format.specs.Directory.{entries};
-ghost use Rattle.vol_parts.specs.Stop.{is_device_stop};
-ghost use Rattle.vol_parts.specs.declared.part.Part.{Part};
+ghost use Rattle.a2_device.specs.Stop.{is_device_stop};
+ghost use Rattle.a2_device.specs.declared.part.Part.{Part};
 ghost use Rattle.vol_check.specs.declared.walk.Pending.TheVariants.{Visit};
 ghost use Rattle.vol_check.specs.Known.{is_known as is_in, none_known};
 ghost use Rattle.vol_check.specs.Walking.{IsWalking, None};
-ghost use Rattle.vol_check.specs.Walk.{lists, IsSound, hindrance_of, is_admitted, admitted, taken_up, told, noted, followed, after_visit, after_next, next_unit};
+ghost use Rattle.vol_check.specs.Walk.{
+  lists,
+  IsSound,
+  hindrance_of,
+  is_admitted,
+  admitted,
+  taken_up,
+  told,
+  noted,
+  followed,
+  after_visit,
+  after_next,
+  next_unit,
+};
 
 use crate::known::{Known, is_known, note_known};
-use a2_device::Device;
+use a2_device::{Device, Fault, Part, Stop};
 use std::alloc::{AllocError, Allocator};
 use vol_format::{Format, Link};
-use vol_parts::{Fault, Part, Stop};
 
 /// What a pointer that was read leaves to do: to look at a part, or to tell a fault when its turn comes.
 #[derive(Clone, Copy, Debug, PartialEq, Eq)]
@@ -22,7 +50,8 @@ pub enum Pending {
     Tell(Fault),
 }
 
-/// The parts so far, what is to do next with the first of it last, the faults so far, which places were met, and which faults of them are known.
+/// The parts so far, what is to do next with the first of it last, the faults so far, which places were met, and which
+/// faults of them are known.
 #[derive(Drop)]
 pub struct Walk<A: Allocator> {
     pub parts: Vec<Part, A>,
@@ -34,7 +63,14 @@ pub struct Walk<A: Allocator> {
 
 // A walk that has seen nothing.
 fn start<A: Allocator + Copy>(alloc: A, places: u32) -> Result<Walk<A>, AllocError>
-    ensures { IfOk result (λ walk. lists walk ≡ record { parts = []; pending = []; faults = []; visited = replicate places false; known = replicate places none_known }) }
+    ensures { IfOk result (λ walk.
+        lists walk ≡ record {
+          parts = [];
+          pending = [];
+          faults = [];
+          visited = replicate places false;
+          known = replicate places none_known;
+        }) }
 {
     Ok(Walk {
         parts: Vec::new(alloc),
@@ -74,7 +110,8 @@ fn admit<F: Format, A: Allocator>(
     requires place { part.place < (F.directory format.now volume.now).places }
     requires visited { length walk.old.visited.items ≡ (F.directory format.now volume.now).places }
 
-    ensures taken { IfOk result (λ taken. taken ≡ is_admitted (F.directory format.now volume.now) part (lists walk.old)) }
+    ensures taken { IfOk result (λ taken.
+        taken ≡ is_admitted (F.directory format.now volume.now) part (lists walk.old)) }
     ensures walk { OnOk result (lists walk.new ≡ admitted (F.directory format.now volume.now) part (lists walk.old)) }
 {
     if let Some(fault) = hindrance(format, volume, part, walk) {
@@ -182,7 +219,8 @@ fn visit<D: Device, F: Format, A: Allocator>(
     ensures walk { OnOk result (lists walk.new
         ≡ after_visit (F.meaning format.now) (F.directory format.now volume.now) part unit.new (lists walk.old)) }
     ensures honest { IsTrue (D.state device.old).honest → OnOk result (lists walk.new
-        ≡ after_visit (F.meaning format.now) (F.directory format.now volume.now) part (unit_at (D.state device.old).store part.place) (lists walk.old)) }
+        ≡ after_visit (F.meaning format.now) (F.directory format.now volume.now) part
+        (unit_at (D.state device.old).store part.place) (lists walk.old)) }
 {
     if admit(format, volume, part, walk)? && format.pointers(&part) != 0 {
         device.read(part.place, unit).map_err(|_| Stop::Device)?;
@@ -211,7 +249,8 @@ fn go_on<D: Device, F: Format, A: Allocator>(
     ensures walk { OnOk result (lists walk.new
         ≡ after_next (F.meaning format.now) (F.directory format.now volume.now) next unit.new (lists walk.old)) }
     ensures honest { IsTrue (D.state device.old).honest → OnOk result (lists walk.new
-        ≡ after_next (F.meaning format.now) (F.directory format.now volume.now) next (next_unit (D.state device.old).store next) (lists walk.old)) }
+        ≡ after_next (F.meaning format.now) (F.directory format.now volume.now) next
+        (next_unit (D.state device.old).store next) (lists walk.old)) }
 {
     match next {
         Pending::Visit(part) => visit(device, format, volume, part, unit, walk),
@@ -228,21 +267,22 @@ fn walk_file<D: Device, F: Format, A: Allocator>(
     unit: &mut [u8],
     walk: &mut Walk<A>,
 ) -> Result<(), Stop>
-    requires size { (D.state device.old).unit_size ≡ (F.meaning format.now).unit_size }
+    requires fits { Fits (F.meaning format.now) (D.state device.old) }
     requires places { (F.directory format.now volume.now).places ≡ (D.state device.old).places }
-    requires takes { (F.meaning format.now).Takes (D.state device.old).places }
     requires unit { length unit.old ≡ (F.meaning format.now).unit_size }
     requires file { file < entries (F.directory format.now volume.now) }
     requires pending { walk.old.pending.items ≡ [] }
     requires sound { IsSound (F.meaning format.now) (F.directory format.now volume.now) (lists walk.old) }
     requires walking { IsTrue (D.state device.old).honest
-        → IsWalking (F.meaning format.now) (F.directory format.now volume.now) (D.state device.old).store file None (lists walk.old) }
+        → IsWalking (F.meaning format.now) (F.directory format.now volume.now) (D.state device.old).store file None
+        (lists walk.old) }
 
     ensures device { OnlyReads (is_device_stop result) (D.state device.old) (D.state device.new) }
     ensures pending { OnOk result (walk.new.pending.items ≡ []) }
     ensures sound { OnOk result (IsSound (F.meaning format.now) (F.directory format.now volume.now) (lists walk.new)) }
     ensures walking { IsTrue (D.state device.old).honest
-        → OnOk result (IsWalking (F.meaning format.now) (F.directory format.now volume.now) (D.state device.old).store (file + 1) None (lists walk.new)) }
+        → OnOk result (IsWalking (F.meaning format.now) (F.directory format.now volume.now) (D.state device.old).store
+        (file + 1) None (lists walk.new)) }
 {
     let entry = format.entry_at(volume, file);
     note(walk, entry.place, format.root(volume, file))?;
@@ -259,15 +299,16 @@ pub fn walk_files<D: Device, F: Format, A: Allocator + Copy>(
     format: &F,
     volume: &F::Volume,
 ) -> Result<Walk<A>, Stop>
-    requires size { (D.state device.old).unit_size ≡ (F.meaning format.now).unit_size }
+    requires fits { Fits (F.meaning format.now) (D.state device.old) }
     requires places { (F.directory format.now volume.now).places ≡ (D.state device.old).places }
-    requires takes { (F.meaning format.now).Takes (D.state device.old).places }
 
     ensures device { OnlyReads (is_device_stop result) (D.state device.old) (D.state device.new) }
     ensures pending { IfOk result (λ walk. walk.pending.items ≡ []) }
-    ensures sound { IfOk result (λ walk. IsSound (F.meaning format.now) (F.directory format.now volume.now) (lists walk)) }
+    ensures sound { IfOk result (λ walk.
+        IsSound (F.meaning format.now) (F.directory format.now volume.now) (lists walk)) }
     ensures walking { IsTrue (D.state device.old).honest
-        → IfOk result (λ walk. IsWalking (F.meaning format.now) (F.directory format.now volume.now) (D.state device.old).store
+        → IfOk result (λ walk.
+        IsWalking (F.meaning format.now) (F.directory format.now volume.now) (D.state device.old).store
         (entries (F.directory format.now volume.now)) None (lists walk)) }
 {
     let mut walk = start(alloc, device.places())?;

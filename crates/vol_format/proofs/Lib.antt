@@ -2,3 +2,9 @@ pub mod Bits
 pub mod Filters
 pub mod Numbers
 pub mod Frames
+pub mod Lists
+pub mod OneList
+pub mod Existence
+pub mod Entries
+pub mod Kept
+pub mod OneFile

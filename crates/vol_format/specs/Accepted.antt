@@ -1,8 +1,8 @@
 -- Which volumes are accepted, and what is wrong with the others.
 use Rattle.std.specs.Prelude.{◌≡◌, ◌≢◌, ◌⊎◌, ◌<◌, ℕ, true, false, List}
-use Rattle.vol_parts.specs.declared.part.Part.{Part}
-use Rattle.vol_parts.specs.declared.fault.Fault.{Fault}
-use Rattle.vol_parts.specs.declared.fault.Fault.TheVariants.{OutOfRange, StorageType, InSystem, Shared, MarkedFree}
+use Rattle.a2_device.specs.declared.part.Part.{Part}
+use Rattle.a2_device.specs.declared.fault.Fault.{Fault}
+use Rattle.a2_device.specs.declared.fault.Fault.TheVariants.{OutOfRange, StorageType, InSystem, Shared, MarkedFree}
 use Rattle.vol_format.specs.declared.link.Link.TheVariants.{Wild, OtherType}
 use Rattle.vol_format.specs.Directory.{Directory, entries, entry_of, root_of, is_system, is_free}
 use Rattle.vol_format.specs.Meaning.{Meaning, link_from}

@@ -1,6 +1,6 @@
 -- Where the pointer to a part stands.
 use Rattle.std.specs.Prelude.{◌≡◌, ◌⊎◌, ◌<◌, ℕ, true, false, if◌then◌else◌, List}
-use Rattle.vol_parts.specs.declared.part.Part.{Part}
+use Rattle.a2_device.specs.declared.part.Part.{Part}
 use Rattle.vol_format.specs.declared.link.Link.TheVariants.{To}
 use Rattle.vol_format.specs.declared.link.Holder.{Holder}
 use Rattle.vol_format.specs.Directory.{Directory, entries, entry_of, root_of}

@@ -1,9 +1,9 @@
 -- What a format must meet.
 use Rattle.std.specs.Prelude.{◌≡◌, ◌≢◌, ◌↔◌, ◌<◌, ◌≤◌, ◌+◌, ◌/◌, ℕ, Bool, true, false, List, length, slice_set, AllPairs, Contains}
 use Rattle.a2_device.specs.Device.{unit_at}
-use Rattle.vol_parts.specs.declared.part.Part.{Part}
-use Rattle.vol_parts.specs.declared.part.PartKind.TheVariants.{Body}
-use Rattle.vol_parts.specs.declared.fault.Fault.{Fault}
+use Rattle.a2_device.specs.declared.part.Part.{Part}
+use Rattle.a2_device.specs.declared.part.PartKind.TheVariants.{Body}
+use Rattle.a2_device.specs.declared.fault.Fault.{Fault}
 use Rattle.vol_format.specs.declared.link.Link.TheVariants.{Null, Directory as ToDirectory, OtherType, To}
 use Rattle.vol_format.specs.Directory.{Directory, entries, entry_of, root_of, is_system, map_place, turned, remapped, IsSameFrame}
 use Rattle.vol_format.specs.Meaning.{Meaning}

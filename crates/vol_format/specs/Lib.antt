@@ -1,8 +1,11 @@
 pub mod Directory
 pub mod Meaning
+pub mod Fits
 pub mod Reach
 pub mod Accepted
 pub mod Standing
 pub mod Holding
 pub mod Laws
 pub mod Ordered
+pub mod Files
+pub mod Layout

@@ -1,8 +1,8 @@
 -- What a format means.
 use Rattle.std.specs.Prelude.{ℕ, Bool, List, length}
 use Rattle.a2_device.specs.Device.{unit_at}
-use Rattle.vol_parts.specs.declared.part.Part.{Part}
-use Rattle.vol_parts.specs.declared.fault.Fault.{Fault}
+use Rattle.a2_device.specs.declared.part.Part.{Part}
+use Rattle.a2_device.specs.declared.fault.Fault.{Fault}
 use Rattle.vol_format.specs.declared.link.Link.{Link}
 use Rattle.vol_format.specs.Directory.{Directory}
 

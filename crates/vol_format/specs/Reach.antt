@@ -1,8 +1,8 @@
 -- The parts of the files of a store.
 use Rattle.std.specs.Prelude.{◌≡◌, ◌⊎◌, ◌↔◌, ◌<◌, ℕ, List, AllPairs, Contains}
 use Rattle.a2_device.specs.Device.{unit_at}
-use Rattle.vol_parts.specs.declared.part.Part.{Part}
-use Rattle.vol_parts.specs.declared.part.PartKind.{PartKind}
+use Rattle.a2_device.specs.declared.part.Part.{Part}
+use Rattle.a2_device.specs.declared.part.PartKind.{PartKind}
 use Rattle.vol_format.specs.declared.link.Link.TheVariants.{To}
 use Rattle.vol_format.specs.Directory.{Directory, entries, root_of}
 use Rattle.vol_format.specs.Meaning.{Meaning, link_from}

@@ -1,8 +1,8 @@
 -- Where the parts of a volume stand among the available places, and which places are lost.
 use Rattle.std.specs.Prelude.{◌≡◌, ◌≢◌, ◌<◌, ℕ, ◌+◌, ◌==◌, false, not, ◌&&◌, if◌then◌else◌, List, [], ◌∷◌, length, map, filter, AllPairs, Contains, slice_index, slice_index_or}
 use Rattle.std.specs.List.{list_any}
-use Rattle.vol_parts.specs.declared.part.Part.{Part}
-use Rattle.vol_parts.specs.declared.part.PartKind.TheVariants.{Body}
+use Rattle.a2_device.specs.declared.part.Part.{Part}
+use Rattle.a2_device.specs.declared.part.PartKind.TheVariants.{Body}
 use Rattle.vol_layout.specs.Layouts.{IsLayout}
 use Rattle.vol_format.specs.Directory.{Directory, is_free}
 use Rattle.vol_format.specs.Meaning.{Meaning}

@@ -1,15 +1,29 @@
 // The trait of formats.
 use crate::{Holder, Link};
-use a2_device::Device;
-use vol_parts::{Part, WalkError};
+use a2_device::{Device, Part, WalkError};
 
 /// A format of volumes. It says what a volume's units mean; each reader is exact over the directory that `volume` read.
 pub trait Format {
-    ghost use Rattle.std.specs.Prelude.{◌≡◌, ◌<◌, true, false, length, slice_get, IsTrue, IfOk, IfErr, IfSome, IfNone, List, ℕ};
+    ghost use Rattle.std.specs.Prelude.{
+      ◌≡◌,
+      ◌<◌,
+      true,
+      false,
+      length,
+      slice_get,
+      IsTrue,
+      IfOk,
+      IfErr,
+      IfSome,
+      IfNone,
+      List,
+      ℕ,
+    };
     ghost use Rattle.a2_device.specs.Device.{OnlyReads};
     ghost use Rattle.a2_device.specs.Reading.{met_device};
-    ghost use Rattle.vol_parts.specs.declared.fault.Fault.{Fault};
-    ghost use Rattle.vol_parts.specs.declared.fault.WalkError.TheVariants.{Fault as AFault};
+    ghost use Rattle.a2_device.specs.declared.fault.Fault.{Fault};
+    ghost use Rattle.a2_device.specs.declared.fault.WalkError.TheVariants.{Fault as AFault};
+    ghost use Rattle.vol_format.specs.Fits.{Fits};
     ghost use Rattle.vol_format.specs.Directory.{Directory, entries, entry_of, root_of, is_system, is_free};
     ghost use Rattle.vol_format.specs.Meaning.{Meaning};
     ghost use Rattle.vol_format.specs.Laws.{IsReadable, IsDirectory};
@@ -26,15 +40,16 @@ pub trait Format {
     /// # Errors
     /// `Fault` with the first of these that is broken, `Device` where a read fails, `Memory`.
     fn volume<D: Device>(&self, device: &mut D) -> Result<Self::Volume, WalkError>
-        requires unit { (D.state device.old).unit_size ≡ (meaning self.now).unit_size }
-        requires places { (meaning self.now).Takes (D.state device.old).places }
+        requires fits { Fits (meaning self.now) (D.state device.old) }
 
         ensures device { OnlyReads (met_device result) (D.state device.old) (D.state device.new) }
         ensures places { IfOk result (λ volume. (directory self.now volume).places ≡ (D.state device.old).places) }
         ensures described { IsTrue (D.state device.old).honest
-            → IfOk result (λ volume. (meaning self.now).Describes (D.state device.old).store (directory self.now volume)) }
+            → IfOk result (λ volume. (meaning self.now).Describes (D.state device.old).store
+            (directory self.now volume)) }
         ensures refused { IsTrue (D.state device.old).honest
-            → IfErr result (λ e. (fault : Fault) → e ≡ AFault fault → (meaning self.now).HeaderFaultAt (D.state device.old).store fault) };
+            → IfErr result (λ e. (fault : Fault) → e ≡ AFault fault
+            → (meaning self.now).HeaderFaultAt (D.state device.old).store fault) };
 
     /// How many entries are in use, those of directories among them.
     fn entries(&self, volume: &Self::Volume) -> u32
@@ -64,7 +79,8 @@ pub trait Format {
     /// The number of an available place; `None` for a place of the system.
     fn index(&self, volume: &Self::Volume, place: u32) -> Option<u32>
         requires { place < (directory self.now volume.now).places }
-        ensures some { IfSome result (λ number. slice_get (directory self.now volume.now).available number ≡ Some place) }
+        ensures some { IfSome result (λ number.
+            slice_get (directory self.now volume.now).available number ≡ Some place) }
         ensures none { IfNone result (is_system (directory self.now volume.now) place ≡ true) };
 
     /// How many pointers the unit of a part has.

@@ -1,5 +1,5 @@
 // What pointers name, and where they stand.
-use vol_parts::Part;
+use a2_device::Part;
 
 /// What a pointer names.
 #[derive(Clone, Copy, Debug, PartialEq, Eq)]
@@ -16,7 +16,8 @@ pub enum Link {
     To(Part),
 }
 
-/// Where a pointer stands: in the entry of a slot of a directory unit, or as the pointer of a number in the unit of a part.
+/// Where a pointer stands: in the entry of a slot of a directory unit, or as the pointer of a number in the unit of a
+/// part.
 #[derive(Clone, Copy, Debug, PartialEq, Eq)]
 pub struct Holder {
     pub entry: bool,

@@ -1,5 +1,18 @@
 // Places in an order, and the number of each.
-ghost use Rattle.std.specs.Prelude.{◌≡◌, ◌<◌, ℕ, Some, length, slice_get, All, AllPairs, Contains, IfOk, IfSome, IfNone};
+ghost use Rattle.std.specs.Prelude.{
+  ◌≡◌,
+  ◌<◌,
+  ℕ,
+  Some,
+  length,
+  slice_get,
+  All,
+  AllPairs,
+  Contains,
+  IfOk,
+  IfSome,
+  IfNone,
+};
 ghost use Rattle.vol_format.specs.Ordered.{AreNumbers};
 
 use std::alloc::{AllocError, Allocator, Global};

@@ -1,13 +1,13 @@
 // The trait of formats that are written.
 use crate::{Format, Holder};
+use a2_device::Part;
 use std::alloc::Allocator;
 use vol_layout::Layout;
-use vol_parts::Part;
 
 /// A format whose pointers and marks can be written, so that parts can be moved.
 pub trait WritableFormat: Format {
     ghost use Rattle.std.specs.Prelude.{◌≡◌, ◌<◌, true, false, length, All, List, ℕ};
-    ghost use Rattle.vol_parts.specs.declared.part.Part.{Part};
+    ghost use Rattle.a2_device.specs.declared.part.Part.{Part};
     ghost use Rattle.vol_format.specs.Accepted.{IsAccepted};
     ghost use Rattle.vol_format.specs.Directory.{Directory, entries, map_place, IsSameFrame};
     ghost use Rattle.vol_format.specs.Holding.{IsHolder, with_slot};
@@ -29,9 +29,12 @@ pub trait WritableFormat: Format {
 
         ensures inside { result.place < (Self.directory self.now volume.now).places }
         ensures slot { (Self.meaning self.now).HasSlot result.entry result.slot }
-        ensures holds { (present : Directory) (store : List (List ℕ)) → IsSameFrame (Self.directory self.now volume.now) present
-            → IsAccepted (Self.meaning self.now) present store → Stands (Self.meaning self.now) present store parts.now layout.now.at
-            → IsHolder (Self.meaning self.now) present store (part_now parts.now present.available layout.now.at k) result };
+        ensures holds { (present : Directory) (store : List (List ℕ))
+            → IsSameFrame (Self.directory self.now volume.now) present
+            → IsAccepted (Self.meaning self.now) present store
+            → Stands (Self.meaning self.now) present store parts.now layout.now.at
+            → IsHolder (Self.meaning self.now) present store
+            (part_now parts.now present.available layout.now.at k) result };
 
     /// Writes the pointer that stands there, so that it names a place.
     fn put_pointer(&self, unit: &mut [u8], holder: Holder, place: u32)

@@ -1,6 +1,21 @@
 //! A layout: the place of each part, and beside it the part at each place.
 
-ghost use Rattle.std.specs.Prelude.{◌≡◌, ℕ, ◌≤◌, ◌↔◌, length, Contains, IsOk, OnOk, OnErr, IfOk, IsTrue, Err, Some, slice_get};
+ghost use Rattle.std.specs.Prelude.{
+  ◌≡◌,
+  ℕ,
+  ◌≤◌,
+  ◌↔◌,
+  length,
+  Contains,
+  IsOk,
+  OnOk,
+  OnErr,
+  IfOk,
+  IsTrue,
+  Err,
+  Some,
+  slice_get,
+};
 ghost use Rattle.vol_layout.specs.Layouts.{AreDistinct, IsLayout, IsInRange};
 ghost use Rattle.vol_layout.specs.Plans.{IsLegal, LacksPart, LacksPlace, moved};
 ghost use Rattle.vol_layout.specs.declared.layout.LayoutError.TheVariants.{Memory};

@@ -2,10 +2,10 @@
 use Rattle.std.specs.Prelude.{◌≡◌, ℕ, List, [], ◌∷◌, Some}
 use Rattle.std.proofs.Common.{refl, ap}
 use Rattle.vol_layout.specs.declared.moves.Move.{Move}
-use Rattle.plan_writes.specs.Agenda.{next_write, next_marks}
-use Rattle.plan_writes.specs.Tasks.{Task, Map, Copy, Pointer}
-use Rattle.plan_writes.specs.declared.write.Write.{Write}
-use Rattle.plan_writes.specs.declared.write.Write.TheVariants.{Map as MapWrite, Copy as CopyWrite, Pointer as PointerWrite}
+use Rattle.vol_mover.specs.Agenda.{next_write, next_marks}
+use Rattle.vol_mover.specs.Tasks.{Task, Map, Copy, Pointer}
+use Rattle.vol_mover.specs.declared.write.Write.{Write}
+use Rattle.vol_mover.specs.declared.write.Write.TheVariants.{Map as MapWrite, Copy as CopyWrite, Pointer as PointerWrite}
 
 -- the write of a task
 abbrev pub write_of : Task → Write

@@ -6,7 +6,7 @@ use Rattle.std.proofs.lemmas.Bool.Decides.{nat_tests}
 use Rattle.std.proofs.lemmas.List.{get_or-map, get_or_default, length-map}
 use Rattle.std.proofs.lemmas.List.Folds.{list_any_at}
 use Rattle.std.proofs.lemmas.List.Kept.{AllPairs-filter}
-use Rattle.vol_parts.specs.declared.part.Part.{Part}
+use Rattle.a2_device.specs.declared.part.Part.{Part}
 use Rattle.vol_layout.specs.Layouts.{Placement, IsLayout}
 use Rattle.vol_format.specs.Accepted.{IsAccepted}
 use Rattle.vol_format.specs.Directory.{Directory, is_free}
@@ -16,8 +16,8 @@ use Rattle.vol_format.specs.Reach.{Reach, IsPartsOf}
 use Rattle.vol_format.specs.Standing.{Stands, IsLost, at_place, index_in, layout_of, no_part, part_now}
 use Rattle.vol_format.proofs.Filters.{out_of_filter}
 use Rattle.vol_check.specs.Told.{Told, IsToldOf}
-use Rattle.plan_writes.specs.Tasks.{at_first, place_of}
-use Rattle.plan_writes.specs.Work.{AreSpare}
+use Rattle.vol_mover.specs.Tasks.{at_first, place_of}
+use Rattle.vol_mover.specs.Work.{AreSpare}
 use Rattle.vol_mover.specs.Open.{IsOpen}
 use Rattle.vol_mover.proofs.FewTasks.{filter_fewer}
 

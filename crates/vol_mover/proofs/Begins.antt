@@ -14,11 +14,11 @@ use Rattle.vol_format.specs.Meaning.{Meaning}
 use Rattle.vol_format.specs.Reach.{IsPartsOf}
 use Rattle.vol_format.specs.Standing.{IsLost, lost_places}
 use Rattle.vol_check.specs.Told.{Told, IsToldOf}
-use Rattle.vol_opening.specs.Opening.{IsPlanOf, IsAllowed}
-use Rattle.vol_opening.specs.declared.opening.Options.{Options}
-use Rattle.plan_writes.specs.Tasks.{Task, IsAgenda, at_first, moves_of}
-use Rattle.plan_writes.specs.Work.{IsWork}
-use Rattle.plan_writes.specs.Writes.{writes_of}
+use Rattle.vol_mover.specs.Opening.{IsPlanOf, IsAllowed}
+use Rattle.vol_mover.specs.declared.opening.Options.{Options}
+use Rattle.vol_mover.specs.Tasks.{Task, IsAgenda, at_first, moves_of}
+use Rattle.vol_mover.specs.Work.{IsWork}
+use Rattle.vol_mover.specs.Writes.{writes_of}
 use Rattle.vol_mover.specs.Begun.{IsBegun, TakesWrites}
 use Rattle.vol_mover.specs.Open.{IsOpen}
 use Rattle.vol_mover.specs.Present.{Present, IsSession}

@@ -3,7 +3,7 @@ use Rattle.std.specs.Prelude.{◌≡◌, ◌≢◌, ◌<◌, ℕ, List, [], ◌�
 use Rattle.std.proofs.Common.{refl, sym, ◌∙◌, ap, subst, arith}
 use Rattle.std.proofs.lemmas.List.{get_or-set_same, get_or-set_other}
 use Rattle.a2_device.specs.Device.{unit_at}
-use Rattle.vol_parts.specs.declared.part.Part.{Part}
+use Rattle.a2_device.specs.declared.part.Part.{Part}
 use Rattle.vol_layout.specs.Plans.{IsLegal}
 use Rattle.vol_layout.specs.declared.moves.Move.{Move}
 use Rattle.vol_format.specs.Directory.{Directory}
@@ -11,12 +11,12 @@ use Rattle.vol_format.specs.Laws.{IsReadable, IsMovable}
 use Rattle.vol_format.specs.Meaning.{Meaning}
 use Rattle.vol_format.specs.Standing.{IsLost, part_now}
 use Rattle.vol_format.proofs.Frames.{same_available}
-use Rattle.write_laws.specs.Kept.{IsKept}
-use Rattle.write_laws.proofs.Copies.{copy_kept}
-use Rattle.write_laws.proofs.Losing.{copy_lost}
-use Rattle.write_laws.proofs.Standing.{kept_stands}
-use Rattle.write_laws.proofs.SystemUnits.{copy_system}
-use Rattle.plan_writes.specs.Tasks.{Course, Copy, course_after, place_of}
+use Rattle.vol_laws.specs.Kept.{IsKept}
+use Rattle.vol_laws.proofs.Copies.{copy_kept}
+use Rattle.vol_laws.proofs.Losing.{copy_lost}
+use Rattle.vol_laws.proofs.Standing.{kept_stands}
+use Rattle.vol_laws.proofs.SystemUnits.{copy_system}
+use Rattle.vol_mover.specs.Tasks.{Course, Copy, course_after, place_of}
 use Rattle.vol_mover.specs.Open.{IsOpen}
 use Rattle.vol_mover.specs.Volume.{SameVolume}
 use Rattle.vol_mover.proofs.Volumes.{same_volume}

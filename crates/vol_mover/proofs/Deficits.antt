@@ -9,7 +9,7 @@ use Rattle.vol_layout.specs.declared.moves.Move.{Move}
 use Rattle.vol_layout.proofs.Deficits.{misplaced_all, length_partners, deficit_is_one}
 use Rattle.vol_layout.proofs.LowerBound.{apart_from_once}
 use Rattle.vol_layout.proofs.RingLemmas.{ring_misplaced}
-use Rattle.plan_writes.specs.Work.{IsWork}
+use Rattle.vol_mover.specs.Work.{IsWork}
 use Rattle.vol_mover.specs.Begun.{TakesWrites}
 use Rattle.vol_mover.proofs.FewTasks.{filter_fewer}
 

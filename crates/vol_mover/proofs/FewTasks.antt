@@ -6,9 +6,9 @@ use Rattle.std.proofs.lemmas.List.Filters.{length-filter_both}
 use Rattle.vol_layout.specs.Plans.{moved}
 use Rattle.vol_layout.specs.declared.moves.Move.{Move}
 use Rattle.vol_format.specs.Directory.{Directory, map_place}
-use Rattle.write_laws.specs.declared.mark.Mark.{Mark}
-use Rattle.plan_writes.specs.Tasks.{Task, Map, Copy, Pointer, place_of}
-use Rattle.plan_writes.specs.Writes.{with_mark, freed, releases, outside, change, changes_between, writes_after, writes_of}
+use Rattle.vol_laws.specs.declared.mark.Mark.{Mark}
+use Rattle.vol_mover.specs.Tasks.{Task, Map, Copy, Pointer, place_of}
+use Rattle.vol_mover.specs.Writes.{with_mark, freed, releases, outside, change, changes_between, writes_after, writes_of}
 
 pub filter_fewer : (p : ℕ → Bool) (xs : List ℕ) → length (filter p xs) ≤ length xs
 filter_fewer p xs = omega (arith, length-filter_both p (λ x. not (p x)) (λ x. refl) xs)

@@ -1,7 +1,7 @@
 -- A session with another device and other bytes, and closed.
 use Rattle.std.specs.Prelude.{true, ℕ, List}
 use Rattle.std.specs.declared.vec.Vec.{Vec}
-use Rattle.plan_writes.specs.Tasks.{Task}
+use Rattle.vol_mover.specs.Tasks.{Task}
 use Rattle.vol_mover.specs.declared.session.Session.{Session}
 
 abbrev pub with_unit : {D F A V : Type 0} → Session D F A V → D → Vec ℕ A → Session D F A V

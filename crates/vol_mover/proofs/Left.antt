@@ -7,7 +7,7 @@ use Rattle.vol_layout.specs.declared.moves.Move.{Move}
 use Rattle.vol_format.specs.Directory.{Directory}
 use Rattle.vol_format.specs.Laws.{IsReadable}
 use Rattle.vol_format.specs.Meaning.{Meaning}
-use Rattle.plan_writes.specs.Tasks.{Course, Task, Map, Copy, Pointer, IsFewLost, IsAgenda, course_after, moves_of}
+use Rattle.vol_mover.specs.Tasks.{Course, Task, Map, Copy, Pointer, IsFewLost, IsAgenda, course_after, moves_of}
 use Rattle.vol_mover.specs.Open.{IsOpen}
 use Rattle.vol_mover.specs.Present.{Present, IsSession, IsShortest}
 use Rattle.vol_mover.specs.Steps.{IsNextWrite, Leaves, MovesOne}

@@ -19,3 +19,17 @@ pub mod Begins
 pub mod LostPlaces
 pub mod Reporting
 pub mod Fields
+pub mod Few
+pub mod LostOpening
+mod LeftWrites
+mod Drafts
+mod Releases
+mod Beside
+mod Moving
+mod Places
+mod Spare
+mod Released
+mod Changed
+mod Whole
+pub mod Counts
+mod Totals

@@ -7,10 +7,10 @@ use Rattle.std.proofs.Math.ListN.{length-set}
 use Rattle.vol_layout.proofs.Lists.{Contains-cons, Contains-cases}
 use Rattle.vol_format.specs.Directory.{Directory, is_free, remapped}
 use Rattle.vol_format.proofs.Filters.{in_filter, out_of_filter}
-use Rattle.write_laws.specs.Marked.{marked}
-use Rattle.write_laws.specs.declared.mark.Mark.{Mark}
-use Rattle.write_laws.proofs.Marks.{other_mark, marked_free, marked_used}
-use Rattle.plan_writes.specs.Tasks.{without, lost_after}
+use Rattle.vol_laws.specs.Marked.{marked}
+use Rattle.vol_laws.specs.declared.mark.Mark.{Mark}
+use Rattle.vol_laws.proofs.Marks.{other_mark, marked_free, marked_used}
+use Rattle.vol_mover.specs.Tasks.{without, lost_after}
 
 not_same : (x place : ℕ) → not (x == place) ≡ true → x ≢ place
 not_same x place is = grind (arith, nat_tests)

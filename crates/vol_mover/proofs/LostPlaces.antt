@@ -7,9 +7,9 @@ use Rattle.vol_format.specs.Directory.{Directory, map_place}
 use Rattle.vol_layout.proofs.Lists.{Contains-cases}
 use Rattle.vol_layout.specs.Plans.{moved}
 use Rattle.vol_layout.specs.declared.moves.Move.{Move}
-use Rattle.write_laws.specs.declared.mark.Mark.{Mark}
-use Rattle.plan_writes.specs.Tasks.{Course, Task, Map, Copy, Pointer, IsFewLost, at_first, course_after, lost_after, place_of, without}
-use Rattle.plan_writes.specs.Writes.{beside, freed, outside, releases, used, with_mark, writes_after, writes_of}
+use Rattle.vol_laws.specs.declared.mark.Mark.{Mark}
+use Rattle.vol_mover.specs.Tasks.{Course, Task, Map, Copy, Pointer, IsFewLost, at_first, course_after, lost_after, place_of, without}
+use Rattle.vol_mover.specs.Writes.{beside, freed, outside, releases, used, with_mark, writes_after, writes_of}
 use Rattle.std.specs.Prelude.{Some, slice_index}
 use Rattle.vol_mover.specs.Report.{AreFewLost}
 use Rattle.vol_mover.specs.Runs.{course_after_all}

@@ -2,20 +2,20 @@
 use Rattle.std.specs.Prelude.{◌≡◌, ◌↔◌, ◌<◌, ℕ, List, length, slice_index, slice_index_or, slice_set, All, Contains, None}
 use Rattle.std.proofs.Common.{sym, ◌∙◌, ap, subst}
 use Rattle.a2_device.specs.Device.{unit_at}
-use Rattle.vol_parts.specs.declared.part.Part.{Part}
+use Rattle.a2_device.specs.declared.part.Part.{Part}
 use Rattle.vol_format.specs.Directory.{Directory}
 use Rattle.vol_format.specs.Laws.{IsReadable, IsMovable, IsWritable}
 use Rattle.vol_format.specs.Meaning.{Meaning}
 use Rattle.vol_format.specs.Standing.{IsLost}
 use Rattle.vol_format.proofs.Frames.{same_available, same_map_place}
-use Rattle.write_laws.specs.Kept.{IsKept, IsUnreached}
-use Rattle.write_laws.specs.Marked.{CanMark, with_marks, marked}
-use Rattle.write_laws.specs.declared.mark.Mark.{Mark}
-use Rattle.write_laws.proofs.Losing.{kept_lost}
-use Rattle.write_laws.proofs.Marks.{marks_kept}
-use Rattle.write_laws.proofs.Standing.{kept_stands}
-use Rattle.write_laws.proofs.SystemUnits.{marks_system}
-use Rattle.plan_writes.specs.Tasks.{Course, Map, FitsMark, course_after, lost_after}
+use Rattle.vol_laws.specs.Kept.{IsKept, IsUnreached}
+use Rattle.vol_laws.specs.Marked.{CanMark, with_marks, marked}
+use Rattle.vol_laws.specs.declared.mark.Mark.{Mark}
+use Rattle.vol_laws.proofs.Losing.{kept_lost}
+use Rattle.vol_laws.proofs.Marks.{marks_kept}
+use Rattle.vol_laws.proofs.Standing.{kept_stands}
+use Rattle.vol_laws.proofs.SystemUnits.{marks_system}
+use Rattle.vol_mover.specs.Tasks.{Course, Map, FitsMark, course_after, lost_after}
 use Rattle.vol_mover.specs.Open.{IsOpen}
 use Rattle.vol_mover.specs.Volume.{SameVolume}
 use Rattle.vol_mover.proofs.Lost.{after_marks, AreUsed}

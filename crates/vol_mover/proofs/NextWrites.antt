@@ -2,7 +2,7 @@
 use Rattle.std.specs.Prelude.{◌≡◌, ◌<◌, ℕ, List, ◌∷◌, length, slice_index, slice_set}
 use Rattle.std.proofs.Common.{sym, ◌∙◌, ap, subst}
 use Rattle.a2_device.specs.Device.{IsWhole, unit_at}
-use Rattle.vol_parts.specs.declared.part.Part.{Part}
+use Rattle.a2_device.specs.declared.part.Part.{Part}
 use Rattle.vol_layout.specs.declared.moves.Move.{Move}
 use Rattle.vol_format.specs.Accepted.{IsAccepted}
 use Rattle.vol_format.specs.Directory.{Directory, IsSameFrame}
@@ -11,9 +11,9 @@ use Rattle.vol_format.specs.Laws.{IsReadable, IsMovable, IsWritable}
 use Rattle.vol_format.specs.Meaning.{Meaning}
 use Rattle.vol_format.specs.Standing.{Stands, part_now}
 use Rattle.vol_format.specs.declared.link.Holder.{Holder}
-use Rattle.write_laws.specs.Marked.{with_marks}
-use Rattle.write_laws.specs.declared.mark.Mark.{Mark}
-use Rattle.plan_writes.specs.Tasks.{Course, Task, Map, Copy, Pointer, Fits, IsFewLost, IsAgenda, course_after, place_of}
+use Rattle.vol_laws.specs.Marked.{with_marks}
+use Rattle.vol_laws.specs.declared.mark.Mark.{Mark}
+use Rattle.vol_mover.specs.Tasks.{Course, Task, Map, Copy, Pointer, Fits, IsFewLost, IsAgenda, course_after, place_of}
 use Rattle.vol_mover.specs.Open.{IsOpen}
 use Rattle.vol_mover.specs.Present.{Present, IsSession}
 use Rattle.vol_mover.specs.Steps.{IsNextWrite}

@@ -5,7 +5,7 @@ use Rattle.std.proofs.Common.{sym, ◌∙◌}
 use Rattle.vol_format.specs.Directory.{Directory}
 use Rattle.vol_format.specs.Laws.{IsDirectory}
 use Rattle.vol_format.specs.Meaning.{Meaning}
-use Rattle.plan_writes.specs.Tasks.{place_of}
+use Rattle.vol_mover.specs.Tasks.{place_of}
 
 pub get_some : (xs : List ℕ) (k x : ℕ) → slice_get xs k ≡ Some x → x ≡ slice_index xs k
 get_some [] k x e = absurd (cc)

@@ -2,7 +2,7 @@
 use Rattle.std.specs.Prelude.{◌≡◌, ◌≢◌, ◌⊎◌, ◌↔◌, ◌<◌, ℕ, List, [], ◌∷◌, length, slice_index, slice_set, Contains, Some}
 use Rattle.std.proofs.Common.{sym, ◌∙◌, ap, subst, arith, inl, inr}
 use Rattle.a2_device.specs.Device.{unit_at}
-use Rattle.vol_parts.specs.declared.part.Part.{Part}
+use Rattle.a2_device.specs.declared.part.Part.{Part}
 use Rattle.vol_layout.specs.Plans.{IsLegal, moved}
 use Rattle.vol_layout.specs.declared.moves.Move.{Move}
 use Rattle.vol_layout.proofs.Lists.{Contains-cases}
@@ -13,11 +13,11 @@ use Rattle.vol_format.specs.Meaning.{Meaning}
 use Rattle.vol_format.specs.Standing.{Stands, IsLost, part_now}
 use Rattle.vol_format.specs.declared.link.Holder.{Holder}
 use Rattle.vol_format.proofs.Frames.{same_available, same_places}
-use Rattle.write_laws.specs.Moved.{IsReady, HasMoved, pointed, pointed_store}
-use Rattle.write_laws.proofs.Losing.{left_lost}
-use Rattle.write_laws.proofs.Moves.{part_moved, part_stands}
-use Rattle.write_laws.proofs.SystemUnits.{pointer_system}
-use Rattle.plan_writes.specs.Tasks.{Course, Pointer, course_after, place_of}
+use Rattle.vol_laws.specs.Moved.{IsReady, HasMoved, pointed, pointed_store}
+use Rattle.vol_laws.proofs.Losing.{left_lost}
+use Rattle.vol_laws.proofs.Moves.{part_moved, part_stands}
+use Rattle.vol_laws.proofs.SystemUnits.{pointer_system}
+use Rattle.vol_mover.specs.Tasks.{Course, Pointer, course_after, place_of}
 use Rattle.vol_mover.specs.Open.{IsOpen}
 use Rattle.vol_mover.specs.Volume.{SameVolume}
 use Rattle.vol_mover.proofs.Volumes.{same_volume}

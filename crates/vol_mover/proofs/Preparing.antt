@@ -4,8 +4,8 @@ use Rattle.std.proofs.Common.{refl}
 use Rattle.a2_device.specs.Device.{DeviceState, OnlyReads}
 use Rattle.vol_format.specs.Laws.{IsDirectory}
 use Rattle.vol_format.specs.Meaning.{Meaning}
-use Rattle.write_laws.specs.declared.mark.Mark.{Mark}
-use Rattle.plan_writes.specs.Tasks.{Course, Task, Map}
+use Rattle.vol_laws.specs.declared.mark.Mark.{Mark}
+use Rattle.vol_mover.specs.Tasks.{Course, Task, Map}
 use Rattle.vol_mover.specs.Present.{Present, IsSession}
 use Rattle.vol_mover.specs.Steps.{IsNextWrite, Prepares}
 use Rattle.vol_mover.proofs.NextWrites.{first_fits}

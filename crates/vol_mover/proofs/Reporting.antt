@@ -14,10 +14,10 @@ use Rattle.ring_cert.specs.Good.{IsGood}
 use Rattle.vol_format.specs.Directory.{Directory}
 use Rattle.vol_format.specs.Laws.{IsReadable, IsDirectory}
 use Rattle.vol_format.specs.Meaning.{Meaning}
-use Rattle.vol_opening.specs.Opening.{IsPlanOf}
-use Rattle.vol_opening.specs.Refused.{is_device_error}
-use Rattle.vol_opening.specs.declared.opening.Options.{Options}
-use Rattle.plan_writes.specs.Tasks.{Course, Task, Map, Copy, Pointer, IsAgenda, IsFewLost, course_after, moves_of}
+use Rattle.vol_mover.specs.Opening.{IsPlanOf}
+use Rattle.vol_mover.specs.Refused.{is_device_error}
+use Rattle.vol_mover.specs.declared.opening.Options.{Options}
+use Rattle.vol_mover.specs.Tasks.{Course, Task, Map, Copy, Pointer, IsAgenda, IsFewLost, course_after, moves_of}
 use Rattle.vol_mover.specs.Begun.{IsBegun, first_lost, start_of}
 use Rattle.vol_mover.specs.Failing.{CannotFail, FailsStep, WorksOn}
 use Rattle.vol_mover.specs.Open.{IsOpen}

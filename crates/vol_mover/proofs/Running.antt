@@ -6,7 +6,7 @@ use Rattle.a2_device.specs.Device.{DeviceState, written}
 use Rattle.vol_format.specs.Directory.{Directory}
 use Rattle.vol_format.specs.Laws.{IsReadable}
 use Rattle.vol_format.specs.Meaning.{Meaning}
-use Rattle.plan_writes.specs.Tasks.{Course, Task, Map, Copy, Pointer, course_after}
+use Rattle.vol_mover.specs.Tasks.{Course, Task, Map, Copy, Pointer, course_after}
 use Rattle.vol_mover.specs.Failing.{WorksOn}
 use Rattle.vol_mover.specs.Present.{Present, IsSession}
 use Rattle.vol_mover.specs.Runs.{course_after_all, map_writes_of, IsRun}

@@ -8,7 +8,7 @@ use Rattle.vol_layout.specs.declared.moves.Move.{Move}
 use Rattle.vol_layout.proofs.PlanLemmas.{IsLayout-moved}
 use Rattle.vol_layout.proofs.ShortestPlans.{rest_is_shortest}
 use Rattle.vol_format.specs.Meaning.{Meaning}
-use Rattle.plan_writes.specs.Tasks.{Course, Task, Map, Copy, Pointer, course_after, moves_of}
+use Rattle.vol_mover.specs.Tasks.{Course, Task, Map, Copy, Pointer, course_after, moves_of}
 use Rattle.vol_mover.specs.Open.{IsOpen}
 use Rattle.vol_mover.specs.Present.{Present, IsSession, IsShortest, copies}
 use Rattle.vol_mover.specs.Resuming.{CanResume}

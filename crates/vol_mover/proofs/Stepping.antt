@@ -4,8 +4,8 @@ use Rattle.std.proofs.Common.{refl, sym, ◌∙◌, ap, subst, arith, inl, inr}
 use Rattle.a2_device.specs.Device.{DeviceState, IsSameDevice, OnlyReads, FailsRead, written, counted}
 use Rattle.vol_format.specs.Laws.{IsReadable}
 use Rattle.vol_format.specs.Meaning.{Meaning}
-use Rattle.plan_writes.specs.Agenda.{next_write}
-use Rattle.plan_writes.specs.Tasks.{Course, Task, Map, Copy, Pointer, IsAgenda, course_after}
+use Rattle.vol_mover.specs.Agenda.{next_write}
+use Rattle.vol_mover.specs.Tasks.{Course, Task, Map, Copy, Pointer, IsAgenda, course_after}
 use Rattle.vol_mover.specs.Open.{IsOpen}
 use Rattle.vol_mover.specs.Present.{Present, IsSession}
 use Rattle.vol_mover.specs.Steps.{IsNextWrite, IsStep, RefusesWrite, StepsLayout, advanced, kind_of}

@@ -6,7 +6,7 @@ use Rattle.vol_format.specs.Laws.{IsReadable}
 use Rattle.vol_format.specs.Meaning.{Meaning}
 use Rattle.vol_format.specs.Reach.{SameContents}
 use Rattle.vol_format.proofs.Frames.{same_system}
-use Rattle.write_laws.specs.System.{SameSystem}
+use Rattle.vol_laws.specs.System.{SameSystem}
 use Rattle.vol_mover.specs.Volume.{SameVolume}
 
 module _ (format : Meaning) (laws : IsReadable format) where

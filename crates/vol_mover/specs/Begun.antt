@@ -8,9 +8,9 @@ use Rattle.vol_format.specs.Accepted.{IsAccepted}
 use Rattle.vol_format.specs.Meaning.{Meaning}
 use Rattle.vol_format.specs.Reach.{IsPartsOf}
 use Rattle.vol_format.specs.Standing.{layout_of, lost_places}
-use Rattle.vol_opening.specs.declared.opening.Options.{Options}
-use Rattle.plan_writes.specs.Tasks.{Course, at_first, moves_of}
-use Rattle.plan_writes.specs.Writes.{writes_of}
+use Rattle.vol_mover.specs.declared.opening.Options.{Options}
+use Rattle.vol_mover.specs.Tasks.{Course, at_first, moves_of}
+use Rattle.vol_mover.specs.Writes.{writes_of}
 use Rattle.vol_mover.specs.Present.{Present, IsSession}
 
 -- How many writes bring the parts of a layout home and mark the lost places free. Where some part is misplaced: two a move, one before each hole run, or before the

@@ -2,7 +2,7 @@
 use Rattle.std.specs.Prelude.{◌≡◌, ◌≤◌, ℕ, ◌+◌, ◌-◌, true, List, [], slice_set, Option, Some, None, IsTrue}
 use Rattle.a2_device.specs.Device.{DeviceState, IsSameDevice, OnlyReads, counted, last_count}
 use Rattle.vol_format.specs.Meaning.{Meaning}
-use Rattle.plan_writes.specs.Tasks.{Course, Task, course_after}
+use Rattle.vol_mover.specs.Tasks.{Course, Task, course_after}
 use Rattle.vol_mover.specs.Open.{IsOpen}
 use Rattle.vol_mover.specs.Present.{Present}
 use Rattle.vol_mover.specs.Steps.{RefusesWrite}

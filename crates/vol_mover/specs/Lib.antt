@@ -9,3 +9,12 @@ pub mod Shown
 pub mod Begun
 pub mod Report
 pub mod Optimizing
+pub mod Opening
+pub mod Refused
+pub mod Tasks
+pub mod Work
+pub mod Writes
+pub mod Example
+pub mod Agenda
+pub mod Entries
+pub mod Drafts

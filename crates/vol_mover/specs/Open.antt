@@ -1,13 +1,13 @@
 -- What stands while parts are moved.
 use Rattle.std.specs.Prelude.{◌≡◌, ◌↔◌, ℕ, List, Contains, Some, slice_index}
 use Rattle.a2_device.specs.Device.{unit_at}
-use Rattle.vol_parts.specs.declared.part.Part.{Part}
+use Rattle.a2_device.specs.declared.part.Part.{Part}
 use Rattle.vol_layout.specs.declared.moves.Move.{Move}
 use Rattle.vol_format.specs.Accepted.{IsAccepted}
 use Rattle.vol_format.specs.Directory.{Directory, IsSameFrame}
 use Rattle.vol_format.specs.Meaning.{Meaning}
 use Rattle.vol_format.specs.Standing.{Stands, IsLost}
-use Rattle.plan_writes.specs.Tasks.{Course, place_of}
+use Rattle.vol_mover.specs.Tasks.{Course, place_of}
 
 -- The volume is accepted; its directory is that of the opening but for where entries point to and what is marked free; its parts are those of the opening, each where
 -- the course says; the course's lost places are the lost ones; and a unit that is copied stands at both places.

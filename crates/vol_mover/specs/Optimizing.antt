@@ -3,9 +3,9 @@ use Rattle.std.specs.Prelude.{◌≡◌, ◌⊎◌, ◌↔◌, ◌<◌, ◌≤�
 use Rattle.a2_device.specs.Device.{DeviceState, OnlyReads}
 use Rattle.move_plan.specs.declared.answer.Plan.{Plan}
 use Rattle.vol_format.specs.Meaning.{Meaning}
-use Rattle.vol_opening.specs.Refused.{is_device_error, IsRefusal}
-use Rattle.vol_opening.specs.declared.opening.Options.{Options}
-use Rattle.plan_writes.specs.Tasks.{Task}
+use Rattle.vol_mover.specs.Refused.{is_device_error, IsRefusal}
+use Rattle.vol_mover.specs.declared.opening.Options.{Options}
+use Rattle.vol_mover.specs.Tasks.{Task}
 use Rattle.vol_mover.specs.Begun.{IsBegun}
 use Rattle.vol_mover.specs.Present.{Present}
 use Rattle.vol_mover.specs.Report.{IsStopped}

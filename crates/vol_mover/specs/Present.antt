@@ -1,14 +1,14 @@
 -- What a session shows, and what is true of it between two steps.
 use Rattle.std.specs.Prelude.{◌≡◌, ◌<◌, ℕ, ◌+◌, ◌*◌, Bool, false, List, length, All, Option, Some, None, IsTrue}
 use Rattle.a2_device.specs.Device.{DeviceState}
-use Rattle.vol_parts.specs.declared.part.Part.{Part}
+use Rattle.a2_device.specs.declared.part.Part.{Part}
 use Rattle.vol_layout.specs.Layouts.{IsLayout, IsTarget}
 use Rattle.vol_layout.specs.Plans.{IsPlan, after}
 use Rattle.vol_layout.specs.Rings.{IsDeficit}
 use Rattle.vol_layout.specs.declared.moves.Move.{Move}
 use Rattle.vol_format.specs.Directory.{Directory, entries}
 use Rattle.vol_format.specs.Meaning.{Meaning}
-use Rattle.plan_writes.specs.Tasks.{Course, Task, IsAgenda, moves_of}
+use Rattle.vol_mover.specs.Tasks.{Course, Task, IsAgenda, moves_of}
 use Rattle.vol_mover.specs.Open.{IsOpen}
 
 -- A session: its device; the directory and the parts that were read when it was opened; the layout and over how many places; the writes still to be made; how many

@@ -9,9 +9,9 @@ use Rattle.move_plan.specs.declared.answer.Plan.{Plan}
 use Rattle.ring_cert.specs.Certificates.{certificate_of, certificate_text}
 use Rattle.ring_cert.specs.Good.{IsGood}
 use Rattle.vol_format.specs.Meaning.{Meaning}
-use Rattle.vol_opening.specs.Opening.{IsPlanOf}
-use Rattle.vol_opening.specs.declared.opening.Options.{Options}
-use Rattle.plan_writes.specs.Tasks.{Course, Task, IsDone, IsFewLost, moves_of}
+use Rattle.vol_mover.specs.Opening.{IsPlanOf}
+use Rattle.vol_mover.specs.declared.opening.Options.{Options}
+use Rattle.vol_mover.specs.Tasks.{Course, Task, IsDone, IsFewLost, moves_of}
 use Rattle.vol_mover.specs.Begun.{IsBegun, first_lost, start_of}
 use Rattle.vol_mover.specs.Failing.{WorksOn, FailsStep}
 use Rattle.vol_mover.specs.Open.{IsOpen}

@@ -5,7 +5,7 @@ use Rattle.vol_layout.specs.Plans.{IsLegal, moved}
 use Rattle.vol_layout.specs.Rings.{IsDeficit}
 use Rattle.vol_layout.specs.declared.moves.Move.{Move}
 use Rattle.vol_format.specs.Meaning.{Meaning}
-use Rattle.plan_writes.specs.Tasks.{Course, Task, Map as MapTask, Copy as CopyTask, Pointer as PointerTask, course_after, IsDone, IsFewLost}
+use Rattle.vol_mover.specs.Tasks.{Course, Task, Map as MapTask, Copy as CopyTask, Pointer as PointerTask, course_after, IsDone, IsFewLost}
 use Rattle.vol_mover.specs.Open.{IsOpen}
 use Rattle.vol_mover.specs.Present.{Present, IsSession}
 use Rattle.vol_mover.specs.Volume.{SameVolume}

@@ -1,7 +1,7 @@
 // What the same volume in two stores means for its files.
 ghost use Rattle.std.specs.Prelude.{◌↔◌, ℕ, List};
 ghost use Rattle.vol_format.specs.Accepted.{IsVolume};
-ghost use Rattle.vol_files.specs.Files.{File, HasFiles};
+ghost use Rattle.vol_format.specs.Files.{File, HasFiles};
 ghost use Rattle.vol_mover.specs.Volume.{SameVolume};
 
 use vol_format::WritableFormat;

@@ -1,22 +1,21 @@
 // The opening of a session.
 ghost use Rattle.std.specs.Prelude.{◌≡◌, ◌<◌, ◌+◌, false, IsTrue, OnOk, IfOk, IfErr, Err, length};
 ghost use Rattle.a2_device.specs.Device.{OnlyReads};
-ghost use Rattle.plan_writes.specs.Tasks.{IsAgenda, at_first, moves_of};
-ghost use Rattle.plan_writes.specs.Work.{IsWork};
-ghost use Rattle.plan_writes.specs.Writes.{writes_of};
+ghost use Rattle.vol_mover.specs.Tasks.{IsAgenda, at_first, moves_of};
+ghost use Rattle.vol_mover.specs.Work.{IsWork};
+ghost use Rattle.vol_mover.specs.Writes.{writes_of};
 ghost use Rattle.vol_layout.specs.Layouts.{IsLayout};
-ghost use Rattle.vol_opening.specs.Opening.{IsPlanOf, IsToldIn};
-ghost use Rattle.vol_opening.specs.Refused.{is_device_error, IsRefusal};
+ghost use Rattle.vol_mover.specs.Opening.{IsPlanOf, IsToldIn};
+ghost use Rattle.vol_mover.specs.Refused.{is_device_error, IsRefusal};
 ghost use Rattle.vol_mover.specs.Begun.{IsBegun};
 ghost use Rattle.vol_mover.specs.Shown.{present};
+ghost use Rattle.vol_format.specs.Fits.{Fits};
 
-use crate::Session;
+use crate::{Agenda, OpenError, Opening, Options, Session};
 use a2_device::Device;
 use move_plan::Plan;
-use plan_writes::Agenda;
 use std::alloc::{AllocError, Allocator};
 use vol_format::WritableFormat;
-use vol_opening::{OpenError, Opening, Options};
 
 // The writes of an opening's plan, and room for a unit.
 fn room<F: WritableFormat, A: Allocator + Copy>(
@@ -29,12 +28,17 @@ fn room<F: WritableFormat, A: Allocator + Copy>(
     requires plan { IsPlanOf opening.now.layout opening.now.plan }
     ensures layout { OnOk result (IsLayout opening.now.layout.at opening.now.layout.places) }
     ensures unit { IfOk result (λ made. length made.1.items ≡ unit) }
-    ensures agenda { IfOk result (λ made. IsAgenda (F.directory format.now opening.now.volume) (length opening.now.lost.items)
+    ensures agenda { IfOk result (λ made.
+        IsAgenda (F.directory format.now opening.now.volume) (length opening.now.lost.items)
         (at_first opening.now.layout.at opening.now.lost.items) made.0) }
     ensures moves { IfOk result (λ made. moves_of made.0 ≡ opening.now.plan.moves.items) }
-    ensures writes { IfOk result (λ made. IsWork (length (F.directory format.now opening.now.volume).map_units) opening.now.layout.at opening.now.lost.items
+    ensures writes { IfOk result (λ made. IsWork
+        (length (F.directory format.now opening.now.volume).map_units) opening.now.layout.at opening.now.lost.items
         opening.now.plan.moves.items (length made.0)) }
-    ensures order { IfOk result (λ made. made.0 ≡ writes_of (F.directory format.now opening.now.volume) opening.now.layout.at opening.now.lost.items opening.now.plan.moves.items) }
+    ensures order { IfOk result (λ made.
+        made.0 ≡ writes_of
+        (F.directory format.now opening.now.volume) opening.now.layout.at opening.now.lost.items
+        opening.now.plan.moves.items) }
     ensures few { IfOk result (λ made. length made.0 < 4294967296) }
 {
     let agenda = Agenda::new(
@@ -55,14 +59,16 @@ pub fn begin<'a, D: Device, F: WritableFormat, A: Allocator + Copy>(
     format: &'a F,
     options: Options,
 ) -> Result<(Session<'a, D, F, A>, Plan<A>), (OpenError<A>, D)>
-    requires unit { (D.state device).unit_size ≡ (F.meaning format.now).unit_size }
-    requires places { (F.meaning format.now).Takes (D.state device).places }
-    ensures begun { IfOk result (λ made. IsBegun (F.meaning format.now) options (D.state device) (present D.state F.directory made.0)) }
+    requires fits { Fits (F.meaning format.now) (D.state device) }
+    ensures begun { IfOk result (λ made.
+        IsBegun (F.meaning format.now) options (D.state device) (present D.state F.directory made.0)) }
     ensures format { IfOk result (λ made. made.0.format.now ≡ format.now) }
     ensures plan { IfOk result (λ made. IsPlanOf made.0.layout made.1) }
     ensures moves { IfOk result (λ made. moves_of made.0.agenda ≡ made.1.moves.items) }
-    ensures device { IfErr result (λ refused. OnlyReads (is_device_error {T = Unit {0}} (Err refused.0)) (D.state device) (D.state refused.1)) }
-    ensures refused { IsTrue (D.state device).honest → IfErr result (λ refused. IsRefusal (F.meaning format.now) (D.state device).store options refused.0) }
+    ensures device { IfErr result (λ refused.
+        OnlyReads (is_device_error {T = Unit {0}} (Err refused.0)) (D.state device) (D.state refused.1)) }
+    ensures refused { IsTrue (D.state device).honest
+        → IfErr result (λ refused. IsRefusal (F.meaning format.now) (D.state device).store options refused.0) }
 {
     let opening = match Opening::read(alloc, &mut device, format, options) {
         Ok(opening) => opening,
@@ -128,20 +134,23 @@ impl<'a, D: Device, F: WritableFormat, A: Allocator + Copy> Session<'a, D, F, A>
     /// Opens a session. It writes nothing.
     ///
     /// # Errors
-    /// The first of these that holds, with the device: `Check` with every fault that was met; `Lost` with how many places are lost, where they are not
-    /// reclaimed; `NoFreePlace` where some part is misplaced and each available place has a part. `Device` where a read fails; `Memory`.
+    /// The first of these that holds, with the device: `Check` with every fault that was met; `Lost` with how many
+    /// places are lost, where they are not reclaimed; `NoFreePlace` where some part is misplaced and each available
+    /// place has a part. `Device` where a read fails; `Memory`.
     pub fn open(
         alloc: A,
         device: D,
         format: &'a F,
         options: Options,
     ) -> Result<Session<'a, D, F, A>, (OpenError<A>, D)>
-        requires unit { (D.state device).unit_size ≡ (F.meaning format.now).unit_size }
-        requires places { (F.meaning format.now).Takes (D.state device).places }
-        ensures begun { IfOk result (λ session. IsBegun (F.meaning format.now) options (D.state device) (present D.state F.directory session)) }
+        requires fits { Fits (F.meaning format.now) (D.state device) }
+        ensures begun { IfOk result (λ session.
+            IsBegun (F.meaning format.now) options (D.state device) (present D.state F.directory session)) }
         ensures format { IfOk result (λ session. session.format.now ≡ format.now) }
-        ensures device { IfErr result (λ refused. OnlyReads (is_device_error {T = Unit {0}} (Err refused.0)) (D.state device) (D.state refused.1)) }
-        ensures refused { IsTrue (D.state device).honest → IfErr result (λ refused. IsRefusal (F.meaning format.now) (D.state device).store options refused.0) }
+        ensures device { IfErr result (λ refused.
+            OnlyReads (is_device_error {T = Unit {0}} (Err refused.0)) (D.state device) (D.state refused.1)) }
+        ensures refused { IsTrue (D.state device).honest
+            → IfErr result (λ refused. IsRefusal (F.meaning format.now) (D.state device).store options refused.0) }
     {
         let (session, _) = begin(alloc, device, format, options)?;
         Ok(session)

@@ -1,11 +1,12 @@
 // The optimizer: a session from its opening to its end, or up to so many writes.
 ghost use Rattle.std.specs.Prelude.{◌≡◌, ◌<◌, ℕ, Err, IsTrue, IfOk, IfErr, length};
-ghost use Rattle.plan_writes.specs.Tasks.{Course};
+ghost use Rattle.vol_mover.specs.Tasks.{Course};
 ghost use Rattle.vol_mover.specs.Failing.{CannotFail};
 ghost use Rattle.vol_mover.specs.Optimizing.{HasWorked, StopsWork, IsNoFailure, IsRefused};
 ghost use Rattle.vol_mover.specs.Present.{IsSession};
 ghost use Rattle.vol_mover.specs.Report.{IsReported};
 ghost use Rattle.vol_mover.specs.Shown.{present};
+ghost use Rattle.vol_format.specs.Fits.{Fits};
 
 use crate::open::begin;
 use crate::{OptError, Options, Report, Session};
@@ -22,11 +23,14 @@ fn work<D: Device, F: WritableFormat, A: Allocator>(
     cert: Vec<u8, A>,
     limit: u64,
 ) -> Result<(D, Report<A>), (OptError<A>, D)>
-    requires session { (course : Course) × IsSession (F.meaning session.format.now) (present D.state F.directory session) course }
+    requires session { (course : Course)
+        × IsSession (F.meaning session.format.now) (present D.state F.directory session) course }
     requires rings { length plan.now.rings.items < 4294967296 }
     requires misplaced { length plan.now.misplaced.items < 4294967296 }
-    ensures worked { IfOk result (λ done. HasWorked (F.meaning session.entry.format.now) limit (present D.state F.directory session.entry) plan.now cert.items (D.state done.0) done.1) }
-    ensures stopped { IfErr result (λ stopped. StopsWork (F.meaning session.entry.format.now) limit (present D.state F.directory session.entry) (D.state stopped.1) stopped.0) }
+    ensures worked { IfOk result (λ done. HasWorked (F.meaning session.entry.format.now) limit
+        (present D.state F.directory session.entry) plan.now cert.items (D.state done.0) done.1) }
+    ensures stopped { IfErr result (λ stopped. StopsWork (F.meaning session.entry.format.now) limit
+        (present D.state F.directory session.entry) (D.state stopped.1) stopped.0) }
 {
     if let Err(error) = session.run(limit) {
         return Err((OptError::Step(error), session.into_device()));
@@ -42,11 +46,12 @@ fn work<D: Device, F: WritableFormat, A: Allocator>(
     Ok((session.into_device(), report))
 }
 
-/// Puts the parts of each file of a volume in order, by at most `limit` writes. The certificate is made before the first of them.
+/// Puts the parts of each file of a volume in order, by at most `limit` writes. The certificate is made before the
+/// first of them.
 ///
 /// # Errors
-/// With the device. `Open` where the volume is not opened, and `Memory` where there is no room for the certificate: nothing was written. `Step` where a
-/// step failed: what stands is the work up to then, or one write further.
+/// With the device. `Open` where the volume is not opened, and `Memory` where there is no room for the certificate:
+/// nothing was written. `Step` where a step failed: what stands is the work up to then, or one write further.
 pub fn optimize<D: Device, F: WritableFormat, A: Allocator + Copy>(
     alloc: A,
     device: D,
@@ -54,10 +59,11 @@ pub fn optimize<D: Device, F: WritableFormat, A: Allocator + Copy>(
     options: Options,
     limit: u64,
 ) -> Result<(D, Report<A>), (OptError<A>, D)>
-    requires unit { (D.state device).unit_size ≡ (F.meaning format.now).unit_size }
-    requires places { (F.meaning format.now).Takes (D.state device).places }
-    ensures reported { IfOk result (λ done. IsReported (F.meaning format.now) options limit (D.state device) (D.state done.0) done.1) }
-    ensures refused { IfErr result (λ refused. IsRefused (F.meaning format.now) options limit (D.state device) (D.state refused.1) refused.0) }
+    requires fits { Fits (F.meaning format.now) (D.state device) }
+    ensures reported { IfOk result (λ done.
+        IsReported (F.meaning format.now) options limit (D.state device) (D.state done.0) done.1) }
+    ensures refused { IfErr result (λ refused.
+        IsRefused (F.meaning format.now) options limit (D.state device) (D.state refused.1) refused.0) }
     ensures sound { CannotFail (D.state device) → IfErr result (λ refused. IsNoFailure refused.0) }
 {
     let (session, plan) = match begin(alloc, device, format, options) {

@@ -1,18 +1,16 @@
 // A session without its device.
 ghost use Rattle.std.specs.Prelude.{◌≡◌};
 ghost use Rattle.a2_device.specs.Device.{DeviceState};
-ghost use Rattle.plan_writes.specs.Tasks.{Course};
+ghost use Rattle.vol_mover.specs.Tasks.{Course};
 ghost use Rattle.vol_mover.specs.Present.{IsSession};
 ghost use Rattle.vol_mover.specs.Resuming.{CanResume};
 ghost use Rattle.vol_mover.specs.Shown.{present, resumed};
 
-use crate::Session;
-use a2_device::Device;
-use plan_writes::Agenda;
+use crate::{Agenda, Session};
+use a2_device::{Device, Part};
 use std::alloc::{Allocator, Global};
 use vol_format::WritableFormat;
 use vol_layout::Layout;
-use vol_parts::Part;
 
 /// A session without its device, which can go on over a device of the same store.
 #[derive(Drop)]
@@ -34,7 +32,8 @@ impl<'a, D: Device, F: WritableFormat, A: Allocator> Session<'a, D, F, A> {
     pub fn pause(self) -> (D, Paused<'a, F, A>)
         ensures device { result.0 ≡ self.entry.device }
         ensures format { result.1.format.now ≡ self.entry.format.now }
-        ensures same { (device : DeviceState) → resumed F.directory device result.1 ≡ record (present D.state F.directory self.entry) { device = device } }
+        ensures same { (device : DeviceState) → resumed F.directory device result.1
+            ≡ record (present D.state F.directory self.entry) { device = device } }
     {
         let Session {
             device,
@@ -72,7 +71,8 @@ impl<'a, F: WritableFormat, A: Allocator> Paused<'a, F, A> {
         ensures format { result.format.now ≡ self.entry.format.now }
         ensures same { present D.state F.directory result ≡ resumed F.directory (D.state device) self.entry }
         ensures session { (old : DeviceState) (course : Course) → CanResume old (D.state device)
-            → IsSession (F.meaning self.entry.format.now) (resumed F.directory old self.entry) course → IsSession (F.meaning self.entry.format.now) (present D.state F.directory result) course }
+            → IsSession (F.meaning self.entry.format.now) (resumed F.directory old self.entry) course
+            → IsSession (F.meaning self.entry.format.now) (present D.state F.directory result) course }
     {
         let Paused {
             format,

@@ -1,6 +1,6 @@
 // What is left of a session's work.
 ghost use Rattle.std.specs.Prelude.{◌≡◌, length};
-ghost use Rattle.plan_writes.specs.Tasks.{Course, moves_of};
+ghost use Rattle.vol_mover.specs.Tasks.{Course, moves_of};
 ghost use Rattle.vol_layout.specs.Rings.{IsDeficit};
 ghost use Rattle.vol_mover.specs.Present.{IsSession};
 ghost use Rattle.vol_mover.specs.Shown.{present};
@@ -14,7 +14,8 @@ impl<'a, D: Device, F: WritableFormat, A: Allocator> Session<'a, D, F, A> {
     /// How many moves are left: the deficit of the layout, and once a write has failed, of the layout before it.
     pub fn moves_left(&self) -> u32
         ensures moves { result ≡ length (moves_of self.now.agenda) }
-        ensures deficit { (course : Course) → IsSession (F.meaning self.now.format.now) (present D.state F.directory self.now) course
+        ensures deficit { (course : Course)
+            → IsSession (F.meaning self.now.format.now) (present D.state F.directory self.now) course
             → IsDeficit self.now.layout.at result }
     {
         self.agenda.moves_left()

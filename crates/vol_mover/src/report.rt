@@ -1,8 +1,7 @@
 // What an optimizer reports.
-use crate::StepError;
+use crate::{OpenError, StepError};
 use std::alloc::{Allocator, Global};
 use thiserror::Error;
-use vol_opening::OpenError;
 
 /// What was done to a volume.
 #[derive(Debug, Drop)]

@@ -1,9 +1,31 @@
 // A session over a device.
-ghost use Rattle.std.specs.Prelude.{◌≡◌, ◌<◌, ℕ, ◌+◌, [], ◌∷◌, List, Some, length, true, false, OnOk, OnErr, IsErr, Ok, Err, IsTrue};
+ghost use Rattle.std.specs.Prelude.{
+  ◌≡◌,
+  ◌<◌,
+  ℕ,
+  ◌+◌,
+  [],
+  ◌∷◌,
+  List,
+  Some,
+  length,
+  true,
+  false,
+  OnOk,
+  OnErr,
+  IsErr,
+  Ok,
+  Err,
+  IsTrue,
+};
 ghost use Rattle.a2_device.specs.Device.{IsSameDevice, faults_after, written};
-ghost use Rattle.plan_writes.specs.Agenda.{next_write};
-ghost use Rattle.plan_writes.specs.Tasks.{Course, Task, place_of};
-ghost use Rattle.plan_writes.specs.declared.write.Write.TheVariants.{Map as MapWrite, Copy as CopyWrite, Pointer as PointerWrite};
+ghost use Rattle.vol_mover.specs.Agenda.{next_write};
+ghost use Rattle.vol_mover.specs.Tasks.{Course, Task, place_of};
+ghost use Rattle.vol_mover.specs.declared.write.Write.TheVariants.{
+  Map as MapWrite,
+  Copy as CopyWrite,
+  Pointer as PointerWrite,
+};
 ghost use Rattle.vol_layout.specs.Plans.{IsLegal};
 ghost use Rattle.vol_layout.specs.declared.moves.Move.{Move};
 ghost use Rattle.vol_mover.specs.Present.{IsSession};
@@ -11,13 +33,11 @@ ghost use Rattle.vol_mover.specs.Shown.{present};
 ghost use Rattle.vol_mover.specs.Steps.{HasFinished, IsStep, Prepares, RefusesWrite, advanced, kind_of};
 
 use crate::units::{make_marks, read_unit};
-use crate::{Progress, StepError, Wrote};
-use a2_device::Device;
-use plan_writes::{Agenda, Write};
+use crate::{Agenda, Progress, StepError, Write, Wrote};
+use a2_device::{Device, Part};
 use std::alloc::{Allocator, Global};
 use vol_format::WritableFormat;
 use vol_layout::{Layout, Move};
-use vol_parts::Part;
 
 /// A session over a volume: the device, what was read of it, and the writes that are still to be made.
 #[derive(Drop)]
@@ -39,10 +59,12 @@ impl<'a, D: Device, F: WritableFormat, A: Allocator> Session<'a, D, F, A> {
     /// Makes the next write, if one is left and none has failed.
     ///
     /// # Errors
-    /// `Closed` exactly where a write has failed before. `Read` where a unit can't be read: nothing was written, and the same step may be tried again. `Write`
-    /// where the write failed: the old unit or the new one stands, and the session is closed.
+    /// `Closed` exactly where a write has failed before. `Read` where a unit can't be read: nothing was written, and
+    /// the same step may be tried again. `Write` where the write failed: the old unit or the new one stands, and the
+    /// session is closed.
     pub fn step(&mut self) -> Result<Progress, StepError>
-        requires { (course : Course) × IsSession (F.meaning self.old.format.now) (present D.state F.directory self.old) course }
+        requires { (course : Course)
+            × IsSession (F.meaning self.old.format.now) (present D.state F.directory self.old) course }
         ensures only { self.new ≡ record self.old {
           device = self.new.device;
           layout = self.new.layout;
@@ -52,9 +74,12 @@ impl<'a, D: Device, F: WritableFormat, A: Allocator> Session<'a, D, F, A> {
           closed = self.new.closed;
           unit = self.new.unit;
         } }
-        ensures step { IsStep (F.meaning self.old.format.now) (present D.state F.directory self.old) (present D.state F.directory self.new) result }
-        ensures session { (course : Course) × IsSession (F.meaning self.new.format.now) (present D.state F.directory self.new) course }
-        ensures done { result ≡ Ok Progress.Done → HasFinished (F.meaning self.new.format.now) (present D.state F.directory self.new) }
+        ensures step { IsStep (F.meaning self.old.format.now) (present D.state F.directory self.old)
+            (present D.state F.directory self.new) result }
+        ensures session { (course : Course)
+            × IsSession (F.meaning self.new.format.now) (present D.state F.directory self.new) course }
+        ensures done { result ≡ Ok Progress.Done
+            → HasFinished (F.meaning self.new.format.now) (present D.state F.directory self.new) }
     {
         if self.closed {
             return Err(StepError::Closed);
@@ -67,7 +92,8 @@ impl<'a, D: Device, F: WritableFormat, A: Allocator> Session<'a, D, F, A> {
 
     // Makes the next write.
     fn make(&mut self, write: Write) -> Result<Progress, StepError>
-        requires session { (course : Course) × IsSession (F.meaning self.old.format.now) (present D.state F.directory self.old) course }
+        requires session { (course : Course)
+            × IsSession (F.meaning self.old.format.now) (present D.state F.directory self.old) course }
         requires opened { self.old.closed ≡ false }
         requires next { next_write self.old.agenda ≡ Some write }
         ensures only { self.new ≡ record self.old {
@@ -79,7 +105,8 @@ impl<'a, D: Device, F: WritableFormat, A: Allocator> Session<'a, D, F, A> {
           closed = self.new.closed;
           unit = self.new.unit;
         } }
-        ensures step { IsStep (F.meaning self.old.format.now) (present D.state F.directory self.old) (present D.state F.directory self.new) result }
+        ensures step { IsStep (F.meaning self.old.format.now) (present D.state F.directory self.old)
+            (present D.state F.directory self.new) result }
     {
         let place = self.prepare(write)?;
         self.write(place)?;
@@ -88,10 +115,12 @@ impl<'a, D: Device, F: WritableFormat, A: Allocator> Session<'a, D, F, A> {
 
     // Reads the unit that the next write needs and changes it; the place to which it goes.
     fn prepare(&mut self, write: Write) -> Result<u32, StepError>
-        requires session { (course : Course) × IsSession (F.meaning self.old.format.now) (present D.state F.directory self.old) course }
+        requires session { (course : Course)
+            × IsSession (F.meaning self.old.format.now) (present D.state F.directory self.old) course }
         requires next { next_write self.old.agenda ≡ Some write }
         ensures only { self.new ≡ record self.old { device = self.new.device; unit = self.new.unit } }
-        ensures prepares { Prepares (F.meaning self.old.format.now) (present D.state F.directory self.old) (present D.state F.directory self.new) result }
+        ensures prepares { Prepares (F.meaning self.old.format.now) (present D.state F.directory self.old)
+            (present D.state F.directory self.new) result }
     {
         match write {
             Write::Map(at) => self.prepare_map(at),
@@ -102,10 +131,12 @@ impl<'a, D: Device, F: WritableFormat, A: Allocator> Session<'a, D, F, A> {
 
     // The map's unit with the marks of the next write.
     fn prepare_map(&mut self, at: u32) -> Result<u32, StepError>
-        requires session { (course : Course) × IsSession (F.meaning self.old.format.now) (present D.state F.directory self.old) course }
+        requires session { (course : Course)
+            × IsSession (F.meaning self.old.format.now) (present D.state F.directory self.old) course }
         requires next { next_write self.old.agenda ≡ Some (MapWrite at) }
         ensures only { self.new ≡ record self.old { device = self.new.device; unit = self.new.unit } }
-        ensures prepares { Prepares (F.meaning self.old.format.now) (present D.state F.directory self.old) (present D.state F.directory self.new) result }
+        ensures prepares { Prepares (F.meaning self.old.format.now) (present D.state F.directory self.old)
+            (present D.state F.directory self.new) result }
     {
         read_unit(&mut self.device, at, &mut self.unit)?;
         make_marks(self.format, &mut self.unit, self.agenda.marks());
@@ -114,10 +145,12 @@ impl<'a, D: Device, F: WritableFormat, A: Allocator> Session<'a, D, F, A> {
 
     // The unit of the part that moves next, for the place to which it goes.
     fn prepare_copy(&mut self, step: Move) -> Result<u32, StepError>
-        requires session { (course : Course) × IsSession (F.meaning self.old.format.now) (present D.state F.directory self.old) course }
+        requires session { (course : Course)
+            × IsSession (F.meaning self.old.format.now) (present D.state F.directory self.old) course }
         requires next { next_write self.old.agenda ≡ Some (CopyWrite step) }
         ensures only { self.new ≡ record self.old { device = self.new.device; unit = self.new.unit } }
-        ensures prepares { Prepares (F.meaning self.old.format.now) (present D.state F.directory self.old) (present D.state F.directory self.new) result }
+        ensures prepares { Prepares (F.meaning self.old.format.now) (present D.state F.directory self.old)
+            (present D.state F.directory self.new) result }
     {
         let from = self.place(self.layout.at()[step.part as usize]);
         let to = self.place(step.to);
@@ -127,10 +160,12 @@ impl<'a, D: Device, F: WritableFormat, A: Allocator> Session<'a, D, F, A> {
 
     // The unit that holds the pointer to the part that moves next, with the pointer naming the copy.
     fn prepare_pointer(&mut self, step: Move) -> Result<u32, StepError>
-        requires session { (course : Course) × IsSession (F.meaning self.old.format.now) (present D.state F.directory self.old) course }
+        requires session { (course : Course)
+            × IsSession (F.meaning self.old.format.now) (present D.state F.directory self.old) course }
         requires next { next_write self.old.agenda ≡ Some (PointerWrite step) }
         ensures only { self.new ≡ record self.old { device = self.new.device; unit = self.new.unit } }
-        ensures prepares { Prepares (F.meaning self.old.format.now) (present D.state F.directory self.old) (present D.state F.directory self.new) result }
+        ensures prepares { Prepares (F.meaning self.old.format.now) (present D.state F.directory self.old)
+            (present D.state F.directory self.new) result }
     {
         let to = self.place(step.to);
         let holder = self
@@ -153,7 +188,8 @@ impl<'a, D: Device, F: WritableFormat, A: Allocator> Session<'a, D, F, A> {
         ensures written { IsTrue (D.state self.old.device).honest
             → OnOk result (D.state self.new.device ≡ written place self.old.unit.items (D.state self.old.device)) }
         ensures refused { IsTrue (D.state self.old.device).honest
-            → IsErr result → RefusesWrite place self.old.unit.items (D.state self.old.device) (D.state self.new.device) }
+            → IsErr result → RefusesWrite place self.old.unit.items (D.state self.old.device)
+            (D.state self.new.device) }
     {
         let written = self.device.write(place, &self.unit);
         if written.is_err() {
@@ -166,7 +202,8 @@ impl<'a, D: Device, F: WritableFormat, A: Allocator> Session<'a, D, F, A> {
     // Takes note of the write that was made.
     fn advance(&mut self, write: Write) -> Wrote
         requires next { next_write self.old.agenda ≡ Some write }
-        requires legal { (move : Move) → write ≡ PointerWrite move → IsLegal self.old.layout.at self.old.layout.places move }
+        requires legal { (move : Move) → write ≡ PointerWrite move
+            → IsLegal self.old.layout.at self.old.layout.places move }
         requires counted { self.old.map_writes + self.old.moves + 1 < 4294967296 }
         ensures only { self.new ≡ record self.old {
           layout = self.new.layout;

@@ -1,7 +1,7 @@
 -- What was said of the words and the image that lead to a volume.
 use Rattle.std.proofs.Common.{◌≡◌, ℕ, List, refl, inl, inr}
 use Rattle.std.specs.Prelude.{Bool, Option, Some, None, length}
-use Rattle.sector_order.specs.declared.order.Order.{Order}
+use Rattle.a2_device.specs.declared.order.Order.{Order}
 use Rattle.a2_image.specs.declared.error.ImageError.{ImageError}
 use Rattle.a2_image.specs.declared.error.ImageError.TheVariants as images
 use Rattle.a2_device.specs.Device.{DeviceState}
@@ -11,10 +11,10 @@ use Rattle.reserved_places.specs.declared.error.ReserveError.TheVariants as rese
 use Rattle.vol_format.specs.Meaning.{Meaning}
 use Rattle.file_listings.specs.DosText.{Text}
 use Rattle.shop_jobs.specs.declared.job.FileSystem.{FileSystem}
-use Rattle.job_reply.specs.declared.reply.Reply.{Reply}
-use Rattle.job_reply.specs.Reply.{reply_to_image}
+use Rattle.shop_replies.specs.declared.reply.Reply.{Reply}
+use Rattle.shop_replies.specs.Reply.{reply_to_image}
 use Rattle.volume_jobs.specs.Refusals.{reply_to_reserve}
-use Rattle.image_volume.specs.Volume.{RefusesBytes, form_of}
+use Rattle.shop_replies.specs.Volume.{RefusesBytes, form_of}
 use Rattle.volume_jobs.specs.VolumeReply.{IsVolumeReply, NamesPlaces, ReservesNamed}
 
 -- what is reserved by the words is named by them

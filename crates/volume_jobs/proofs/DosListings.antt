@@ -2,11 +2,11 @@
 use Rattle.std.proofs.Common.{◌≡◌, ◌∙◌, ℕ, Bool, List, length, subst, sym, inl, inr}
 use Rattle.std.proofs.lemmas.List.FromFn.{length-map-range_with_len}
 use Rattle.std.specs.Prelude.{None}
-use Rattle.sector_order.specs.declared.order.Order.{Order}
+use Rattle.a2_device.specs.declared.order.Order.{Order}
 use Rattle.a2_image.specs.Image.{DiskImage}
 use Rattle.a2_device.specs.Device.{DeviceState}
-use Rattle.image_device.specs.DosPlaces.{sector_at, sectors_by_place}
-use Rattle.image_device.specs.ImageDevice.{length-stored_units}
+use Rattle.a2_media.specs.DosPlaces.{sector_at, sectors_by_place}
+use Rattle.a2_media.specs.ImageDevice.{length-stored_units}
 use Rattle.reserved_places.specs.declared.form.PlaceForm.TheVariants.{Sector}
 use Rattle.dos_format.specs.Dos.{dos_meaning}
 use Rattle.file_formats.specs.DosFiles.{dos_files}
@@ -14,10 +14,10 @@ use Rattle.file_listings.specs.DosText.{IsListingText}
 use Rattle.file_listings.specs.lemmas.DosListing.{dos_listing_text, no_dos_listing}
 use Rattle.shop_jobs.specs.declared.job.FileSystem.{FileSystem}
 use Rattle.shop_jobs.specs.declared.job.FileSystem.TheVariants.{Dos}
-use Rattle.job_reply.specs.declared.reply.Reply.{Reply}
+use Rattle.shop_replies.specs.declared.reply.Reply.{Reply}
 use Rattle.reading_jobs.specs.CatalogReply.{IsListed}
 use Rattle.volume_jobs.specs.DosCatalogReply.{IsDosCatalogReply, IsDosListed}
-use Rattle.image_volume.specs.Volume.{device_of, form_of}
+use Rattle.shop_replies.specs.Volume.{device_of, form_of}
 use Rattle.volume_jobs.specs.FileSystems.{edits_of, files_of}
 use Rattle.volume_jobs.specs.VolumeReply.{IsVolumeReply}
 use Rattle.volume_jobs.specs.Work.{IsWorkReply, Catalog}

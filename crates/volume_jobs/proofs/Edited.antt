@@ -6,22 +6,22 @@ use Rattle.vol_format.specs.Meaning.{Meaning}
 use Rattle.file_formats.specs.Files.{FileMeaning}
 use Rattle.edit_formats.specs.Edited.{HasChanged}
 use Rattle.edit_formats.specs.Renamed.{IsRenameRefusal}
-use Rattle.edit_laws.specs.Writes.{Write}
-use Rattle.edit_writes.specs.Writes.{HasEdited, RefusesWrite, StopsIn, device_after, no_write}
-use Rattle.edit_writes.specs.declared.error.EditError.{EditError}
-use Rattle.edit_writes.specs.declared.error.EditError.TheVariants as refused
+use Rattle.vol_laws.specs.Writes.{Write}
+use Rattle.edit_formats.specs.Writes.{HasEdited, RefusesWrite, StopsIn, device_after, no_write}
+use Rattle.edit_formats.specs.declared.error.EditError.{EditError}
+use Rattle.edit_formats.specs.declared.error.EditError.TheVariants as refused
 use Rattle.shop_jobs.specs.Job.{EditView, Lock, Unlock, Delete, Rename}
-use Rattle.job_reply.specs.declared.refusal.Refusal.{Refusal}
-use Rattle.job_reply.specs.declared.refusal.Refusal.TheVariants as refusals
-use Rattle.job_reply.specs.declared.reply.Reply.{Reply}
-use Rattle.job_reply.specs.Reply.{IsMadeReply, made_of}
+use Rattle.shop_replies.specs.declared.refusal.Refusal.{Refusal}
+use Rattle.shop_replies.specs.declared.refusal.Refusal.TheVariants as refusals
+use Rattle.shop_replies.specs.declared.reply.Reply.{Reply}
+use Rattle.shop_replies.specs.Reply.{IsMadeReply, made_of}
 use Rattle.volume_jobs.specs.EditReply.{AreWritesOf, IsCause, IsEdited, edited_files}
 use Rattle.volume_jobs.specs.EditRules.{EditRules}
 use Rattle.volume_jobs.specs.OptimizeReply.{AreBytesOf}
 use Rattle.volume_jobs.specs.Refusals.{refusal_of_edit, reply_to_edit_refusal}
-use Rattle.image_volume.specs.Volume.{LacksUnit}
+use Rattle.shop_replies.specs.Volume.{LacksUnit}
 use Rattle.volume_jobs.proofs.Optimized.{keeps_bytes}
-use Rattle.image_volume.proofs.Lacking.{unit_lacks}
+use Rattle.shop_replies.proofs.Lacking.{unit_lacks}
 
 -- an edit has fewer writes than a device can count
 few_writes : (edit : EditView) (name : List ℕ) (files : FileMeaning) (rules : EditRules) (format : Meaning) (store : List (List ℕ)) (writes : List Write)

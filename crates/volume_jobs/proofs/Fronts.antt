@@ -1,21 +1,21 @@
 -- What was read of an image, of a certificate and of a file, up to one byte past the most that they have, answers for all of it.
 use Rattle.std.proofs.Common.{◌≡◌, ℕ, ◌+◌, ◌≤◌, Bool, List, length, take, take_all, length-take, arith, sym, ap, subst, ◌∙◌, inl, inr}
 use Rattle.std.specs.Prelude.{Option}
-use Rattle.sector_order.specs.declared.order.Order.{Order}
-use Rattle.sector_order.specs.declared.order.Order.TheVariants.{Dos, Prodos, Nibble}
-use Rattle.sector_order.specs.Order.{IsImageLength}
+use Rattle.a2_device.specs.declared.order.Order.{Order}
+use Rattle.a2_device.specs.declared.order.Order.TheVariants.{Dos, Prodos, Nibble}
+use Rattle.a2_device.specs.Order.{IsImageLength}
 use Rattle.a2_device.specs.Device.{DeviceState}
 use Rattle.vol_format.specs.Meaning.{Meaning}
 use Rattle.shop_jobs.specs.declared.job.FileSystem.{FileSystem}
 use Rattle.shop_jobs.specs.declared.job.FileSystem.TheVariants.{Dos as Dos_volume, Prodos as Prodos_volume}
-use Rattle.job_reply.specs.declared.reply.Reply.{Reply}
-use Rattle.job_reply.specs.Disk.{most_bytes}
-use Rattle.job_reply.proofs.Fronts.{disk_bytes-lt}
+use Rattle.shop_replies.specs.declared.reply.Reply.{Reply}
+use Rattle.shop_replies.specs.Disk.{most_bytes}
+use Rattle.shop_replies.proofs.Fronts.{disk_bytes-lt}
 use Rattle.given_file.specs.Content.{GivenView, most_input}
 use Rattle.save_formats.specs.Saves.{SaveMeaning}
 use Rattle.volume_jobs.specs.SaveReply.{IsSaved}
 use Rattle.reading_jobs.specs.VerifyReply.{IsVerified, most_certificate}
-use Rattle.image_volume.specs.Volume.{OfVolume, TakesBytes, meaning_of}
+use Rattle.shop_replies.specs.Volume.{OfVolume, TakesBytes, meaning_of}
 use Rattle.volume_jobs.specs.VolumeReply.{IsVolumeReply}
 
 most-takes : (file_system : FileSystem) (order : Order) (bytes : ℕ) → TakesBytes file_system order bytes → bytes ≤ most_bytes order

@@ -1,16 +1,16 @@
 -- The replies of jobs that make no image.
 use Rattle.std.proofs.Common.{ℕ, Bool, true, false, List, inl, inr}
 use Rattle.std.specs.Prelude.{Option}
-use Rattle.sector_order.specs.declared.order.Order.{Order}
+use Rattle.a2_device.specs.declared.order.Order.{Order}
 use Rattle.a2_device.specs.Device.{DeviceState}
 use Rattle.reserved_places.specs.declared.form.PlaceForm.{PlaceForm}
 use Rattle.vol_format.specs.Meaning.{Meaning}
-use Rattle.vol_opening.specs.declared.error.OpenError.{OpenError}
-use Rattle.vol_opening.specs.declared.error.OpenError.TheVariants as opens
+use Rattle.vol_mover.specs.declared.error.OpenError.{OpenError}
+use Rattle.vol_mover.specs.declared.error.OpenError.TheVariants as opens
 use Rattle.shop_jobs.specs.declared.job.FileSystem.{FileSystem}
-use Rattle.job_reply.specs.declared.refusal.Refusal.TheVariants as refusals
-use Rattle.job_reply.specs.declared.refusal.Failure.TheVariants as failures
-use Rattle.job_reply.specs.declared.reply.Reply.{Reply}
+use Rattle.shop_replies.specs.declared.refusal.Refusal.TheVariants as refusals
+use Rattle.shop_replies.specs.declared.refusal.Failure.TheVariants as failures
+use Rattle.shop_replies.specs.declared.reply.Reply.{Reply}
 use Rattle.file_formats.specs.Files.{FileMeaning}
 use Rattle.reading_jobs.specs.CatalogReply.{IsListed}
 use Rattle.reading_jobs.specs.ReadReply.{IsRead}
@@ -26,9 +26,9 @@ use Rattle.reading_jobs.specs.PlanReply.{IsPlanned, TellsOpening}
 use Rattle.reading_jobs.specs.PlanWords.{IsPlannedInWords}
 use Rattle.reading_jobs.specs.VerifyReply.{IsVerdict, IsVerified}
 use Rattle.vol_layout.specs.Layouts.{Placement}
-use Rattle.job_reply.specs.Reply.{IsMade, IsMadeReply}
-use Rattle.job_reply.specs.declared.reply.Status.TheVariants.{Done, Refused, Wrong}
-use Rattle.job_reply.proofs.NotMade.{failed_not_made, refused_not_made, told_not_made}
+use Rattle.shop_replies.specs.Reply.{IsMade, IsMadeReply}
+use Rattle.shop_replies.specs.declared.reply.Status.TheVariants.{Done, Refused, Wrong}
+use Rattle.shop_replies.proofs.NotMade.{failed_not_made, refused_not_made, told_not_made}
 use Rattle.volume_jobs.specs.VolumeReply.{IsVolumeReply}
 
 pub checked_not_made : (form : PlaceForm) (format : Meaning) (device : DeviceState) (reply : Reply) → IsChecked form format device reply → ¬ IsMade reply

@@ -3,16 +3,16 @@ use Rattle.std.proofs.Common.{◌≡◌, ◌∙◌, ℕ, Bool, List, inl, inr, a
 use Rattle.std.specs.Prelude.{IsTrue, Some, Err, length}
 use Rattle.a2_image.specs.KeptBytes.{HoldsKept}
 use Rattle.a2_device.specs.Device.{DeviceState, ImageForm, OnlyReads}
-use Rattle.vol_opening.specs.Refused.{is_device_error}
+use Rattle.vol_mover.specs.Refused.{is_device_error}
 use Rattle.vol_format.specs.Meaning.{Meaning}
 use Rattle.vol_mover.specs.Optimizing.{IsRefused}
 use Rattle.vol_mover.specs.Report.{IsReported}
 use Rattle.vol_mover.specs.declared.report.OptError.{OptError}
 use Rattle.vol_mover.specs.declared.report.OptError.TheVariants as optimizes
 use Rattle.vol_mover.specs.declared.report.Report.{Report}
-use Rattle.job_reply.specs.declared.reply.Reply.{Reply}
+use Rattle.shop_replies.specs.declared.reply.Reply.{Reply}
 use Rattle.volume_jobs.specs.OptimizeReply.{AreBytesOf, IsOptimized, KeepsBytes, TellsReport, TellsStop}
-use Rattle.image_volume.proofs.Lacking.{unit_lacks}
+use Rattle.shop_replies.proofs.Lacking.{unit_lacks}
 
 -- the image under a device is still of the form that it had at first
 pub keeps_bytes : (old new : DeviceState) (bytes : List ℕ) → new.image ≡ old.image → AreBytesOf new bytes → KeepsBytes old bytes

@@ -2,9 +2,9 @@
 use Rattle.std.proofs.Common.{◌≡◌, subst, sym}
 use Rattle.std.specs.Prelude.{IsTrue, Some}
 use Rattle.a2_device.specs.Device.{DeviceState, OnlyReads}
-use Rattle.job_reply.specs.declared.reply.Reply.{Reply}
-use Rattle.job_reply.specs.Reply.{IsMadeReply, made_of}
-use Rattle.image_volume.proofs.Lacking.{unit_lacks}
+use Rattle.shop_replies.specs.declared.reply.Reply.{Reply}
+use Rattle.shop_replies.specs.Reply.{IsMadeReply, made_of}
+use Rattle.shop_replies.proofs.Lacking.{unit_lacks}
 use Rattle.volume_jobs.specs.OptimizeReply.{AreBytesOf}
 use Rattle.reading_jobs.specs.TellingFailures.{FailsForLack, tells_device}
 

@@ -3,24 +3,24 @@ use Rattle.std.proofs.Common.{◌≡◌, List, [], inl, inr, refl, subst, sym, S
 use Rattle.std.specs.Prelude.{◌⊎◌, ℕ, true, IfSome, IsTrue, Err, Ok}
 use Rattle.a2_device.specs.Device.{DeviceState, OnlyReads}
 use Rattle.vol_format.specs.Meaning.{Meaning}
-use Rattle.edit_laws.specs.Writes.{Write}
-use Rattle.edit_writes.specs.Writes.{HasEdited, StopsIn}
-use Rattle.edit_writes.specs.declared.error.EditError.{EditError}
-use Rattle.edit_writes.specs.declared.error.EditError.TheVariants as refused
-use Rattle.file_saving.specs.Saved.{IsSaveRefusal}
+use Rattle.vol_laws.specs.Writes.{Write}
+use Rattle.edit_formats.specs.Writes.{HasEdited, StopsIn}
+use Rattle.edit_formats.specs.declared.error.EditError.{EditError}
+use Rattle.edit_formats.specs.declared.error.EditError.TheVariants as refused
+use Rattle.file_edits.specs.Saved.{IsSaveRefusal}
 use Rattle.save_formats.specs.Saves.{SaveMeaning}
 use Rattle.given_file.specs.Content.{GivenView}
-use Rattle.job_reply.specs.declared.refusal.Refusal.{Refusal}
-use Rattle.job_reply.specs.declared.refusal.Refusal.TheVariants as refusals
-use Rattle.job_reply.specs.declared.reply.Reply.{Reply}
-use Rattle.job_reply.specs.Reply.{IsMadeReply, made_of}
+use Rattle.shop_replies.specs.declared.refusal.Refusal.{Refusal}
+use Rattle.shop_replies.specs.declared.refusal.Refusal.TheVariants as refusals
+use Rattle.shop_replies.specs.declared.reply.Reply.{Reply}
+use Rattle.shop_replies.specs.Reply.{IsMadeReply, made_of}
 use Rattle.volume_jobs.specs.OptimizeReply.{AreBytesOf}
 use Rattle.volume_jobs.specs.Refusals.{refusal_of_edit, reply_to_edit_refusal}
 use Rattle.volume_jobs.specs.SaveReply.{AreSaveWrites, HasGivenSaved, IsSaveCause, IsSaveTried}
-use Rattle.image_volume.specs.Volume.{LacksUnit}
+use Rattle.shop_replies.specs.Volume.{LacksUnit}
 use Rattle.volume_jobs.proofs.Edited.{stops_lack}
 use Rattle.volume_jobs.proofs.Optimized.{keeps_bytes}
-use Rattle.image_volume.proofs.Lacking.{unit_lacks}
+use Rattle.shop_replies.proofs.Lacking.{unit_lacks}
 
 -- on a device of which nothing can fail but what can't be read
 module _ (old new : DeviceState) (honest : IsTrue old.honest) (reads : old.read_failures ≡ Some 0) (writes : old.write_failures ≡ Some []) (passes : old.passes ≡ None)

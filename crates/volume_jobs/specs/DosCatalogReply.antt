@@ -1,16 +1,16 @@
 -- The reply to `catalog` on a DOS 3.3 disk, in the words of its format: the VTOC and the catalog's sectors.
 use Rattle.std.specs.Prelude.{◌≡◌, ◌⊎◌, ℕ, List, length}
-use Rattle.sector_order.specs.declared.order.Order.{Order}
+use Rattle.a2_device.specs.declared.order.Order.{Order}
 use Rattle.a2_device.specs.Device.{DeviceState}
 use Rattle.file_formats.specs.Catalog.{HasNoCatalog}
 use Rattle.file_listings.specs.DosText.{IsListingText}
 use Rattle.shop_jobs.specs.declared.job.FileSystem.TheVariants.{Dos}
-use Rattle.job_reply.specs.declared.refusal.Refusal.TheVariants as refusals
-use Rattle.job_reply.specs.declared.refusal.Failure.TheVariants as failures
-use Rattle.job_reply.specs.declared.reply.Reply.{Reply}
-use Rattle.job_reply.specs.Reply.{IsTold, failed, refused, text_of}
-use Rattle.job_reply.specs.declared.reply.Status.TheVariants.{Done}
-use Rattle.image_volume.specs.Volume.{LacksUnit, OfVolume, TakesBytes}
+use Rattle.shop_replies.specs.declared.refusal.Refusal.TheVariants as refusals
+use Rattle.shop_replies.specs.declared.refusal.Failure.TheVariants as failures
+use Rattle.shop_replies.specs.declared.reply.Reply.{Reply}
+use Rattle.shop_replies.specs.Reply.{IsTold, failed, refused, text_of}
+use Rattle.shop_replies.specs.declared.reply.Status.TheVariants.{Done}
+use Rattle.shop_replies.specs.Volume.{LacksUnit, OfVolume, TakesBytes}
 
 -- the text of what the VTOC and the entries in use of the catalog's sectors say
 abbrev pub TellsCatalog : DeviceState → Reply → Type 0

@@ -3,24 +3,24 @@ use Rattle.std.specs.Prelude.{◌≡◌, ◌⊎◌, ℕ, true, false, List}
 use Rattle.a2_device.specs.Device.{DeviceState}
 use Rattle.vol_format.specs.Accepted.{IsVolume}
 use Rattle.vol_format.specs.Meaning.{Meaning}
-use Rattle.vol_files.specs.Files.{File}
+use Rattle.vol_format.specs.Files.{File}
 use Rattle.file_listings.specs.DosText.{Text}
 use Rattle.file_formats.specs.Files.{FileMeaning}
 use Rattle.edit_formats.specs.Deleted.{HasFirstProtected, IsDeleteEdit, IsOldOrErased}
 use Rattle.edit_formats.specs.Edited.{HasChanged, HasNoSuchFile, IsLockEdit, IsOldOrChanged}
 use Rattle.edit_formats.specs.Lists.{with_lock_on, without_named}
 use Rattle.edit_formats.specs.Renamed.{HasFirstUnnamed, HasFirstBeside, HasFirstLocked, IsRenameEdit, with_new_name}
-use Rattle.edit_laws.specs.Writes.{Write}
-use Rattle.edit_writes.specs.Writes.{device_after}
+use Rattle.vol_laws.specs.Writes.{Write}
+use Rattle.edit_formats.specs.Writes.{device_after}
 use Rattle.shop_jobs.specs.Job.{EditView, Lock, Unlock, Delete, Rename}
-use Rattle.job_reply.specs.declared.refusal.Refusal.{Refusal}
-use Rattle.job_reply.specs.declared.refusal.Refusal.TheVariants as refusals
-use Rattle.job_reply.specs.declared.refusal.Failure.TheVariants as failures
-use Rattle.job_reply.specs.declared.reply.Reply.{Reply}
-use Rattle.job_reply.specs.Reply.{IsMadeReply, failed, made_of, refused}
+use Rattle.shop_replies.specs.declared.refusal.Refusal.{Refusal}
+use Rattle.shop_replies.specs.declared.refusal.Refusal.TheVariants as refusals
+use Rattle.shop_replies.specs.declared.refusal.Failure.TheVariants as failures
+use Rattle.shop_replies.specs.declared.reply.Reply.{Reply}
+use Rattle.shop_replies.specs.Reply.{IsMadeReply, failed, made_of, refused}
 use Rattle.volume_jobs.specs.EditRules.{EditRules}
 use Rattle.volume_jobs.specs.OptimizeReply.{AreBytesOf, KeepsBytes}
-use Rattle.image_volume.specs.Volume.{LacksUnit}
+use Rattle.shop_replies.specs.Volume.{LacksUnit}
 
 -- the list of the files of a volume after an edit of the first file with a name
 abbrev pub edited_files : EditView → Text → FileMeaning → EditRules → List File → List File

@@ -5,8 +5,8 @@ use Rattle.a2_image.specs.Blocks.{blocks}
 use Rattle.a2_image.specs.Image.{DiskImage, HoldsSectors}
 use Rattle.a2_image.specs.KeptBytes.{HoldsKept}
 use Rattle.a2_device.specs.Device.{DeviceState, ImageForm}
-use Rattle.image_device.specs.DosPlaces.{sectors_by_place}
-use Rattle.image_device.specs.ImageDevice.{AreUnitsOf}
+use Rattle.a2_media.specs.DosPlaces.{sectors_by_place}
+use Rattle.a2_media.specs.ImageDevice.{AreUnitsOf}
 use Rattle.vol_format.specs.Meaning.{Meaning}
 use Rattle.file_listings.specs.DosText.{Text, line}
 use Rattle.vol_mover.specs.Report.{IsReported, IsStopped}
@@ -14,11 +14,11 @@ use Rattle.vol_mover.specs.declared.progress.StepError.{StepError}
 use Rattle.vol_mover.specs.declared.report.Report.{Report}
 use Rattle.vol_mover.specs.declared.report.OptError.{OptError}
 use Rattle.vol_mover.specs.declared.report.OptError.TheVariants as optimizes
-use Rattle.job_reply.specs.declared.refusal.Failure.TheVariants as failures
-use Rattle.job_reply.specs.declared.reply.Reply.{Reply}
+use Rattle.shop_replies.specs.declared.refusal.Failure.TheVariants as failures
+use Rattle.shop_replies.specs.declared.reply.Reply.{Reply}
 use Rattle.reading_jobs.specs.PlanReply.{IsUnopenedReply, TellsOpening}
-use Rattle.job_reply.specs.Reply.{IsHanded, IsInterrupted, failed, made_of, text_of}
-use Rattle.job_reply.specs.declared.reply.Status.TheVariants.{Done}
+use Rattle.shop_replies.specs.Reply.{IsHanded, IsInterrupted, failed, made_of, text_of}
+use Rattle.shop_replies.specs.declared.reply.Status.TheVariants.{Done}
 
 -- how many moves were made, the rings and the misplaced parts that there were, the writes of the map, and whether all is done
 abbrev pub report_line : ℕ → ℕ → ℕ → ℕ → Bool → Text

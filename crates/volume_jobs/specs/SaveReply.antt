@@ -3,19 +3,19 @@ use Rattle.std.specs.Prelude.{◌≡◌, ◌⊎◌, ◌<◌, ◌≤◌, ℕ, Lis
 use Rattle.a2_device.specs.Device.{DeviceState}
 use Rattle.vol_format.specs.Accepted.{IsVolume}
 use Rattle.vol_format.specs.Meaning.{Meaning}
-use Rattle.edit_laws.specs.Writes.{Write}
-use Rattle.edit_writes.specs.Writes.{device_after}
+use Rattle.vol_laws.specs.Writes.{Write}
+use Rattle.edit_formats.specs.Writes.{device_after}
 use Rattle.save_formats.specs.Saves.{SaveMeaning}
 use Rattle.save_formats.specs.declared.target.Attributes.{Attributes}
-use Rattle.file_saving.specs.Saved.{HasFewPlaces, HasFullDirectory, HasNameInUse, HasNoDirectory, HasNoName, HasSaved, IsOldOrSaved, IsSaveEdit, IsTooLong}
+use Rattle.file_edits.specs.Saved.{HasFewPlaces, HasFullDirectory, HasNameInUse, HasNoDirectory, HasNoName, HasSaved, IsOldOrSaved, IsSaveEdit, IsTooLong}
 use Rattle.given_file.specs.Content.{GivenView, IsTooLongForHead, content, most_input, stored_units, unit_bytes}
-use Rattle.job_reply.specs.declared.refusal.Refusal.{Refusal}
-use Rattle.job_reply.specs.declared.refusal.Refusal.TheVariants as refusals
-use Rattle.job_reply.specs.declared.refusal.Failure.TheVariants as failures
-use Rattle.job_reply.specs.declared.reply.Reply.{Reply}
-use Rattle.job_reply.specs.Reply.{IsMadeReply, failed, made_of, refused}
+use Rattle.shop_replies.specs.declared.refusal.Refusal.{Refusal}
+use Rattle.shop_replies.specs.declared.refusal.Refusal.TheVariants as refusals
+use Rattle.shop_replies.specs.declared.refusal.Failure.TheVariants as failures
+use Rattle.shop_replies.specs.declared.reply.Reply.{Reply}
+use Rattle.shop_replies.specs.Reply.{IsMadeReply, failed, made_of, refused}
 use Rattle.volume_jobs.specs.OptimizeReply.{AreBytesOf, KeepsBytes}
-use Rattle.image_volume.specs.Volume.{LacksUnit}
+use Rattle.shop_replies.specs.Volume.{LacksUnit}
 
 -- what its owner says of a file, and how many bytes it has
 abbrev pub attributes_of : GivenView → Attributes

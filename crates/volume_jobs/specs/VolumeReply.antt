@@ -1,17 +1,17 @@
 -- The reply to a job on the volume of an image.
 use Rattle.std.specs.Prelude.{◌≡◌, ◌⊎◌, ℕ, Bool, List, [], Option, Some, None}
-use Rattle.sector_order.specs.declared.order.Order.{Order}
+use Rattle.a2_device.specs.declared.order.Order.{Order}
 use Rattle.a2_device.specs.Device.{DeviceState}
 use Rattle.reserved_places.specs.Reserved.{IsPlaceList, Reserves}
 use Rattle.reserved_places.specs.declared.form.PlaceForm.{PlaceForm}
 use Rattle.vol_format.specs.Meaning.{Meaning}
 use Rattle.file_listings.specs.DosText.{Text}
 use Rattle.shop_jobs.specs.declared.job.FileSystem.{FileSystem}
-use Rattle.job_reply.specs.declared.refusal.Refusal.TheVariants as refusals
-use Rattle.job_reply.specs.declared.refusal.Failure.TheVariants as failures
-use Rattle.job_reply.specs.declared.reply.Reply.{Reply}
-use Rattle.job_reply.specs.Reply.{failed, refused}
-use Rattle.image_volume.specs.Volume.{TakesBytes, OfVolume, form_of, meaning_of}
+use Rattle.shop_replies.specs.declared.refusal.Refusal.TheVariants as refusals
+use Rattle.shop_replies.specs.declared.refusal.Failure.TheVariants as failures
+use Rattle.shop_replies.specs.declared.reply.Reply.{Reply}
+use Rattle.shop_replies.specs.Reply.{failed, refused}
+use Rattle.shop_replies.specs.Volume.{TakesBytes, OfVolume, form_of, meaning_of}
 use Rattle.std.specs.Prelude.{length}
 
 -- the words name places to reserve, or do not speak of them

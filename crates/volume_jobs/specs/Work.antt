@@ -3,7 +3,7 @@ use Rattle.std.specs.Prelude.{ℕ, Bool, true, false, List}
 use Rattle.a2_device.specs.Device.{DeviceState}
 use Rattle.reserved_places.specs.declared.form.PlaceForm.{PlaceForm}
 use Rattle.vol_format.specs.Meaning.{Meaning}
-use Rattle.job_reply.specs.declared.reply.Reply.{Reply}
+use Rattle.shop_replies.specs.declared.reply.Reply.{Reply}
 use Rattle.volume_jobs.specs.declared.volume.Work.{Work}
 use Rattle.volume_jobs.specs.declared.volume.Work.TheVariants as works
 use Rattle.file_formats.specs.Files.{FileMeaning}

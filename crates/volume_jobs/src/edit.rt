@@ -2,20 +2,21 @@
 ghost use Rattle.std.specs.Prelude.{◌≡◌, [], Err, IfErr, IfSome, IsTrue, OnOk, None, Some};
 ghost use Rattle.edit_formats.specs.Edited.{HasChanged};
 ghost use Rattle.edit_formats.specs.Renamed.{IsRenameRefusal};
-ghost use Rattle.edit_writes.specs.Writes.{HasEdited};
+ghost use Rattle.edit_formats.specs.Writes.{HasEdited};
 ghost use Rattle.shop_jobs.specs.Job.{edit_view};
 ghost use Rattle.volume_jobs.specs.EditReply.{AreWritesOf, IsCause, IsEdited, IsOldOrEdited, edited_files};
 ghost use Rattle.volume_jobs.specs.EditRules.{edit_rules};
 ghost use Rattle.volume_jobs.specs.Refusals.{refusal_of_edit, reply_to_edit_refusal};
+ghost use Rattle.vol_format.specs.Fits.{Fits};
 
 use crate::optimize::image_bytes;
 use a2_device::Device;
-use edit_writes::EditError;
+use a2_media::ImageDevice;
+use edit_formats::EditError;
 use file_edits::{delete, lock, rename, unlock};
-use image_device::ImageDevice;
-use job_reply::{Failure, Refusal, Reply};
 use save_formats::SavableFormat;
 use shop_jobs::Edit;
+use shop_replies::{Failure, Refusal, Reply};
 use std::alloc::Global;
 
 /// The reply to the refusal of a command that changes a volume.
@@ -47,21 +48,25 @@ pub fn edit_file<D: Device, F: SavableFormat>(
     edit: &Edit,
     name: &[u8],
 ) -> Result<(), EditError>
-    requires unit { (D.state device.old).unit_size ≡ (F.meaning format.now).unit_size }
-    requires places { (F.meaning format.now).Takes (D.state device.old).places }
+    requires fits { Fits (F.meaning format.now) (D.state device.old) }
 
-    ensures edited { HasEdited (AreWritesOf (edit_view edit.now) name.now (F.files format.now) (edit_rules (F.edits format.now) (F.names format.now) (F.erasures format.now) (F.saves format.now))
+    ensures edited { HasEdited (AreWritesOf (edit_view edit.now) name.now (F.files format.now)
+        (edit_rules (F.edits format.now) (F.names format.now) (F.erasures format.now) (F.saves format.now))
         (F.meaning format.now) (D.state device.old).store) result (D.state device.old) (D.state device.new) }
     // those of a rename: a lock and a deletion have some of them
     ensures refusals { IfErr result IsRenameRefusal }
     ensures files { IsTrue (D.state device.old).honest → OnOk result (HasChanged (F.meaning format.now)
-        (edited_files (edit_view edit.now) name.now (F.files format.now) (edit_rules (F.edits format.now) (F.names format.now) (F.erasures format.now) (F.saves format.now)))
+        (edited_files (edit_view edit.now) name.now (F.files format.now)
+        (edit_rules (F.edits format.now) (F.names format.now) (F.erasures format.now) (F.saves format.now)))
         (D.state device.old).store (D.state device.new).store) }
     ensures stopped { IsTrue (D.state device.old).honest → result ≡ Err EditError.Device
-        → IsOldOrEdited (edit_view edit.now) name.now (F.files format.now) (edit_rules (F.edits format.now) (F.names format.now) (F.erasures format.now) (F.saves format.now))
+        → IsOldOrEdited (edit_view edit.now) name.now (F.files format.now)
+        (edit_rules (F.edits format.now) (F.names format.now) (F.erasures format.now) (F.saves format.now))
         (F.meaning format.now) (D.state device.old).store (D.state device.new).store }
-    ensures caused { IsTrue (D.state device.old).honest → IfErr result (λ error. IfSome (refusal_of_edit error) (λ refusal.
-        IsCause refusal (edit_view edit.now) name.now (F.files format.now) (edit_rules (F.edits format.now) (F.names format.now) (F.erasures format.now) (F.saves format.now))
+    ensures caused { IsTrue (D.state device.old).honest
+        → IfErr result (λ error. IfSome (refusal_of_edit error) (λ refusal.
+        IsCause refusal (edit_view edit.now) name.now (F.files format.now)
+        (edit_rules (F.edits format.now) (F.names format.now) (F.erasures format.now) (F.saves format.now))
         (F.meaning format.now) (D.state device.old).store)) }
 {
     match edit {
@@ -80,11 +85,13 @@ pub fn edit_reply<F: SavableFormat>(
     edit: &Edit,
     name: &[u8],
 ) -> Reply
-    requires unit { (⟦<ImageDevice as Device>⟧.state device).unit_size ≡ (F.meaning format.now).unit_size }
-    requires places { (F.meaning format.now).Takes (⟦<ImageDevice as Device>⟧.state device).places }
-    ensures { IsTrue (⟦<ImageDevice as Device>⟧.state device).honest → (⟦<ImageDevice as Device>⟧.state device).read_failures ≡ Some 0
-        → (⟦<ImageDevice as Device>⟧.state device).write_failures ≡ Some [] → (⟦<ImageDevice as Device>⟧.state device).passes ≡ None → (⟦<ImageDevice as Device>⟧.state device).writes ≡ 0
-        → IsEdited (edit_view edit.now) name.now (F.files format.now) (edit_rules (F.edits format.now) (F.names format.now) (F.erasures format.now) (F.saves format.now)) (F.meaning format.now)
+    requires fits { Fits (F.meaning format.now) (⟦<ImageDevice as Device>⟧.state device) }
+    ensures { IsTrue (⟦<ImageDevice as Device>⟧.state device).honest
+        → (⟦<ImageDevice as Device>⟧.state device).read_failures ≡ Some 0
+        → (⟦<ImageDevice as Device>⟧.state device).write_failures ≡ Some [] →
+        (⟦<ImageDevice as Device>⟧.state device).passes ≡ None → (⟦<ImageDevice as Device>⟧.state device).writes ≡ 0
+        → IsEdited (edit_view edit.now) name.now (F.files format.now) (edit_rules (F.edits format.now)
+        (F.names format.now) (F.erasures format.now) (F.saves format.now)) (F.meaning format.now)
         (⟦<ImageDevice as Device>⟧.state device) result }
 {
     let mut device = device;

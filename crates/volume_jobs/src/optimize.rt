@@ -1,11 +1,19 @@
 // The job that brings the files of a volume into order.
 ghost use Rattle.std.specs.Prelude.{◌≡◌, Some, IfOk};
-ghost use Rattle.volume_jobs.specs.OptimizeReply.{AreBytesOf, IsOptimized, TellsReport, TellsStop, report_line, report_text};
+ghost use Rattle.volume_jobs.specs.OptimizeReply.{
+  AreBytesOf,
+  IsOptimized,
+  TellsReport,
+  TellsStop,
+  report_line,
+  report_text,
+};
+ghost use Rattle.vol_format.specs.Fits.{Fits};
 
 use a2_device::Device;
-use image_device::ImageDevice;
-use job_reply::{Failure, Reply};
+use a2_media::ImageDevice;
 use reading_jobs::unopened_reply;
+use shop_replies::{Failure, Reply};
 use std::alloc::{AllocError, Global};
 use std::fmt;
 use vol_format::WritableFormat;
@@ -97,8 +105,7 @@ pub fn optimize_reply<F: WritableFormat>(
     reclaim: bool,
     limit: u64,
 ) -> Reply
-    requires unit { (⟦<ImageDevice as Device>⟧.state device).unit_size ≡ (F.meaning format.now).unit_size }
-    requires places { (F.meaning format.now).Takes (⟦<ImageDevice as Device>⟧.state device).places }
+    requires fits { Fits (F.meaning format.now) (⟦<ImageDevice as Device>⟧.state device) }
     ensures { (⟦<ImageDevice as Device>⟧.state device).read_failures ≡ Some 0
         → IsOptimized reclaim limit (F.meaning format.now) (⟦<ImageDevice as Device>⟧.state device) result }
 {

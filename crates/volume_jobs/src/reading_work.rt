@@ -5,17 +5,19 @@ ghost use Rattle.volume_jobs.specs.EditRules.{edit_rules};
 ghost use Rattle.reading_jobs.specs.TellingFailures.{FailsForLack, tells_device};
 ghost use Rattle.volume_jobs.specs.Work.{IsReading};
 ghost use Rattle.volume_jobs.specs.Work.{IsWorkReply, work_view};
+ghost use Rattle.vol_format.specs.Fits.{Fits};
 
 use crate::volume::Work;
 use a2_device::Device;
-use job_reply::Reply;
 use reading_jobs::{
     ShownFormat, catalog_reply, check_reply, plan_reply, plan_words_reply, read_reply, verify_reply,
 };
 use save_formats::SavableFormat;
+use shop_replies::Reply;
 use std::alloc::Global;
 
-/// The reply to work that only reads the volume of a device. Each failure of the device is told, and nothing else is told as one.
+/// The reply to work that only reads the volume of a device. Each failure of the device is told, and nothing else is
+/// told as one.
 pub fn reading_reply<D: Device, F: ShownFormat + SavableFormat>(
     alloc: Global,
     work: Work<'_>,
@@ -23,11 +25,11 @@ pub fn reading_reply<D: Device, F: ShownFormat + SavableFormat>(
     format: &F,
 ) -> Reply
     requires reading { IsReading (work_view work) }
-    requires unit { (D.state device.old).unit_size ≡ (F.meaning format.now).unit_size }
-    requires places { (F.meaning format.now).Takes (D.state device.old).places }
+    requires fits { Fits (F.meaning format.now) (D.state device.old) }
     ensures reads { OnlyReads (tells_device result) (D.state device.old) (D.state device.new) }
     ensures told { IsTrue (D.state device.old).honest → FailsForLack (D.state device.old) result
-        → IsWorkReply (work_view work.entry) (F.form format.now) (F.files format.now) (edit_rules (F.edits format.now) (F.names format.now) (F.erasures format.now) (F.saves format.now))
+        → IsWorkReply (work_view work.entry) (F.form format.now) (F.files format.now)
+        (edit_rules (F.edits format.now) (F.names format.now) (F.erasures format.now) (F.saves format.now))
         (F.meaning format.now) (D.state device.old) result }
 {
     match work {

@@ -3,32 +3,31 @@ ghost use Rattle.std.specs.Prelude.{◌≡◌, ◌⊎◌, [], None, Some, IsTrue
 ghost use Rattle.a2_image.specs.Image.{IsOfDisk};
 ghost use Rattle.reserved_places.specs.declared.error.ReserveError.TheVariants.{Syntax};
 ghost use Rattle.shop_jobs.specs.declared.job.FileSystem.TheVariants.{Dos as OfDos, Prodos as OfProdos};
-ghost use Rattle.image_volume.specs.Volume.{device_of, form_of as form_by, meaning_of};
+ghost use Rattle.shop_replies.specs.Volume.{device_of, form_of as form_by, meaning_of};
 ghost use Rattle.volume_jobs.specs.EditRules.{edit_rules};
 ghost use Rattle.volume_jobs.specs.Refusals.{reply_to_reserve};
 ghost use Rattle.volume_jobs.specs.FileSystems.{edits_of, files_of};
 ghost use Rattle.volume_jobs.specs.VolumeReply.{IsVolumeReply, NamesPlaces, ReservesNamed};
 ghost use Rattle.volume_jobs.specs.Work.{IsWorkReply, work_view};
-ghost use Rattle.job_reply.specs.Reply.{failed};
-ghost use Rattle.job_reply.specs.declared.refusal.Failure.TheVariants.{Memory as OfMemory};
+ghost use Rattle.shop_replies.specs.Reply.{failed};
+ghost use Rattle.shop_replies.specs.declared.refusal.Failure.TheVariants.{Memory as OfMemory};
+ghost use Rattle.vol_format.specs.Fits.{Fits};
 
 use crate::edit::edit_reply;
 use crate::optimize::optimize_reply;
 use crate::reading_work::reading_reply;
 use crate::save::save_reply;
-use a2_device::Device;
+use a2_device::{Device, Order};
 use a2_image::Image;
+use a2_media::ImageDevice;
 use dos_format::Dos33;
 use given_file::GivenFile;
-use image_device::ImageDevice;
-use image_volume::{form_of, open_volume};
-use job_reply::{Failure, Refusal, Reply};
 use pro_format::Prodos;
 use reading_jobs::ShownFormat;
 use reserved_places::{PlaceForm, ReserveError, Reserved};
 use save_formats::SavableFormat;
-use sector_order::Order;
 use shop_jobs::{Edit, FileSystem, VolumeOptions};
+use shop_replies::{Failure, Refusal, Reply, form_of, open_volume};
 use std::alloc::Global;
 
 /// The reply to a text of places to reserve that is not taken.
@@ -105,11 +104,14 @@ fn work_reply<F: ShownFormat + SavableFormat>(
     device: ImageDevice,
     format: &F,
 ) -> Reply
-    requires unit { (⟦<ImageDevice as Device>⟧.state device).unit_size ≡ (F.meaning format.now).unit_size }
-    requires places { (F.meaning format.now).Takes (⟦<ImageDevice as Device>⟧.state device).places }
-    ensures { IsTrue (⟦<ImageDevice as Device>⟧.state device).honest → (⟦<ImageDevice as Device>⟧.state device).read_failures ≡ Some 0
-        → (⟦<ImageDevice as Device>⟧.state device).write_failures ≡ Some [] → (⟦<ImageDevice as Device>⟧.state device).passes ≡ None → (⟦<ImageDevice as Device>⟧.state device).writes ≡ 0
-        → IsWorkReply (work_view work.entry) (F.form format.now) (F.files format.now) (edit_rules (F.edits format.now) (F.names format.now) (F.erasures format.now) (F.saves format.now)) (F.meaning format.now) (⟦<ImageDevice as Device>⟧.state device) result }
+    requires fits { Fits (F.meaning format.now) (⟦<ImageDevice as Device>⟧.state device) }
+    ensures { IsTrue (⟦<ImageDevice as Device>⟧.state device).honest
+        → (⟦<ImageDevice as Device>⟧.state device).read_failures ≡ Some 0
+        → (⟦<ImageDevice as Device>⟧.state device).write_failures ≡ Some [] →
+        (⟦<ImageDevice as Device>⟧.state device).passes ≡ None → (⟦<ImageDevice as Device>⟧.state device).writes ≡ 0
+        → IsWorkReply (work_view work.entry) (F.form format.now) (F.files format.now)
+        (edit_rules (F.edits format.now) (F.names format.now) (F.erasures format.now) (F.saves format.now))
+        (F.meaning format.now) (⟦<ImageDevice as Device>⟧.state device) result }
 {
     let mut device = device;
     match work {
@@ -130,7 +132,8 @@ fn dos_reply(
     reserved: Reserved,
 ) -> Reply
     requires { IsOfDisk disk }
-    ensures { (result ≡ failed OfMemory) ⊎ IsWorkReply (work_view work.entry) (form_by OfDos) (files_of OfDos) (edits_of OfDos) (meaning_of OfDos data_disk reserved) (device_of OfDos disk) result }
+    ensures { (result ≡ failed OfMemory) ⊎ IsWorkReply (work_view work.entry) (form_by OfDos) (files_of OfDos)
+        (edits_of OfDos) (meaning_of OfDos data_disk reserved) (device_of OfDos disk) result }
 {
     let Ok(format) = Dos33::new(alloc, data_disk, reserved) else {
         return Reply::failed(Failure::Memory);
@@ -140,7 +143,8 @@ fn dos_reply(
 
 // The reply to work on the ProDOS volume of an image.
 fn prodos_reply(alloc: Global, work: Work<'_>, image: Image, reserved: Reserved) -> Reply
-    ensures { IsWorkReply (work_view work.entry) (form_by OfProdos) (files_of OfProdos) (edits_of OfProdos) (meaning_of OfProdos false reserved) (device_of OfProdos image) result }
+    ensures { IsWorkReply (work_view work.entry) (form_by OfProdos) (files_of OfProdos) (edits_of OfProdos)
+        (meaning_of OfProdos false reserved) (device_of OfProdos image) result }
 {
     let format = Prodos::new(alloc, reserved);
     // An image has 16 to 65,535 blocks.
@@ -151,8 +155,8 @@ fn prodos_reply(alloc: Global, work: Work<'_>, image: Image, reserved: Reserved)
 
 /// The reply to work on the volume in an image of this order. The words may reserve places, as sectors or as blocks.
 ///
-/// `Refused` with `Reserve` where they are no list of places, with `Length` where no image of this order has so many bytes;
-/// else what the work tells of the units that the image holds, or `Failed` for want of memory.
+/// `Refused` with `Reserve` where they are no list of places, with `Length` where no image of this order has so many
+/// bytes; else what the work tells of the units that the image holds, or `Failed` for want of memory.
 pub fn volume_reply(
     alloc: Global,
     work: Work<'_>,
@@ -161,8 +165,10 @@ pub fn volume_reply(
     options: VolumeOptions,
     reserve: Option<&str>,
 ) -> Reply
-    ensures { IsVolumeReply options.file_system order options.data_disk (option_map (λ s. s.now) reserve.entry) image.items
-        (IsWorkReply (work_view work.entry) (form_by options.file_system) (files_of options.file_system) (edits_of options.file_system)) result }
+    ensures { IsVolumeReply options.file_system order options.data_disk
+        (option_map (λ s. s.now) reserve.entry) image.items
+        (IsWorkReply (work_view work.entry) (form_by options.file_system) (files_of options.file_system)
+        (edits_of options.file_system)) result }
 {
     let reserved = match reserved_by(alloc, form_of(options.file_system), reserve) {
         Ok(reserved) => reserved,

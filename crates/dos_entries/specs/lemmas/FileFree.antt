@@ -1,15 +1,15 @@
 -- In DOS 3.3 what a unit means does not depend on the number of its file.
 use Rattle.std.specs.Prelude.{◌≡◌, ◌+◌, ◌*◌, ◌==◌, ℕ, nat_lt, ◌||◌, if◌then◌else◌, Bool, true, false, List, Option, Some, None}
 use Rattle.std.proofs.Common.{refl}
-use Rattle.vol_parts.specs.declared.part.PartKind.{PartKind}
-use Rattle.vol_parts.specs.declared.part.PartKind.TheVariants.{List as AList, Master, Index, Body}
+use Rattle.a2_device.specs.declared.part.PartKind.{PartKind}
+use Rattle.a2_device.specs.declared.part.PartKind.TheVariants.{List as AList, Master, Index, Body}
 use Rattle.dos_tslist.specs.Pointers.{pair_of}
 use Rattle.dos_vtoc.specs.Vtoc.{link_of}
 use Rattle.vol_format.specs.declared.link.Link.{Link}
 use Rattle.vol_format.specs.declared.link.Link.TheVariants.{Null, Wild, To}
 use Rattle.dos_format.specs.Dos.{link_to, list_link, dos_child, dos_meaning}
-use Rattle.edit_laws.specs.EditLaws.{IsFileFree}
-use Rattle.edit_laws.specs.Inserted.{refiled}
+use Rattle.vol_laws.specs.EditLaws.{IsFileFree}
+use Rattle.vol_laws.specs.Inserted.{refiled}
 
 link_refiled : (file other : ℕ) (kind : PartKind) (number : ℕ) (pointer : Option (ℕ × ℕ)) → link_to file kind number pointer ≡ refiled file (link_to other kind number pointer)
 link_refiled file other kind number None = refl

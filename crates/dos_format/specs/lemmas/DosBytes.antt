@@ -3,7 +3,7 @@ use Rattle.std.specs.Prelude.{◌≡◌, ◌≢◌, ◌<◌, ◌≤◌, ℕ, ◌
 use Rattle.std.proofs.Common.{refl, ◌∙◌, ap, arith}
 use Rattle.std.proofs.lemmas.Bool.Decides.{nat_tests}
 use Rattle.std.proofs.lemmas.List.{get_or-set_same, get_or-set_other, length-set}
-use Rattle.vol_parts.specs.declared.part.PartKind.{PartKind}
+use Rattle.a2_device.specs.declared.part.PartKind.{PartKind}
 use Rattle.dos_catalog.specs.Writes.{with_place}
 use Rattle.dos_tslist.specs.Pointers.{pointer_of}
 use Rattle.vol_format.specs.declared.link.Link.TheVariants.{Wild, To}

@@ -1,7 +1,7 @@
 -- The fronts of one write, and of two, that are not empty.
 use Rattle.std.specs.Prelude.{◌<◌, ◌≤◌, ℕ, zero, suc, List, [], ◌∷◌, take}
 use Rattle.std.proofs.Common.{arith}
-use Rattle.edit_laws.specs.Writes.{Write, store_after}
+use Rattle.vol_laws.specs.Writes.{Write, store_after}
 
 module _ (P : List (List ℕ) → Type 0) (store : List (List ℕ)) where
   pub one_front : (write : Write) → P (store_after (write ∷ []) store) → (n : ℕ) → 0 < n → n ≤ 1 → P (store_after (take n (write ∷ [])) store)

@@ -10,7 +10,7 @@ use Rattle.pro_dir.specs.Paths.{folded}
 use Rattle.pro_dir.specs.Writes.{slot_offset, padded}
 use Rattle.vol_format.specs.Directory.{entry_of}
 use Rattle.pro_format.specs.Pro.{pro_meaning, DescribesPro}
-use Rattle.edit_laws.specs.Inserted.{rewritten}
+use Rattle.vol_laws.specs.Inserted.{rewritten}
 use Rattle.pro_entries.specs.Rewritten.{renamed, with_name}
 use Rattle.pro_entries.proofs.Bytes.{length-with_bytes}
 use Rattle.pro_entries.proofs.Names.{is_renaming}

@@ -4,8 +4,8 @@ use Rattle.std.proofs.Common.{refl, sym, ◌∙◌, ap, arith, subst, ⊎_elim, 
 use Rattle.std.proofs.lemmas.List.{get_or_append_left}
 use Rattle.std.proofs.Math.Seq.{get_or-append_seam}
 use Rattle.a2_device.specs.Device.{unit_at}
-use Rattle.vol_parts.specs.declared.fault.Fault.{Fault}
-use Rattle.vol_parts.specs.declared.fault.Fault.TheVariants.{Geometry, DirLink}
+use Rattle.a2_device.specs.declared.fault.Fault.{Fault}
+use Rattle.a2_device.specs.declared.fault.Fault.TheVariants.{Geometry, DirLink}
 use Rattle.pro_dir.specs.declared.entry.Entry.{Entry}
 use Rattle.pro_dir.specs.Entry.{entries_in, is_directory, key_of}
 use Rattle.pro_dir.specs.Tree.{CanLink, Leads, IsRun, IsDirectory, HasBlocks, Lists, IsListed, IsTree, HasBadLink, SubdirectoryFaultAt, IsCutOff, TreeFaultAt, next_of}

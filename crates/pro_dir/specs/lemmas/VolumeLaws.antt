@@ -1,7 +1,7 @@
 -- The laws of what a volume says.
 use Rattle.std.specs.Prelude.{◌≡◌, ℕ, List}
 use Rattle.std.proofs.Common.{sym, ◌∙◌, ap, subst, ⊎_elim}
-use Rattle.vol_parts.specs.declared.fault.Fault.{Fault}
+use Rattle.a2_device.specs.declared.fault.Fault.{Fault}
 use Rattle.pro_dir.specs.declared.entry.Entry.{Entry}
 use Rattle.pro_dir.specs.lemmas.TreeLaws.{one_tree, no_tree}
 use Rattle.pro_dir.specs.Volume.{Directory, Describes, HasMap, VolumeFaultAt, map_first, volume_header}

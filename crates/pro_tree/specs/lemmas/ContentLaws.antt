@@ -6,9 +6,9 @@ use Rattle.std.proofs.lemmas.Bool.{cases_eq}
 use Rattle.std.proofs.lemmas.Bool.Decides.{nat_tests}
 use Rattle.std.proofs.lemmas.List.{ext_get_or}
 use Rattle.std.proofs.lemmas.List.FromFn.{length-map-range_with_len, get_or-map-range_with_len}
-use Rattle.vol_parts.specs.declared.part.Part.{Part}
-use Rattle.vol_parts.specs.declared.part.PartKind.{PartKind}
-use Rattle.vol_parts.specs.declared.part.PartKind.TheVariants.{List as AList, Master, Index, Body}
+use Rattle.a2_device.specs.declared.part.Part.{Part}
+use Rattle.a2_device.specs.declared.part.PartKind.{PartKind}
+use Rattle.a2_device.specs.declared.part.PartKind.TheVariants.{List as AList, Master, Index, Body}
 use Rattle.vol_format.specs.declared.link.Link.TheVariants.{To}
 use Rattle.pro_tree.specs.Pointers.{pointer_of, with_pointer}
 use Rattle.pro_tree.specs.lemmas.PointerLaws.{byte-other, pointer-here, pointer-other}

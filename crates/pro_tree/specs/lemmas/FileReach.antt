@@ -2,7 +2,7 @@
 use Rattle.std.specs.Prelude.{◌≡◌, ◌<◌, ℕ, List, length}
 use Rattle.std.proofs.Common.{sym, ◌∙◌, subst}
 use Rattle.a2_device.specs.Device.{unit_at}
-use Rattle.vol_parts.specs.declared.part.Part.{Part}
+use Rattle.a2_device.specs.declared.part.Part.{Part}
 use Rattle.vol_format.specs.declared.link.Link.TheVariants.{To}
 use Rattle.vol_format.specs.Directory.{Directory, entries, root_of}
 use Rattle.vol_format.specs.Meaning.{Meaning}

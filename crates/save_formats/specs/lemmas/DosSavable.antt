@@ -9,7 +9,7 @@ use Rattle.std.proofs.lemmas.List.Elements.{All-contains}
 use Rattle.std.proofs.lemmas.List.FromFn.{length-range_with_len}
 use Rattle.std.proofs.lemmas.List.Sums.{length-filter, count_by-le-length}
 use Rattle.a2_device.specs.Device.{unit_at}
-use Rattle.vol_parts.specs.declared.part.PartKind.TheVariants.{List as AList, Body}
+use Rattle.a2_device.specs.declared.part.PartKind.TheVariants.{List as AList, Body}
 use Rattle.dos_catalog.specs.declared.slot.NewEntry.{NewEntry}
 use Rattle.dos_catalog.specs.Catalog.{IsCatalog}
 use Rattle.dos_catalog.specs.Writes.{slot_offset, with_bytes, entry_bytes}
@@ -17,16 +17,16 @@ use Rattle.vol_format.specs.Directory.{Directory, Listed, entries, is_system, ma
 use Rattle.dos_format.specs.Dos.{DescribesDos, CanNameDos, dos_meaning}
 use Rattle.dos_format.specs.lemmas.DosChain.{IsOnTrack, sectors_on_track}
 use Rattle.dos_format.specs.lemmas.DosMarks.{track_inside}
-use Rattle.edit_laws.specs.Built.{IsBuilt}
-use Rattle.edit_laws.specs.Entered.{HasSameRest}
-use Rattle.edit_laws.specs.Inserted.{inserted}
+use Rattle.vol_laws.specs.Built.{IsBuilt}
+use Rattle.vol_laws.specs.Entered.{HasSameRest}
+use Rattle.vol_laws.specs.Inserted.{inserted}
 use Rattle.dos_entries.specs.SameCatalog.{HasSameCatalog}
 use Rattle.dos_entries.specs.Slots.{IsFreeSlot, number_of_slot, new_listed, entry_written}
 use Rattle.dos_entries.proofs.Entered.{entered, number_inside}
 use Rattle.dos_entries.proofs.FreeSlots.{first_is_free}
 use Rattle.dos_entries.proofs.SameCatalog.{marks_leave, catalog_stays, free_stays, number_stays}
 use Rattle.dos_entries.proofs.SlotWrites.{sector_written}
-use Rattle.edit_laws.specs.Writes.{Write, store_after}
+use Rattle.vol_laws.specs.Writes.{Write, store_after}
 use Rattle.new_files.specs.declared.part.NewPart.{NewPart}
 use Rattle.new_files.specs.Order.{AreDosParts, IsOfList, part_at}
 use Rattle.new_files.specs.Parts.{bodies, dos_parts_of, is_stored, list_count, list_with_bodies, new_part}

@@ -11,7 +11,7 @@ use Rattle.std.proofs.lemmas.Slice.Eq.{bytes_eq-Decides}
 use Rattle.std.specs.List.{flat_map, range_with_len}
 use Rattle.std.specs.Str.{bytes_eq}
 use Rattle.a2_device.specs.Device.{unit_at}
-use Rattle.vol_parts.specs.declared.part.PartKind.TheVariants.{Index, Master, Body}
+use Rattle.a2_device.specs.declared.part.PartKind.TheVariants.{Index, Master, Body}
 use Rattle.pro_dir.specs.declared.slot.NewFile.{NewFile}
 use Rattle.pro_dir.specs.declared.entry.Entry.{Entry}
 use Rattle.pro_dir.specs.Entry.{entries_of, is_directory as is_subdirectory, slot_bytes, storage_of, word}
@@ -30,9 +30,9 @@ use Rattle.pro_format.specs.lemmas.ProChanged.{AreAmong, run_changed}
 use Rattle.pro_format.specs.lemmas.ProDescribed.{block_below}
 use Rattle.pro_format.specs.lemmas.ProLaws.{total_is}
 use Rattle.pro_format.specs.lemmas.ProMarks.{block_in_system, describes_same, map_block, map_place-pro, places_is}
-use Rattle.edit_laws.specs.Built.{Planned}
-use Rattle.edit_laws.specs.Entered.{HasSameRest}
-use Rattle.edit_laws.specs.Inserted.{inserted}
+use Rattle.vol_laws.specs.Built.{Planned}
+use Rattle.vol_laws.specs.Entered.{HasSameRest}
+use Rattle.vol_laws.specs.Inserted.{inserted}
 use Rattle.pro_entries.specs.Slots.{HasOneEntryMore, HasSameDirectory, IsFreeSlotOf, IsPathOfDirectory, IsProperFile, IsSlotOf, SaysOfFile}
 use Rattle.pro_entries.proofs.Bytes.{length-with_bytes}
 use Rattle.pro_entries.proofs.BuiltPlans.{pro_built}
@@ -41,7 +41,7 @@ use Rattle.pro_entries.proofs.FreeSlots.{first_free_slot}
 use Rattle.pro_entries.proofs.NewEntries.{entry_says}
 use Rattle.pro_entries.proofs.Owners.{own_key}
 use Rattle.pro_entries.proofs.SlotLaws.{key_of_path, pro_enters, slot_inside}
-use Rattle.edit_laws.specs.Writes.{Write, store_after}
+use Rattle.vol_laws.specs.Writes.{Write, store_after}
 use Rattle.new_files.specs.declared.part.NewPart.{NewPart}
 use Rattle.new_files.specs.Order.{AreProParts, IsOfIndex, part_at}
 use Rattle.new_files.specs.Parts.{any_stored, index_with_bodies, indexes, new_part, pro_parts_of, storage_type, tree_parts}
@@ -54,7 +54,7 @@ use Rattle.edit_formats.specs.declared.counting.FileCount.TheVariants.{More}
 use Rattle.edit_formats.specs.Counting.{counting, recounted}
 use Rattle.edit_formats.specs.Erasing.{HasWholeUnits}
 use Rattle.edit_formats.specs.ProNames.{is_pro_name}
-use Rattle.edit_writes.proofs.MarkingWrites.{other_number}
+use Rattle.edit_formats.proofs.MarkingWrites.{other_number}
 use Rattle.edit_formats.specs.lemmas.ProNaming.{front_of_name, length-pro_name, short_name}
 use Rattle.edit_formats.specs.lemmas.Fronts.{one_front, two_fronts}
 use Rattle.save_formats.specs.declared.target.Attributes.{Attributes}

@@ -1,7 +1,7 @@
 use Rattle.std.proofs.Common.{◌∙◌, List, ℕ, arith, subst, tests}
 use Rattle.file_listings.specs.DosText.{line}
 use Rattle.volume_jobs.specs.OptimizeReply.{report_line}
-use Rattle.job_reply.specs.Reply.{IsWritten}
+use Rattle.shop_replies.specs.Reply.{IsWritten}
 use Rattle.device_jobs.proofs.Telling.{both_written, only_first}
 use Rattle.device_jobs.proofs.outcome.tell_report.Goals as goal
 

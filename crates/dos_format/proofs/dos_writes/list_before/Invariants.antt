@@ -1,6 +1,6 @@
 -- no list from here on
 use Rattle.std.proofs.Common.{◌≢◌, ◌<◌, ◌≤◌, ℕ}
-use Rattle.vol_parts.specs.declared.part.PartKind.TheVariants.{List as AList}
+use Rattle.a2_device.specs.declared.part.PartKind.TheVariants.{List as AList}
 use Rattle.dos_format.specs.DosHolders.{part_of}
 use Rattle.dos_format.proofs.dos_writes.list_before.Given as goal
 

@@ -5,15 +5,15 @@ use Rattle.std.proofs.lemmas.List.{length-replicate}
 use Rattle.std.proofs.lemmas.List.Sums.{count_by-le-length}
 use Rattle.a2_device.specs.Device.{DeviceState, unit_at}
 use Rattle.a2_device.specs.Reading.{unread, then_reads}
-use Rattle.vol_parts.specs.declared.part.Part.{Part}
-use Rattle.vol_parts.specs.declared.part.PartKind.TheVariants.{List as AList}
-use Rattle.vol_parts.specs.declared.fault.Fault.{Fault}
-use Rattle.vol_parts.specs.declared.fault.WalkError.TheVariants.{Fault as AFault}
+use Rattle.a2_device.specs.declared.part.Part.{Part}
+use Rattle.a2_device.specs.declared.part.PartKind.TheVariants.{List as AList}
+use Rattle.a2_device.specs.declared.fault.Fault.{Fault}
+use Rattle.a2_device.specs.declared.fault.WalkError.TheVariants.{Fault as AFault}
 use Rattle.dos_tslist.specs.Reach.{FileFaultAt, ListAt, entry_pointer, place_named, is_wild}
 use Rattle.dos_tslist.specs.Walk.{IsRefusedAt, IsWalked, IsAtList, IsPairing, pointed}
-use Rattle.vol_parts.specs.Table.{IsTable}
+use Rattle.a2_device.specs.Table.{IsTable}
 use Rattle.dos_tslist.proofs.Steps.{refused_entry, length-pointed, at_first, at_next, at_end, link_refused}
-use Rattle.vol_parts.proofs.Tables.{all_within, empty_table}
+use Rattle.a2_device.proofs.Tables.{all_within, empty_table}
 use Rattle.dos_tslist.proofs.file_walk.walk.Goals as goal
 
 pub returns-in_err-list-clause-refused : goal.returns-in_err-list-clause-refused

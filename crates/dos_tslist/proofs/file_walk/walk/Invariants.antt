@@ -3,7 +3,7 @@ use Rattle.std.specs.Prelude.{IsTrue, not}
 use Rattle.a2_device.specs.Device.{OnlyReads}
 use Rattle.dos_tslist.specs.Reach.{entry_pointer}
 use Rattle.dos_tslist.specs.Walk.{IsAtList}
-use Rattle.vol_parts.specs.Table.{IsTable}
+use Rattle.a2_device.specs.Table.{IsTable}
 use Rattle.dos_tslist.proofs.file_walk.walk.Given as goal
 
 abbrev pub invariant-loop-list : goal.invariant-loop-list

@@ -14,7 +14,7 @@ returns-in_err-checked-clause-check g c = λ honest is.
     let all = (g.met.D.Device.whole c.args.device.now honest).all in
     let check : refusal_of_check c.in_err-checked.field-0.0 ≡ Check = search rules in
     own_fault format (g.met.F.Format.readable c.args.format.now) directory (g.met.F.Format.rooted c.args.format.now c.args.volume.now) c.args.file
-    device.store c.in_err-checked.field-0.0 (subst format.Takes (sym all) c.requires.takes) (all ∙ sym c.requires.places) check
+    device.store c.in_err-checked.field-0.0 (subst format.Takes (sym all) c.requires.fits.places) (all ∙ sym c.requires.places) check
     (c.in_err-checked.ensures.refused honest)
 
 pub text_of-requires : goal.text_of-requires
@@ -32,5 +32,5 @@ returns-clause-text g c = λ honest.
     let checked = c.in_ok-checked.ensures in
     whole_read format (g.met.F.Format.readable c.args.format.now) directory (g.met.F.Format.rooted c.args.format.now c.args.volume.now) c.args.file
     old mid (told_of c.in_ok-checked.checked).parts c.parts.result.now c.in_ok-text_of.field-0.items
-    (checked.device.kept honest refl) c.requires.unit c.requires.file (checked.accepted honest) (checked.parts honest) c.parts.ensures
+    (checked.device.kept honest refl) c.requires.fits.unit c.requires.file (checked.accepted honest) (checked.parts honest) c.parts.ensures
     (c.in_ok-text_of.ensures.text (subst IsTrue (sym checked.device.same.honest) honest))

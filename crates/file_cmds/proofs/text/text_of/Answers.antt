@@ -3,7 +3,7 @@ use Rattle.std.specs.Prelude.{IsTrue}
 use Rattle.std.proofs.lemmas.Grind.{common_steps}
 use Rattle.a2_device.specs.Device.{OnlyReads}
 use Rattle.a2_device.specs.Reading.{then_reads}
-use Rattle.vol_parts.specs.Stop.{is_device_stop, same_stop}
+use Rattle.a2_device.specs.Stop.{is_device_stop, same_stop}
 use Rattle.file_cmds.proofs.Texts.{part_read}
 use Rattle.file_cmds.proofs.text.text_of.Goals as goal
 

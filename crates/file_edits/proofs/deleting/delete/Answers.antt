@@ -9,7 +9,7 @@ returns-clause-files g c = λ honest.
     let old = g.D.Device.state c.args.device.now in
     deletion_changed meaning (g.met.F.Format.readable format) (g.met.F.WritableFormat.movable format) (g.met.F.WritableFormat.writable format) (g.met.F.EditableFormat.file_free format)
     (g.F.FileFormat.files format) (g.F.EditableFormat.erasures format) c.args.path.now old (g.D.Device.state c.delete_first.new.device)
-    (whole_units meaning old (g.met.D.Device.whole c.args.device.now honest) c.requires.unit) c.delete_first.result honest c.delete_first.ensures.edited
+    (whole_units meaning old (g.met.D.Device.whole c.args.device.now honest) c.requires.fits.unit) c.delete_first.result honest c.delete_first.ensures.edited
 
 pub returns-clause-stopped : goal.returns-clause-stopped
 returns-clause-stopped g c = λ honest is.
@@ -18,4 +18,4 @@ returns-clause-stopped g c = λ honest is.
     let old = g.D.Device.state c.args.device.now in
     deletion_stopped meaning (g.met.F.Format.readable format) (g.met.F.WritableFormat.movable format) (g.met.F.WritableFormat.writable format) (g.met.F.EditableFormat.file_free format)
     (g.F.FileFormat.files format) (g.F.EditableFormat.erasures format) c.args.path.now old (g.D.Device.state c.delete_first.new.device)
-    (whole_units meaning old (g.met.D.Device.whole c.args.device.now honest) c.requires.unit) c.delete_first.result honest c.delete_first.ensures.edited is
+    (whole_units meaning old (g.met.D.Device.whole c.args.device.now honest) c.requires.fits.unit) c.delete_first.result honest c.delete_first.ensures.edited is

@@ -2,19 +2,19 @@ use Rattle.std.proofs.Common.{◌≡◌, ◌<◌, ◌∙◌, List, ap, sym, subs
 use Rattle.std.specs.Prelude.{All}
 use Rattle.a2_device.specs.Device.{DeviceState}
 use Rattle.a2_device.specs.Reading.{then_reads}
-use Rattle.vol_parts.specs.declared.part.Part.{Part}
+use Rattle.a2_device.specs.declared.part.Part.{Part}
 use Rattle.vol_check.specs.Told.{told_of, volume_of}
 use Rattle.vol_format.specs.Accepted.{IsAccepted}
 use Rattle.vol_format.specs.Directory.{entry_of}
 use Rattle.vol_format.specs.Reach.{IsPartsOf}
-use Rattle.edit_laws.specs.Deletion.{IsDeletion}
-use Rattle.edit_laws.specs.Writes.{Write}
+use Rattle.vol_laws.specs.Deletion.{IsDeletion}
+use Rattle.vol_laws.specs.Writes.{Write}
 use Rattle.file_formats.specs.Files.{IsFirstNamed}
-use Rattle.edit_writes.specs.declared.writes.Prepared.{Prepared}
+use Rattle.edit_formats.specs.declared.writes.Prepared.{Prepared}
 use Rattle.edit_formats.specs.Deleted.{IsDeleteEdit}
-use Rattle.edit_writes.specs.Prepared.{write_of}
+use Rattle.edit_formats.specs.Prepared.{write_of}
 use Rattle.edit_formats.proofs.Deletions.{device_refusal, device_told, told_below}
-use Rattle.edit_writes.proofs.Edits.{edited_after, edited_as}
+use Rattle.edit_formats.proofs.Edits.{edited_after, edited_as}
 use Rattle.file_edits.proofs.deleting.delete_first.Goals as goal
 
 pub deletion-requires-clause-parts : goal.deletion-requires-clause-parts

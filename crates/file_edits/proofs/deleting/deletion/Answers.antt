@@ -1,10 +1,10 @@
 use Rattle.std.proofs.Common.{◌≡◌, ◌<◌, ◌∙◌, sym, subst, refl, map, length, true}
 use Rattle.std.specs.Prelude.{All}
 use Rattle.a2_device.specs.Device.{DeviceState}
-use Rattle.edit_laws.specs.Deletion.{IsDeletion}
-use Rattle.edit_writes.specs.declared.writes.Prepared.{Prepared}
-use Rattle.edit_writes.specs.Prepared.{write_of}
-use Rattle.edit_writes.specs.Markings.{AreMarked}
+use Rattle.vol_laws.specs.Deletion.{IsDeletion}
+use Rattle.edit_formats.specs.declared.writes.Prepared.{Prepared}
+use Rattle.edit_formats.specs.Prepared.{write_of}
+use Rattle.edit_formats.specs.Markings.{AreMarked}
 use Rattle.edit_formats.proofs.Deletions.{if_ok, own_below, all_inside, all_sizes, made_deletion}
 use Rattle.file_edits.proofs.deleting.deletion.Goals as goal
 
@@ -54,7 +54,7 @@ returns-clause-deletes g c = λ honest accepted are.
     (λ writes. (deletion : IsDeletion meaning directory file old.store (map write_of writes.items)) × erasures.Erases old.store directory file deletion.system)
     (λ writes all.
     made_deletion meaning (g.met.F.Format.readable format) (g.met.F.WritableFormat.movable format) erasures (g.met.F.EditableFormat.erasable format)
-    directory file parts old start writes.items honest (g.met.D.Device.whole c.args.device.now honest) c.requires.unit accepted c.requires.file c.requires.is_file are c.requires.parts
+    directory file parts old start writes.items honest (g.met.D.Device.whole c.args.device.now honest) c.requires.fits.unit accepted c.requires.file c.requires.is_file are c.requires.parts
     (c.in_ok-erased.ensures.erases honest accepted.described)
     (subst (λ of. AreMarked meaning true directory of old start writes.items) (c.as_slice.ensures.value ∙ c.in_ok-places.ensures)
     (subst (λ (d : DeviceState). AreMarked meaning true directory places d start writes.items) (c.in_ok-erased.ensures.device.kept honest refl) all)))

@@ -15,7 +15,7 @@ returns-clause-files g c = λ honest.
     let old = g.D.Device.state c.args.device.now in
     done_changed meaning (with_lock_on files edits path true) (IsLockEdit meaning files edits old.store path true) old (g.D.Device.state c.relock.new.device)
     (lock_is_one_change meaning (g.met.F.Format.readable format) (g.met.F.WritableFormat.movable format) (g.met.F.WritableFormat.writable format)
-    files edits (g.met.F.EditableFormat.lockable format) path true old (g.met.D.Device.whole c.args.device.now honest) c.requires.unit)
+    files edits (g.met.F.EditableFormat.lockable format) path true old (g.met.D.Device.whole c.args.device.now honest) c.requires.fits.unit)
     c.relock.result honest c.relock.ensures.edited
 
 pub returns-clause-stopped : goal.returns-clause-stopped
@@ -28,5 +28,5 @@ returns-clause-stopped g c = λ honest is.
     let old = g.D.Device.state c.args.device.now in
     stopped_changed meaning (with_lock_on files edits path true) (IsLockEdit meaning files edits old.store path true) old (g.D.Device.state c.relock.new.device)
     (lock_is_one_change meaning (g.met.F.Format.readable format) (g.met.F.WritableFormat.movable format) (g.met.F.WritableFormat.writable format)
-    files edits (g.met.F.EditableFormat.lockable format) path true old (g.met.D.Device.whole c.args.device.now honest) c.requires.unit)
+    files edits (g.met.F.EditableFormat.lockable format) path true old (g.met.D.Device.whole c.args.device.now honest) c.requires.fits.unit)
     c.relock.result honest c.relock.ensures.edited is

@@ -4,9 +4,9 @@ use Rattle.vol_check.specs.Told.{volume_of}
 use Rattle.vol_format.specs.Directory.{Listed, entry_of}
 use Rattle.file_formats.specs.Files.{IsFirstNamed}
 use Rattle.edit_formats.specs.Edited.{IsLockEdit}
-use Rattle.edit_laws.specs.Writes.{Write}
-use Rattle.edit_writes.specs.Writes.{HasEdited}
-use Rattle.edit_writes.proofs.Edits.{edited_after, edited_as}
+use Rattle.vol_laws.specs.Writes.{Write}
+use Rattle.edit_formats.specs.Writes.{HasEdited}
+use Rattle.edit_formats.proofs.Edits.{edited_after, edited_as}
 use Rattle.file_edits.proofs.locking.relock.Goals as goal
 
 pub returns-clause-edited : goal.returns-clause-edited

@@ -1,8 +1,8 @@
 use Rattle.std.proofs.Common.{◌≡◌, ◌∙◌, List, [], ◌∷◌, ap}
 use Rattle.a2_device.specs.Device.{unit_at}
 use Rattle.vol_format.specs.Directory.{entry_of}
-use Rattle.edit_laws.specs.Writes.{Write}
-use Rattle.edit_writes.proofs.Edits.{edited_after, edited_as, one_write}
+use Rattle.vol_laws.specs.Writes.{Write}
+use Rattle.edit_formats.proofs.Edits.{edited_after, edited_as, one_write}
 use Rattle.file_edits.proofs.locking.write_lock.Goals as goal
 
 pub returns-clause-edited : goal.returns-clause-edited

@@ -14,7 +14,7 @@ returns-clause-files g c = λ honest.
     let old = g.D.Device.state c.args.device.now in
     done_changed meaning (with_new_name files names path new) (IsRenameEdit meaning files names old.store path new) old (g.D.Device.state c.rename_first.new.device)
     (rename_is_one_change meaning (g.met.F.Format.readable format) (g.met.F.WritableFormat.movable format) (g.met.F.WritableFormat.writable format)
-    files names (g.met.F.EditableFormat.namable format) path new old (g.met.D.Device.whole c.args.device.now honest) c.requires.unit)
+    files names (g.met.F.EditableFormat.namable format) path new old (g.met.D.Device.whole c.args.device.now honest) c.requires.fits.unit)
     c.rename_first.result honest c.rename_first.ensures.edited
 
 pub returns-clause-stopped : goal.returns-clause-stopped
@@ -28,5 +28,5 @@ returns-clause-stopped g c = λ honest is.
     let old = g.D.Device.state c.args.device.now in
     stopped_changed meaning (with_new_name files names path new) (IsRenameEdit meaning files names old.store path new) old (g.D.Device.state c.rename_first.new.device)
     (rename_is_one_change meaning (g.met.F.Format.readable format) (g.met.F.WritableFormat.movable format) (g.met.F.WritableFormat.writable format)
-    files names (g.met.F.EditableFormat.namable format) path new old (g.met.D.Device.whole c.args.device.now honest) c.requires.unit)
+    files names (g.met.F.EditableFormat.namable format) path new old (g.met.D.Device.whole c.args.device.now honest) c.requires.fits.unit)
     c.rename_first.result honest c.rename_first.ensures.edited is

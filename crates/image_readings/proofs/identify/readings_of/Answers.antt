@@ -1,6 +1,6 @@
 use Rattle.std.proofs.Common.{◌≡◌, ◌∙◌, sym, subst, arith, true, get_or, ℕ, List, length}
-use Rattle.sector_order.specs.declared.order.Order.{Order}
-use Rattle.sector_order.specs.declared.order.Order.TheVariants as orders
+use Rattle.a2_device.specs.declared.order.Order.{Order}
+use Rattle.a2_device.specs.declared.order.Order.TheVariants as orders
 use Rattle.shop_jobs.specs.declared.job.FileSystem.{FileSystem}
 use Rattle.shop_jobs.specs.declared.job.FileSystem.TheVariants as systems
 use Rattle.image_readings.specs.Adding.{Adds}

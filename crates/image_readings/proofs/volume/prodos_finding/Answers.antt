@@ -1,5 +1,5 @@
 use Rattle.shop_jobs.specs.declared.job.FileSystem.TheVariants.{Prodos}
-use Rattle.image_volume.specs.Volume.{device_of}
+use Rattle.shop_replies.specs.Volume.{device_of}
 use Rattle.image_readings.proofs.Lent.{found_lent, stops_lent}
 use Rattle.image_readings.proofs.Stopped.{told_if}
 use Rattle.image_readings.proofs.volume.prodos_finding.Goals as goal

@@ -1,6 +1,6 @@
 use Rattle.std.proofs.Common.{refl}
 use Rattle.vol_format.specs.declared.link.Link.TheVariants.{To}
-use Rattle.edit_laws.specs.Built.{part_of}
+use Rattle.vol_laws.specs.Built.{part_of}
 use Rattle.dos_entries.specs.Slots.{new_listed}
 use Rattle.new_files.specs.Order.{IsOfList}
 use Rattle.new_files.proofs.DosBuilt.{dos_file_built, entry_first}

@@ -1,4 +1,4 @@
-use Rattle.edit_laws.specs.Built.{place_of}
+use Rattle.vol_laws.specs.Built.{place_of}
 use Rattle.pro_tree.specs.Reach.{pro_root}
 use Rattle.pro_entries.proofs.BuiltPlans.{pro_built}
 use Rattle.new_files.specs.Order.{IsOfIndex}

@@ -1,5 +1,5 @@
 use Rattle.std.proofs.Common.{◌∙◌, ◌++◌, ◌∷◌, ap, sym, Vec}
-use Rattle.vol_parts.specs.declared.part.PartKind.TheVariants.{Master}
+use Rattle.a2_device.specs.declared.part.PartKind.TheVariants.{Master}
 use Rattle.new_files.specs.declared.part.NewPart.{NewPart}
 use Rattle.new_files.specs.Parts.{new_part}
 use Rattle.new_files.proofs.Ranges.{index_passed, index_taken, indexes-none}

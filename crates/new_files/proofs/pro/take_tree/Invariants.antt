@@ -1,5 +1,5 @@
 use Rattle.std.proofs.Common.{◌≡◌, ◌++◌, ◌∷◌}
-use Rattle.vol_parts.specs.declared.part.PartKind.TheVariants.{Master}
+use Rattle.a2_device.specs.declared.part.PartKind.TheVariants.{Master}
 use Rattle.new_files.specs.Parts.{indexes, new_part}
 use Rattle.new_files.proofs.pro.take_tree.Given as goal
 

@@ -1,5 +1,5 @@
 use Rattle.std.proofs.Common.{◌≡◌, ◌<◌, ◌+◌, ◌∙◌, arith, false, length, refl, subst, sym, true}
-use Rattle.vol_parts.specs.declared.part.PartKind.TheVariants.{Index}
+use Rattle.a2_device.specs.declared.part.PartKind.TheVariants.{Index}
 use Rattle.new_files.specs.Order.{part_at}
 use Rattle.new_files.specs.Filling.{HasPointers}
 use Rattle.new_files.proofs.Parts.{index_low, part_is}

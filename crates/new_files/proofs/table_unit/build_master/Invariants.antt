@@ -1,4 +1,4 @@
-use Rattle.vol_parts.specs.declared.part.PartKind.TheVariants.{Index}
+use Rattle.a2_device.specs.declared.part.PartKind.TheVariants.{Index}
 use Rattle.new_files.specs.Filling.{HasPointers}
 use Rattle.new_files.proofs.table_unit.build_master.Given as goal
 

@@ -1,14 +1,14 @@
 use Rattle.std.proofs.Common.{◌≡◌, ◌∙◌, ◌++◌, [], ◌∷◌, List, length, sym, subst, ap, arith, IfErr, false, replicate}
 use Rattle.std.proofs.lemmas.List.{length-replicate}
 use Rattle.std.proofs.lemmas.Result.{err_from_is_err_and}
-use Rattle.vol_parts.specs.declared.part.Part.{Part}
-use Rattle.vol_parts.specs.declared.fault.Fault.{Fault}
-use Rattle.vol_parts.specs.declared.fault.WalkError.TheVariants.{Fault as AFault}
+use Rattle.a2_device.specs.declared.part.Part.{Part}
+use Rattle.a2_device.specs.declared.fault.Fault.{Fault}
+use Rattle.a2_device.specs.declared.fault.WalkError.TheVariants.{Fault as AFault}
 use Rattle.pro_tree.specs.Reach.{pro_root}
 use Rattle.pro_tree.specs.Parts.{FileFaultAt}
 use Rattle.pro_tree.specs.Walk.{IsRefusedAt, parts_named}
-use Rattle.vol_parts.specs.Table.{IsTable}
-use Rattle.vol_parts.proofs.Tables.{all_within, empty_table}
+use Rattle.a2_device.specs.Table.{IsTable}
+use Rattle.a2_device.proofs.Tables.{all_within, empty_table}
 use Rattle.pro_tree.proofs.Ends.{tame_some, key_refused, at_part, at_parts, at_none}
 use Rattle.pro_tree.proofs.file_walk.walk.Goals as goal
 use Rattle.pro_tree.proofs.file_walk.walk.Goals.{in-Some+in_ok-take_below, in_default}

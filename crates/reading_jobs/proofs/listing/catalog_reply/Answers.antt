@@ -1,6 +1,6 @@
 use Rattle.std.proofs.Common.{◌∙◌, ap, inl, subst, sym}
 use Rattle.std.specs.Prelude.{Err}
-use Rattle.job_reply.specs.declared.reply.Reply.{Reply}
+use Rattle.shop_replies.specs.declared.reply.Reply.{Reply}
 use Rattle.reading_jobs.specs.CatalogReply.{IsListed}
 use Rattle.reading_jobs.proofs.Readings.{not_listed}
 use Rattle.reading_jobs.proofs.listing.catalog_reply.Goals as goal

@@ -1,5 +1,5 @@
 use Rattle.std.proofs.Common.{inl, inr}
-use Rattle.vol_opening.specs.Opening.{told_in}
+use Rattle.vol_mover.specs.Opening.{told_in}
 use Rattle.reading_jobs.proofs.Unopened.{unopened}
 use Rattle.reading_jobs.proofs.Quiet.{opening_reads, text_reads}
 use Rattle.reading_jobs.proofs.plan_words.plan_words_reply.Goals as goal

@@ -1,6 +1,6 @@
 use Rattle.std.proofs.Common.{◌≡◌, string_bytes, take}
 use Rattle.std.specs.Prelude.{flat_map}
-use Rattle.plan_steps.specs.Steps.{step_line}
+use Rattle.file_listings.specs.Steps.{step_line}
 use Rattle.reading_jobs.proofs.plan_words.steps_text.Given as goal
 
 abbrev pub invariant-loop-step : goal.invariant-loop-step

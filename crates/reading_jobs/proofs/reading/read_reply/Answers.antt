@@ -1,6 +1,6 @@
 use Rattle.std.proofs.Common.{◌∙◌, ap, subst, sym}
 use Rattle.std.specs.Prelude.{Err}
-use Rattle.job_reply.specs.declared.reply.Reply.{Reply}
+use Rattle.shop_replies.specs.declared.reply.Reply.{Reply}
 use Rattle.reading_jobs.specs.ReadReply.{IsRead}
 use Rattle.reading_jobs.proofs.Readings.{not_read}
 use Rattle.reading_jobs.proofs.reading.read_reply.Goals as goal

@@ -1,7 +1,7 @@
 use Rattle.std.proofs.Common.{◌∙◌, List, length, arith, sym, ap}
-use Rattle.vol_parts.specs.declared.part.Part.{Part}
+use Rattle.a2_device.specs.declared.part.Part.{Part}
 use Rattle.vol_layout.specs.declared.moves.Move.{Move}
-use Rattle.vol_opening.specs.Opening.{told_in}
+use Rattle.vol_mover.specs.Opening.{told_in}
 use Rattle.reading_jobs.proofs.StepLemmas.{told_below, told_legal, told_length, told_more}
 use Rattle.reading_jobs.proofs.steps.steps_of.Goals as goal
 

@@ -1,5 +1,5 @@
 use Rattle.std.proofs.Common.{◌≡◌, sym, ◌∙◌}
-use Rattle.edit_writes.specs.declared.error.EditError.TheVariants.{Check}
+use Rattle.edit_formats.specs.declared.error.EditError.TheVariants.{Check}
 use Rattle.save_formats.proofs.Walked.{no_fault}
 use Rattle.save_formats.proofs.dos.walk_from.Goals as goal
 

@@ -1,5 +1,5 @@
 use Rattle.std.proofs.Common.{◌≡◌}
-use Rattle.edit_writes.specs.declared.error.EditError.TheVariants.{Check}
+use Rattle.edit_formats.specs.declared.error.EditError.TheVariants.{Check}
 use Rattle.edit_formats.proofs.ErasedEntries.{no_fault}
 use Rattle.save_formats.proofs.pro.walk_directories.Goals as goal
 

@@ -1,7 +1,7 @@
 use Rattle.std.proofs.Common.{inl, inr, ap, subst, map, string_bytes, ⊎_elim}
 use Rattle.std.specs.Prelude.{List, ℕ, Option}
 use Rattle.shop_jobs.specs.Job.{job_view}
-use Rattle.job_reply.specs.Reply.{held}
+use Rattle.shop_replies.specs.Reply.{held}
 use Rattle.shop_commands.specs.Answer.{HandsOutFor}
 use Rattle.shop_commands.proofs.Answered.{command_answered, command_placed, command_refused, command_untaken}
 use Rattle.shop_commands.proofs.command.run_command.Goals as goal

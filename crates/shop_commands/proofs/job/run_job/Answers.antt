@@ -2,7 +2,7 @@ use Rattle.std.proofs.Common.{◌≡◌, ◌∙◌, ◌+◌, ℕ, List, sym, sub
 use Rattle.std.specs.Prelude.{IfSome}
 use Rattle.shop_jobs.specs.Job.{job_view}
 use Rattle.reading_jobs.specs.VerifyReply.{most_certificate}
-use Rattle.job_reply.specs.Reply.{held}
+use Rattle.shop_replies.specs.Reply.{held}
 use Rattle.shop_commands.proofs.Answered.{image_handed, job_answered}
 use Rattle.shop_commands.proofs.DosListings.{dos_listed}
 use Rattle.shop_commands.proofs.job.run_job.Goals as goal

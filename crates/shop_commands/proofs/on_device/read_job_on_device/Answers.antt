@@ -1,7 +1,7 @@
 use Rattle.std.proofs.Common.{◌∙◌, ap, sym, subst, option_map, ℕ, List}
 use Rattle.std.specs.Prelude.{Option}
 use Rattle.shop_jobs.specs.Job.{job_view}
-use Rattle.image_volume.specs.Volume.{form_of}
+use Rattle.shop_replies.specs.Volume.{form_of}
 use Rattle.volume_jobs.specs.FileSystems.{edits_of, files_of}
 use Rattle.volume_jobs.specs.Work.{IsWorkReply, work_view}
 use Rattle.device_jobs.specs.Reading.{IsDeviceReply}

@@ -1,6 +1,6 @@
 use Rattle.std.proofs.Common.{ap, arith, refl, subst, sym, length, List, ℕ}
-use Rattle.sector_order.specs.declared.order.Order.TheVariants.{Prodos}
-use Rattle.sector_order.specs.Order.{IsImageLength}
+use Rattle.a2_device.specs.declared.order.Order.TheVariants.{Prodos}
+use Rattle.a2_device.specs.Order.{IsImageLength}
 use Rattle.a2_device.specs.Device.{DeviceState}
 use Rattle.test_volumes.proofs.Opening.{blocks_within}
 use Rattle.test_volumes.proofs.blocks.block_device.Goals as goal

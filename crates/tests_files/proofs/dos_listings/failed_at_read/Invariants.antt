@@ -1,5 +1,5 @@
 use Rattle.std.proofs.Common.{◌≡◌}
-use Rattle.image_device.specs.ImageDevice.{place_count, unit_bytes}
+use Rattle.a2_media.specs.ImageDevice.{place_count, unit_bytes}
 use Rattle.tests_files.proofs.dos_listings.failed_at_read.Given as goal
 
 abbrev pub invariant-loop : goal.invariant-loop

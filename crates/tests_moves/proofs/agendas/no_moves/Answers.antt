@@ -1,6 +1,6 @@
 use Rattle.std.proofs.Common.{refl, false, [], ◌∷◌}
 use Rattle.dos_format.specs.Dos.{dos_available, first_available}
-use Rattle.tests_moves.proofs.Plans.{nothing_to_do}
+use Rattle.tests_moves.proofs.MadePlans.{nothing_to_do}
 use Rattle.tests_moves.proofs.Trials.{tried_spare}
 use Rattle.tests_moves.proofs.agendas.no_moves.Goals as goal
 

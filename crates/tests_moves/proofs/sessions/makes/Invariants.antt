@@ -1,4 +1,4 @@
-use Rattle.plan_writes.specs.Tasks.{Course}
+use Rattle.vol_mover.specs.Tasks.{Course}
 use Rattle.vol_mover.specs.Present.{IsSession}
 use Rattle.vol_mover.specs.Shown.{present}
 use Rattle.tests_moves.proofs.sessions.makes.Given as goal

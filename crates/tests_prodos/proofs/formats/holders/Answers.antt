@@ -1,7 +1,7 @@
 use Rattle.std.proofs.Common.{◌<◌, get_or, subst, sym}
 use Rattle.std.specs.List.{All}
 use Rattle.std.proofs.lemmas.List.{get_or_default}
-use Rattle.vol_parts.specs.declared.part.Part.{Part}
+use Rattle.a2_device.specs.declared.part.Part.{Part}
 use Rattle.vol_format.specs.Directory.{entries}
 use Rattle.pro_format.specs.Pro.{directory_with}
 use Rattle.pro_format.specs.ProVolume.{tree_of, map_in, system_of}

@@ -1,5 +1,5 @@
 use Rattle.std.proofs.Common.{◌<◌, refl}
-use Rattle.vol_parts.specs.declared.part.Part.{Part}
+use Rattle.a2_device.specs.declared.part.Part.{Part}
 use Rattle.vol_check.specs.Told.{told_of}
 use Rattle.vol_check.specs.Walk.{lists}
 use Rattle.vol_check.proofs.Verdict.{each_part, all_told}

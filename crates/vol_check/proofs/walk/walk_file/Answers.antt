@@ -17,7 +17,7 @@ loop-next-init g c =
     record {
       device = unread device;
       sound = root_sound format laws directory of c.args.file c.entry_at-entry.result.place c.root.result (lists c.args.walk.now) (lists c.note.new.walk)
-          (subst format.Takes (sym c.requires.places) c.requires.takes) c.requires.file c.root.ensures c.in_ok-note.ensures c.requires.sound;
+          (subst format.Takes (sym c.requires.places) c.requires.fits.places) c.requires.file c.root.ensures c.in_ok-note.ensures c.requires.sound;
       walking = λ honest. root_walking format laws directory device.store of c.args.file c.entry_at-entry.result.place c.root.result
           (lists c.args.walk.now) (lists c.note.new.walk) c.entry_at-entry.ensures.place c.root.ensures c.in_ok-note.ensures c.requires.file c.requires.pending (c.requires.walking honest);
     }
@@ -27,7 +27,7 @@ go_on-requires-clause-place g c = λ part is.
     let format = g.F.Format.meaning c.args.format.now in
     let laws = g.met.F.Format.readable c.args.format.now in
     let directory = g.F.Format.directory c.args.format.now c.args.volume.now in
-    let takes = subst format.Takes (sym c.requires.places) c.requires.takes in
+    let takes = subst format.Takes (sym c.requires.places) c.requires.fits.places in
     let top = c.in-Some.ensures.items ∙ ap (λ next. c.pop.new.self.items ++ next ∷ []) is in
     omega (
       arith,
@@ -41,7 +41,7 @@ loop-next-smaller g c =
     let format = g.F.Format.meaning c.args.format.now in
     let laws = g.met.F.Format.readable c.args.format.now in
     let directory = g.F.Format.directory c.args.format.now c.args.volume.now in
-    let takes = subst format.Takes (sym c.requires.places) c.requires.takes in
+    let takes = subst format.Takes (sym c.requires.places) c.requires.fits.places in
     let next : work (lists c.go_on.new.walk) < work (lists c.loop-next.walk) =
     subst (λ w. work w < work (lists c.loop-next.walk)) (sym c.in_ok-go_on.ensures.walk)
     (next_work format laws directory takes (lists c.loop-next.walk) c.pop.new.self.items c.in-Some.next c.go_on.new.unit c.loop-next.invariant.sound c.in-Some.ensures.items) in
@@ -52,7 +52,7 @@ loop-next-preserved g c =
     let format = g.F.Format.meaning c.args.format.now in
     let laws = g.met.F.Format.readable c.args.format.now in
     let directory = g.F.Format.directory c.args.format.now c.args.volume.now in
-    let takes = subst format.Takes (sym c.requires.places) c.requires.takes in
+    let takes = subst format.Takes (sym c.requires.places) c.requires.fits.places in
     let device = g.D.Device.state c.args.device.now in
     let before = c.loop-next.invariant in
     let items = c.in-Some.ensures.items in

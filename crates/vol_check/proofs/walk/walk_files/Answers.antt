@@ -1,7 +1,7 @@
 use Rattle.std.proofs.Common.{◌≡◌, ◌∙◌, ap, subst, sym, arith}
 use Rattle.a2_device.specs.Device.{OnlyReads}
 use Rattle.a2_device.specs.Reading.{unread, then_reads}
-use Rattle.vol_parts.specs.Stop.{is_device_stop, same_stop}
+use Rattle.a2_device.specs.Stop.{is_device_stop, same_stop}
 use Rattle.vol_check.specs.Walk.{lists}
 use Rattle.vol_check.specs.Walking.{IsWalking, None}
 use Rattle.vol_check.proofs.Files.{unseen, start_sound, start_walking}
@@ -16,7 +16,7 @@ loop-file-init g c =
     let start : lists c.in_ok-walk.walk ≡ unseen directory.places = c.in_ok-walk.ensures ∙ ap (λ n. unseen n) (c.places.ensures ∙ sym c.requires.places) in
     record {
       device = unread device;
-      unit_size = omega (arith, c.in_ok-unit.unit.ok.0, c.in_ok-unit.ensures.len, c.unit.ensures, c.requires.size);
+      unit_size = omega (arith, c.in_ok-unit.unit.ok.0, c.in_ok-unit.ensures.len, c.unit.ensures, c.requires.fits.unit);
       pending = ap (λ (l : _). l.pending) c.in_ok-walk.ensures;
       sound = start_sound format laws directory (lists c.in_ok-walk.walk) start;
       walking = λ honest. start_walking format laws directory device.store (lists c.in_ok-walk.walk) start;

@@ -1,4 +1,4 @@
-use Rattle.vol_files.proofs.Kept.{same_files}
+use Rattle.vol_format.proofs.Kept.{same_files}
 use Rattle.vol_mover.proofs.laws.the_same_volume_has_the_same_files.Goals as goal
 
 pub returns : goal.returns

@@ -1,6 +1,6 @@
 use Rattle.std.proofs.Common.{◌∙◌, sym, subst}
-use Rattle.vol_opening.specs.Opening.{told_in}
-use Rattle.vol_opening.proofs.Few.{few_lost}
+use Rattle.vol_mover.specs.Opening.{told_in}
+use Rattle.vol_mover.proofs.Few.{few_lost}
 use Rattle.vol_mover.specs.Begun.{IsBegun}
 use Rattle.vol_mover.proofs.Begins.{begun}
 use Rattle.vol_mover.proofs.open.begin.Goals as goal
@@ -21,5 +21,5 @@ returns-in-Ok-room-clause-begun g c =
     let read = c.in-Ok.ensures in
     subst (IsBegun (g.F.Format.meaning format) c.args.options (g.D.Device.state c.args.device)) (sym c.started.ensures.session)
     (begun (g.F.Format.meaning format) c.args.options (g.D.Device.state c.args.device) (g.D.Device.state c.read.new.device) directory (g.met.F.Format.rooted format opening.volume)
-    (told_in directory opening) read.told made.layout opening.plan read.plan c.in-Ok-room.agenda c.in-Ok-room.unit.items c.requires.places c.requires.unit read.device read.places
+    (told_in directory opening) read.told made.layout opening.plan read.plan c.in-Ok-room.agenda c.in-Ok-room.unit.items c.requires.fits.places c.requires.fits.unit read.device read.places
     (made.unit ∙ c.unit.ensures) made.agenda made.moves made.order made.few read.accepted read.parts read.lost made.writes read.allowed)

@@ -1,9 +1,9 @@
 use Rattle.std.proofs.Common.{◌≡◌, ◌≤◌, ◌<◌, ◌+◌, ◌*◌, sym, ap, subst, arith, length, ℕ, List}
-use Rattle.plan_writes.specs.Tasks.{Task}
+use Rattle.vol_mover.specs.Tasks.{Task}
 use Rattle.vol_layout.specs.declared.moves.Move.{Move}
-use Rattle.plan_writes.specs.Work.{AreSpare}
-use Rattle.plan_writes.specs.Writes.{writes_of}
-use Rattle.vol_opening.specs.Opening.{told_in}
+use Rattle.vol_mover.specs.Work.{AreSpare}
+use Rattle.vol_mover.specs.Writes.{writes_of}
+use Rattle.vol_mover.specs.Opening.{told_in}
 use Rattle.vol_mover.proofs.Begins.{few_planned}
 use Rattle.vol_mover.proofs.Beginning.{spare, few_lost}
 use Rattle.vol_mover.proofs.FewTasks.{few_writes}

@@ -1,5 +1,5 @@
 use Rattle.std.proofs.Common.{◌≡◌, drop}
-use Rattle.write_laws.specs.Marked.{with_marks}
+use Rattle.vol_laws.specs.Marked.{with_marks}
 use Rattle.vol_mover.proofs.units.make_marks.Given as goal
 
 abbrev pub invariant-loop-mark : goal.invariant-loop-mark

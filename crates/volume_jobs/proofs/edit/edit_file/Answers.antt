@@ -1,5 +1,5 @@
 use Rattle.std.proofs.Common.{◌≡◌, ◌∙◌, sym, ap, subst}
-use Rattle.edit_writes.specs.Writes.{HasEdited}
+use Rattle.edit_formats.specs.Writes.{HasEdited}
 use Rattle.shop_jobs.specs.Job.{EditView, Rename, edit_view}
 use Rattle.volume_jobs.specs.EditReply.{AreWritesOf, IsOldOrEdited}
 use Rattle.volume_jobs.specs.EditRules.{edit_rules}

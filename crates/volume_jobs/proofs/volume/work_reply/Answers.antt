@@ -1,5 +1,5 @@
 use Rattle.std.proofs.Common.{subst, sym}
-use Rattle.image_device.specs.ImageDevice.{image_state}
+use Rattle.a2_media.specs.ImageDevice.{image_state}
 use Rattle.volume_jobs.specs.EditRules.{edit_rules}
 use Rattle.volume_jobs.specs.Work.{IsWorkReply, work_view}
 use Rattle.volume_jobs.specs.declared.volume.Work.{Work}

@@ -1,7 +1,7 @@
 use Rattle.std.proofs.Common.{rules, ◌≡◌, ◌∙◌, ◌<◌, ℕ, List, Some, ap, sym, arith, length}
 use Rattle.a2_image.specs.Image.{block_count}
 use Rattle.a2_image.specs.Blocks.{bytes_of_block}
-use Rattle.sector_order.specs.declared.order.Order.TheVariants.{Prodos}
+use Rattle.a2_device.specs.declared.order.Order.TheVariants.{Prodos}
 use Rattle.a2_image.proofs.LawLemmas.{block_end-prodos, block_in-prodos}
 use Rattle.a2_image.proofs.image.Image.block_ref.Goals as goal
 

@@ -1,5 +1,5 @@
 use Rattle.std.proofs.Common.{◌∙◌, ◌≤◌, ap, sym, subst, length}
-use Rattle.sector_order.specs.Order.{blocks_of}
+use Rattle.a2_device.specs.Order.{blocks_of}
 use Rattle.a2_image.proofs.ImageLemmas.{few_blocks, image_disk}
 use Rattle.a2_image.proofs.image.Image.blocks.Goals as goal
 

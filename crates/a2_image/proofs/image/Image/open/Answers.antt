@@ -1,6 +1,6 @@
 use Rattle.std.proofs.Common.{◌∙◌, ap, subst, length, refl}
 use Rattle.std.proofs.lemmas.Bool.{false≢true}
-use Rattle.sector_order.specs.Order.{IsImageLength}
+use Rattle.a2_device.specs.Order.{IsImageLength}
 use Rattle.a2_image.proofs.ImageLemmas.{holds_kept, kept_holds, nibble_length}
 use Rattle.a2_image.proofs.image.Image.open.Goals as goal
 

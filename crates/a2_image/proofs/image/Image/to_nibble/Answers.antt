@@ -1,7 +1,7 @@
 use Rattle.std.proofs.Common.{◌≡◌, ◌∙◌, ap, sym, subst, length, arith}
 use Rattle.std.proofs.lemmas.List.{with_items_is}
-use Rattle.sector_order.specs.declared.order.Order.TheVariants.{Nibble}
-use Rattle.sector_order.specs.Order.{blocks_of}
+use Rattle.a2_device.specs.declared.order.Order.TheVariants.{Nibble}
+use Rattle.a2_device.specs.Order.{blocks_of}
 use Rattle.a2_image.specs.Tracks.{track_of}
 use Rattle.a2_image.specs.Kept.{IsKept, kept_sectors}
 use Rattle.a2_image.specs.Converting.{MakesTrack}

@@ -1,6 +1,6 @@
 use Rattle.std.proofs.Common.{◌≡◌, ◌∙◌, ap, sym, subst, length}
 use Rattle.std.proofs.lemmas.List.{with_items_is}
-use Rattle.sector_order.specs.Order.{blocks_of}
+use Rattle.a2_device.specs.Order.{blocks_of}
 use Rattle.a2_image.specs.Kept.{IsKept, kept_sectors}
 use Rattle.a2_image.proofs.ConvertLemmas.{plain_image, IsKept-plain}
 use Rattle.a2_image.proofs.ImageLemmas.{kept-plain}

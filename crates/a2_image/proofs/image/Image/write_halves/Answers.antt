@@ -1,6 +1,6 @@
 use Rattle.std.proofs.Common.{◌≡◌, ◌∙◌, ◌+◌, ◌*◌, ap, arith, length, take, drop, set, Some}
 use Rattle.std.specs.Prelude.{slice_range}
-use Rattle.sector_order.specs.Order.{blocks_of}
+use Rattle.a2_device.specs.Order.{blocks_of}
 use Rattle.a2_image.specs.Blocks.{sector_of_half}
 use Rattle.a2_image.proofs.BlockLemmas.{HasSector-front, HasSector-second, blocks-halves}
 use Rattle.a2_image.proofs.PartLemmas.{rear_half}

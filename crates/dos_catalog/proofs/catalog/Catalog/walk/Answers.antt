@@ -2,7 +2,7 @@ use Rattle.std.proofs.Common.{◌≡◌, ◌<◌, ◌+◌, List, ℕ, refl, sym,
 use Rattle.std.specs.Prelude.{IsTrue}
 use Rattle.std.proofs.lemmas.Result.{err_from_is_err_and}
 use Rattle.a2_device.specs.Device.{DeviceState, unit_at}
-use Rattle.vol_parts.specs.declared.fault.Fault.TheVariants.{CatalogLink}
+use Rattle.a2_device.specs.declared.fault.Fault.TheVariants.{CatalogLink}
 use Rattle.dos_catalog.specs.Catalog.{HasBadLink, IsCatalog, CatalogFaultAt}
 use Rattle.dos_catalog.specs.lemmas.Chain.{no_catalog}
 use Rattle.dos_catalog.specs.Walk.{IsTable}

@@ -1,7 +1,7 @@
 use Rattle.std.proofs.Common.{rules, ◌≡◌, ◌++◌, ◌<◌, [], ◌∷◌, sym, subst, length, arith}
 use Rattle.dos_tslist.specs.Walk.{part_of}
-use Rattle.vol_parts.specs.Table.{IsTable}
-use Rattle.vol_parts.proofs.Tables.{tabled}
+use Rattle.a2_device.specs.Table.{IsTable}
+use Rattle.a2_device.proofs.Tables.{tabled}
 use Rattle.dos_tslist.proofs.file_walk.FileWalk.follow.Goals as goal
 
 pub returns-clause-table : goal.returns-clause-table

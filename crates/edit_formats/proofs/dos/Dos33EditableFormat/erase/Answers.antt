@@ -1,8 +1,8 @@
 use Rattle.std.proofs.Common.{◌<◌, ◌∙◌, ap, sym, subst, map}
 use Rattle.dos_catalog.specs.Listed.{entries_of_catalog}
 use Rattle.dos_format.proofs.Readers.{within, place-dos}
-use Rattle.edit_writes.specs.declared.writes.Prepared.{Prepared}
-use Rattle.edit_writes.specs.Prepared.{write_of}
+use Rattle.edit_formats.specs.declared.writes.Prepared.{Prepared}
+use Rattle.edit_formats.specs.Prepared.{write_of}
 use Rattle.edit_formats.proofs.ErasedEntries.{all_of_one, erasing-dos}
 use Rattle.edit_formats.proofs.dos.Dos33EditableFormat.erase.Goals as goal
 

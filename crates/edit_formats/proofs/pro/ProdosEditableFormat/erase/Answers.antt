@@ -7,9 +7,9 @@ use Rattle.pro_dir.specs.lemmas.VolumeLaws.{one_directory}
 use Rattle.pro_entries.proofs.EntryNumbers.{number_inside}
 use Rattle.pro_format.specs.Pro.{directory_with}
 use Rattle.pro_format.specs.ProVolume.{tree_of, map_in, system_of}
-use Rattle.edit_writes.specs.declared.error.EditError.TheVariants.{Check}
-use Rattle.edit_writes.specs.declared.writes.Prepared.{Prepared}
-use Rattle.edit_writes.specs.Prepared.{write_of}
+use Rattle.edit_formats.specs.declared.error.EditError.TheVariants.{Check}
+use Rattle.edit_formats.specs.declared.writes.Prepared.{Prepared}
+use Rattle.edit_formats.specs.Prepared.{write_of}
 use Rattle.edit_formats.specs.ProErasing.{pro_erasing}
 use Rattle.edit_formats.proofs.ErasedEntries.{erases-pro, has_entry, no_fault, own_directory}
 use Rattle.edit_formats.proofs.pro.ProdosEditableFormat.erase.Goals as goal

@@ -4,7 +4,7 @@ use Rattle.std.specs.Option.{option_or}
 use Rattle.std.proofs.lemmas.Result.{err_from_is_err_and}
 use Rattle.a2_device.specs.Device.{DeviceState, unit_at}
 use Rattle.a2_device.specs.Reading.{then_reads}
-use Rattle.vol_parts.specs.declared.fault.Fault.TheVariants.{DirLink}
+use Rattle.a2_device.specs.declared.fault.Fault.TheVariants.{DirLink}
 use Rattle.pro_dir.specs.Tree.{HasBadLink}
 use Rattle.pro_dir.specs.Walk.{first_free_of}
 use Rattle.pro_dir.specs.Within.{IsReadWithin}

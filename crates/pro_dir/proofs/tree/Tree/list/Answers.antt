@@ -3,8 +3,8 @@ use Rattle.std.specs.Prelude.{All, IfErr, IfSome, IsTrue, None, OnOk, is_err}
 use Rattle.a2_device.specs.Device.{DeviceState, OnlyReads}
 use Rattle.a2_device.specs.Reading.{then_reads}
 use Rattle.a2_device.proofs.Results.{at_ok, on_ok_both}
-use Rattle.vol_parts.specs.declared.fault.Fault.{Fault}
-use Rattle.vol_parts.specs.declared.fault.WalkError.TheVariants.{Fault as AFault}
+use Rattle.a2_device.specs.declared.fault.Fault.{Fault}
+use Rattle.a2_device.specs.declared.fault.WalkError.TheVariants.{Fault as AFault}
 use Rattle.pro_dir.specs.declared.entry.Entry.{Entry}
 use Rattle.pro_dir.specs.declared.reading.FreeSlot.{FreeSlot}
 use Rattle.pro_dir.specs.declared.waiting.Waiting.{Waiting}

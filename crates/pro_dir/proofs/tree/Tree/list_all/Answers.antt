@@ -3,8 +3,8 @@ use Rattle.std.specs.Prelude.{All, IsTrue}
 use Rattle.std.proofs.lemmas.Result.{err_from_is_err_and}
 use Rattle.a2_device.specs.Device.{DeviceState}
 use Rattle.a2_device.specs.Reading.{then_reads}
-use Rattle.vol_parts.specs.declared.fault.Fault.{Fault}
-use Rattle.vol_parts.specs.declared.fault.WalkError.TheVariants.{Fault as AFault}
+use Rattle.a2_device.specs.declared.fault.Fault.{Fault}
+use Rattle.a2_device.specs.declared.fault.WalkError.TheVariants.{Fault as AFault}
 use Rattle.pro_dir.specs.Tree.{IsCutOff}
 use Rattle.pro_dir.specs.Walk.{IsTable, IsListing, all_waiting, waiting_in}
 use Rattle.pro_dir.specs.Within.{IsInSlot, IsKeptWithin, IsWaitingWithin}

@@ -3,9 +3,9 @@ use Rattle.std.specs.Prelude.{All, IfSome, map, reverse}
 use Rattle.std.proofs.lemmas.List.{length-replicate}
 use Rattle.std.proofs.lemmas.List.Elements.{All-nil}
 use Rattle.a2_device.specs.Device.{unit_at}
-use Rattle.vol_parts.specs.declared.fault.Fault.{Fault}
-use Rattle.vol_parts.specs.declared.fault.Fault.TheVariants.{DirLink}
-use Rattle.vol_parts.specs.declared.fault.WalkError.TheVariants.{Fault as AFault}
+use Rattle.a2_device.specs.declared.fault.Fault.{Fault}
+use Rattle.a2_device.specs.declared.fault.Fault.TheVariants.{DirLink}
+use Rattle.a2_device.specs.declared.fault.WalkError.TheVariants.{Fault as AFault}
 use Rattle.pro_dir.specs.declared.entry.Entry.{Entry}
 use Rattle.pro_dir.specs.declared.reading.FreeSlot.{FreeSlot}
 use Rattle.pro_dir.specs.Tree.{HasBadLink, HasKind, HasSizes}

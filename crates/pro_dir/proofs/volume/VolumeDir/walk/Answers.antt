@@ -2,9 +2,9 @@ use Rattle.std.proofs.Common.{◌≡◌, [], refl, sym, ◌∙◌, subst, true, 
 use Rattle.std.specs.Prelude.{IsTrue, is_err, All, ◌*◌, ◌≤◌}
 use Rattle.std.proofs.lemmas.Result.{err_from_is_err_and}
 use Rattle.a2_device.specs.Device.{DeviceState, OnlyReads}
-use Rattle.vol_parts.specs.declared.fault.Fault.{Fault}
-use Rattle.vol_parts.specs.declared.fault.Fault.TheVariants.{Geometry, MapPointer}
-use Rattle.vol_parts.specs.declared.fault.WalkError.TheVariants.{Fault as AFault}
+use Rattle.a2_device.specs.declared.fault.Fault.{Fault}
+use Rattle.a2_device.specs.declared.fault.Fault.TheVariants.{Geometry, MapPointer}
+use Rattle.a2_device.specs.declared.fault.WalkError.TheVariants.{Fault as AFault}
 use Rattle.a2_device.specs.Reading.{then_reads}
 use Rattle.a2_device.proofs.Results.{at_ok}
 use Rattle.pro_dir.specs.Tree.{TreeFaultAt}

@@ -7,7 +7,7 @@ use Rattle.pro_format.proofs.prodos.ProdosFormat.volume.Goals as goal
 
 pub available_places-requires : goal.available_places-requires
 available_places-requires g c =
-    few_places c.args.self.now (directory_of c.in_ok-directory.directory) _ c.as_slice.result.now c.in_ok-directory.ensures.within c.requires.places (c.as_slice.ensures.value ∙ c.in_ok-system.ensures)
+    few_places c.args.self.now (directory_of c.in_ok-directory.directory) _ c.as_slice.result.now c.in_ok-directory.ensures.within c.requires.fits.places (c.as_slice.ensures.value ∙ c.in_ok-system.ensures)
 
 pub new-requires-clause-below : goal.new-requires-clause-below
 new-requires-clause-below g c =
@@ -17,12 +17,12 @@ new-requires-clause-below g c =
 pub new-requires-clause-few : goal.new-requires-clause-few
 new-requires-clause-few g c =
     few_numbers c.as_slice.result.now c.in_ok-places.places.items c.in_ok-places.ensures
-    (few_places c.args.self.now (directory_of c.in_ok-directory.directory) _ c.as_slice.result.now c.in_ok-directory.ensures.within c.requires.places (c.as_slice.ensures.value ∙ c.in_ok-system.ensures))
+    (few_places c.args.self.now (directory_of c.in_ok-directory.directory) _ c.as_slice.result.now c.in_ok-directory.ensures.within c.requires.fits.places (c.as_slice.ensures.value ∙ c.in_ok-system.ensures))
 
 pub invariant_of-result : goal.invariant_of-result
 invariant_of-result g c = record {
   fitted = fitted c.args.self.now (directory_of c.in_ok-directory.directory) _ c.in_ok-map.map c.in_ok-system.system.items c.in_ok-available.available
-      c.in_ok-directory.ensures.within c.requires.places (c.in_ok-map.ensures.blocks.0 ∙ c.bitmap.ensures) (c.in_ok-map.ensures.blocks.1 ∙ c.total.ensures)
+      c.in_ok-directory.ensures.within c.requires.fits.places (c.in_ok-map.ensures.blocks.0 ∙ c.bitmap.ensures) (c.in_ok-map.ensures.blocks.1 ∙ c.total.ensures)
       c.in_ok-system.ensures
       (c.in_ok-available.ensures ∙ c.in_ok-places.ensures ∙ ap available_in c.as_slice.ensures.value);
 }

@@ -1,7 +1,7 @@
 use Rattle.std.proofs.Common.{◌∙◌, false, ◌++◌, ◌<◌, [], ◌∷◌, sym, subst, length}
 use Rattle.std.proofs.lemmas.List.{get_or_default}
-use Rattle.vol_parts.specs.Table.{IsTable}
-use Rattle.vol_parts.proofs.Tables.{tabled}
+use Rattle.a2_device.specs.Table.{IsTable}
+use Rattle.a2_device.proofs.Tables.{tabled}
 use Rattle.pro_tree.proofs.file_walk.FileWalk.follow.Goals as goal
 
 pub returns-clause-table : goal.returns-clause-table

@@ -1,7 +1,7 @@
 use Rattle.std.proofs.Common.{◌≡◌, ◌∙◌, sym, subst, IfErr}
 use Rattle.std.proofs.lemmas.Result.{err_from_is_err_and}
-use Rattle.vol_parts.specs.declared.fault.Fault.{Fault}
-use Rattle.vol_parts.specs.declared.fault.WalkError.TheVariants.{Fault as AFault}
+use Rattle.a2_device.specs.declared.fault.Fault.{Fault}
+use Rattle.a2_device.specs.declared.fault.WalkError.TheVariants.{Fault as AFault}
 use Rattle.pro_tree.specs.Parts.{FileFaultAt}
 use Rattle.pro_tree.specs.Walk.{IsRefusedAt}
 use Rattle.pro_tree.proofs.Steps.{named_is, body_followed, body_refused}

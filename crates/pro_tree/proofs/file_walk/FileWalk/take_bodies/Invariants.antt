@@ -2,7 +2,7 @@ use Rattle.std.proofs.Common.{◌≡◌, ◌+◌, ℕ, List, length}
 use Rattle.a2_device.specs.Device.{unit_at}
 use Rattle.pro_tree.specs.Parts.{rank}
 use Rattle.pro_tree.specs.Walk.{IsTaking}
-use Rattle.vol_parts.specs.Table.{IsTable}
+use Rattle.a2_device.specs.Table.{IsTable}
 use Rattle.pro_tree.proofs.file_walk.FileWalk.take_bodies.Given as goal
 
 abbrev pub invariant-loop-number : goal.invariant-loop-number

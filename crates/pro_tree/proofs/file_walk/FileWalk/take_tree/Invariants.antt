@@ -2,7 +2,7 @@ use Rattle.std.proofs.Common.{◌≡◌, ◌+◌, ◌*◌, length, false}
 use Rattle.std.specs.Prelude.{IsTrue}
 use Rattle.a2_device.specs.Device.{OnlyReads, unit_at}
 use Rattle.pro_tree.specs.Walk.{IsTaking}
-use Rattle.vol_parts.specs.Table.{IsTable}
+use Rattle.a2_device.specs.Table.{IsTable}
 use Rattle.pro_tree.proofs.file_walk.FileWalk.take_tree.Given as goal
 
 abbrev pub invariant-loop-number : goal.invariant-loop-number

@@ -1,7 +1,7 @@
 use Rattle.std.proofs.Common.{◌∙◌, ap, inl}
-use Rattle.plan_steps.specs.ProSteps.{plan_text}
-use Rattle.job_reply.specs.declared.reply.Reply.{Reply}
-use Rattle.job_reply.specs.Reply.{text_of}
+use Rattle.file_listings.specs.ProSteps.{plan_text}
+use Rattle.shop_replies.specs.declared.reply.Reply.{Reply}
+use Rattle.shop_replies.specs.Reply.{text_of}
 use Rattle.reading_jobs.proofs.listing.ProdosShownFormat.plan.Goals as goal
 
 pub returns-in-Ok : goal.returns-in-Ok

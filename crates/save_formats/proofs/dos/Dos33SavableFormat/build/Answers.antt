@@ -1,5 +1,5 @@
 use Rattle.std.proofs.Common.{◌≡◌, ◌<◌, subst, sym, length, List}
-use Rattle.vol_parts.specs.declared.part.PartKind.TheVariants.{List as AList, Body}
+use Rattle.a2_device.specs.declared.part.PartKind.TheVariants.{List as AList, Body}
 use Rattle.std.specs.Prelude.{◌≢◌}
 use Rattle.new_files.specs.declared.part.NewPart.{NewPart}
 use Rattle.new_files.specs.Order.{AreDosParts, part_at}

@@ -1,5 +1,5 @@
 use Rattle.std.proofs.Common.{◌≡◌, ◌<◌, ◌≢◌, List, sym, subst}
-use Rattle.vol_parts.specs.declared.part.PartKind.TheVariants.{Index, Master, Body}
+use Rattle.a2_device.specs.declared.part.PartKind.TheVariants.{Index, Master, Body}
 use Rattle.new_files.specs.declared.part.NewPart.{NewPart}
 use Rattle.new_files.specs.Order.{AreProParts, part_at}
 use Rattle.new_files.specs.Parts.{storage_type}

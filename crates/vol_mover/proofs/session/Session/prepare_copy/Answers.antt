@@ -1,7 +1,7 @@
 use Rattle.std.proofs.Common.{rules, ◌≡◌, ◌<◌, ◌∙◌, sym, ap, subst, length, slice_index}
 use Rattle.std.proofs.lemmas.List.{with_items_is}
 use Rattle.std.specs.Vec.{with_items}
-use Rattle.plan_writes.specs.Tasks.{place_of}
+use Rattle.vol_mover.specs.Tasks.{place_of}
 use Rattle.vol_mover.specs.Shown.{present}
 use Rattle.vol_mover.proofs.Agendas.{copy_first}
 use Rattle.vol_mover.proofs.NextWrites.{copy_next}

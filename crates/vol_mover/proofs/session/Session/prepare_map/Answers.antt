@@ -1,11 +1,11 @@
 use Rattle.std.proofs.Common.{rules, ◌≡◌, ◌<◌, ◌∙◌, sym, ap, subst, length, All, ℕ}
 use Rattle.std.proofs.lemmas.List.{with_items_is}
 use Rattle.std.specs.Vec.{with_items}
-use Rattle.write_laws.specs.Marked.{with_marks}
-use Rattle.write_laws.specs.declared.mark.Mark.{Mark}
+use Rattle.vol_laws.specs.Marked.{with_marks}
+use Rattle.vol_laws.specs.declared.mark.Mark.{Mark}
 use Rattle.vol_mover.specs.Shown.{present}
-use Rattle.plan_writes.specs.Agenda.{next_marks}
-use Rattle.plan_writes.specs.Tasks.{Map}
+use Rattle.vol_mover.specs.Agenda.{next_marks}
+use Rattle.vol_mover.specs.Tasks.{Map}
 use Rattle.vol_mover.proofs.Agendas.{map_first}
 use Rattle.vol_mover.proofs.NextWrites.{first_fits, map_next}
 use Rattle.vol_mover.proofs.Preparing.{prepared, marks_inside}

@@ -1,5 +1,5 @@
 use Rattle.std.proofs.Common.{◌≡◌, ◌-◌, ◌≤◌, List, length}
-use Rattle.plan_writes.specs.Tasks.{Task}
+use Rattle.vol_mover.specs.Tasks.{Task}
 use Rattle.vol_mover.specs.Runs.{IsRun}
 use Rattle.vol_mover.specs.Shown.{present}
 use Rattle.vol_mover.proofs.Fields.{with_work}

@@ -1,0 +1,109 @@
+// Opening a file of the system in place of an image.
+ghost use Rattle.std.specs.Prelude.{◌≡◌, ◌≢◌, ◌↔◌, ◌*◌, IfErr, IfOk, IsErrOf, IsTrue};
+ghost use Rattle.a2_media.specs.ImageDevice.{unit_bytes};
+ghost use Rattle.a2_device.specs.Order.{IsImageLength};
+ghost use Rattle.a2_media.specs.declared.opening.FileError.TheVariants.{Io};
+ghost use Rattle.a2_media.specs.System.{IsDeviceOf, IsInPlace};
+
+use crate::UnitKind;
+use crate::file_units::FileDevice;
+use crate::system::SystemFile;
+use a2_device::{BLOCK_BYTES, Device, IMAGE_BYTES, Order};
+use a2_image::SECTOR_BYTES;
+use std::fs::File;
+use std::io;
+use thiserror::Error;
+
+/// The fewest and the most blocks of an image in ProDOS order.
+const FEWEST_BLOCKS: u64 = 16;
+
+const MOST_BLOCKS: u64 = 65_535;
+
+/// Why a file is not opened in place of an image. Of several causes the first in this order is told.
+#[derive(Clone, Copy, Debug, PartialEq, Eq, Error)]
+pub enum FileError {
+    /// The units of an image in this order don't stand in its file as they are.
+    #[error("the units of the image do not stand in its file as they are")]
+    InPlace,
+    /// It is no regular file, or a call of the system failed.
+    #[error("the file can't be opened")]
+    Io,
+    /// No image in this order has so many bytes.
+    #[error("no image has this length")]
+    Length,
+}
+
+impl From<io::Error> for FileError {
+    ghost from_gives = { λ _ error. error ≡ Io };
+
+    fn from(_: io::Error) -> FileError {
+        FileError::Io
+    }
+}
+
+/// Whether the units of an image in this order stand in its file as they are.
+pub fn is_in_place(order: Order, kind: UnitKind) -> bool
+    ensures { IsTrue result ↔ IsInPlace order kind }
+{
+    match order {
+        Order::Dos => kind == UnitKind::Sector,
+        Order::Prodos => kind == UnitKind::Block,
+        Order::Nibble => false,
+    }
+}
+
+#[tactic(auto, unfolding(a2_device::specs::Order::IsImageLength))]
+// How many units an image of so many bytes has, which stand in place.
+fn places_in(order: Order, kind: UnitKind, bytes: u64) -> Result<u32, FileError>
+    requires in_place { IsInPlace order kind }
+    ensures taken { IfOk result (λ places. (unit_bytes kind * places ≡ bytes)
+        × IsImageLength order (unit_bytes kind * places)) }
+    ensures refused { IfErr result (λ error. (error ≡ FileError.Length) × ¬ IsImageLength order bytes) }
+{
+    let blocks = bytes / BLOCK_BYTES as u64;
+    match order {
+        Order::Dos if bytes == IMAGE_BYTES as u64 => Ok((IMAGE_BYTES / SECTOR_BYTES) as u32),
+        Order::Prodos
+            if bytes % BLOCK_BYTES as u64 == 0 && (FEWEST_BLOCKS..=MOST_BLOCKS).contains(&blocks) =>
+            { Ok(blocks as u32) }
+        _ => Err(FileError::Length),
+    }
+}
+
+// The device of an open file.
+fn device_of(file: File, order: Order, kind: UnitKind) -> Result<FileDevice<SystemFile>, FileError>
+    requires in_place { IsInPlace order kind }
+    ensures opened { IfOk result (λ device. IsDeviceOf order kind (⟦<FileDevice<SystemFile> as Device>⟧.state device)) }
+    ensures refused { IfErr result (λ error. error ≢ FileError.InPlace) }
+{
+    let found = file.metadata()?;
+    if !found.is_file() {
+        return Err(FileError::Io);
+    }
+    let size = found.len();
+    let places = places_in(order, kind, size)?;
+    Ok(FileDevice::new(SystemFile::new(file, size), kind, places))
+}
+
+impl FileDevice<SystemFile> {
+    /// The units of an image's open file, where they stand in it: the sectors of an image in DOS order, or the blocks
+    /// of one in ProDOS order. The device has a second handle of the file, which shares its lock. Takes no memory.
+    ///
+    /// # Errors
+    /// Of several the first in this order: `InPlace` for other units; `Io` where it is no regular file, or a call of
+    /// the system fails; `Length` where no image in this order has its length.
+    pub fn of_image(
+        file: &File,
+        order: Order,
+        kind: UnitKind,
+    ) -> Result<FileDevice<SystemFile>, FileError>
+        ensures opened { IfOk result (λ device.
+            IsDeviceOf order kind (⟦<FileDevice<SystemFile> as Device>⟧.state device)) }
+        ensures in_place { IsErrOf result FileError.InPlace ↔ (¬ IsInPlace order kind) }
+    {
+        if !is_in_place(order, kind) {
+            return Err(FileError::InPlace);
+        }
+        device_of(file.try_clone()?, order, kind)
+    }
+}

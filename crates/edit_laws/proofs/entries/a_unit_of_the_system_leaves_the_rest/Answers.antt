@@ -1,5 +1,0 @@
-use Rattle.edit_laws.proofs.SystemWrites.{one_unit_rest}
-use Rattle.edit_laws.proofs.entries.a_unit_of_the_system_leaves_the_rest.Goals as goal
-
-pub returns : goal.returns
-returns c = one_unit_rest

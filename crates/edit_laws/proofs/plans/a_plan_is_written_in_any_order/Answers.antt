@@ -1,5 +1,0 @@
-use Rattle.edit_laws.proofs.AnyOrder.{written_is}
-use Rattle.edit_laws.proofs.plans.a_plan_is_written_in_any_order.Goals as goal
-
-pub returns : goal.returns
-returns c = λ planned old new is. written_is old new planned is

@@ -1,5 +1,0 @@
-use Rattle.edit_laws.proofs.Writing.{body_is}
-use Rattle.edit_laws.proofs.plans.a_rising_plan_has_its_body.Goals as goal
-
-pub returns : goal.returns
-returns c = body_is

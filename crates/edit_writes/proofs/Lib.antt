@@ -1,5 +1,0 @@
-pub mod Edits
-mod Making
-mod Nearest
-mod MarkedUnits
-pub mod MarkingWrites

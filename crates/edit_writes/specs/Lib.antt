@@ -1,4 +1,0 @@
-pub mod Refusal
-pub mod Writes
-pub mod Prepared
-pub mod Markings

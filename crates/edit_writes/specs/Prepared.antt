@@ -1,6 +1,0 @@
--- A write as it is kept until it is made.
-use Rattle.edit_laws.specs.Writes.{Write}
-use Rattle.edit_writes.specs.declared.writes.Prepared.{Prepared}
-
-abbrev pub write_of : {A : Type 0} → Prepared A → Write
-write_of write = record { place = write.place; unit = write.unit.items }

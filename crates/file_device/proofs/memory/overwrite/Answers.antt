@@ -1,6 +1,0 @@
-use Rattle.std.proofs.Common.{arith}
-use Rattle.file_device.specs.lemmas.Written.{written_whole}
-use Rattle.file_device.proofs.memory.overwrite.Goals as goal
-
-pub returns : goal.returns
-returns c = written_whole c.args.bytes.now c.args.at _ c.args.content.now c.copy_from_slice.new.self c.requires (omega arith) c.copy_from_slice.ensures.after

@@ -1,4 +1,0 @@
-pub mod File
-pub mod FileDevice
-pub mod System
-pub mod lemmas

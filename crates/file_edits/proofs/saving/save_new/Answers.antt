@@ -1,0 +1,34 @@
+use Rattle.std.proofs.Common.{◌≡◌, ◌∙◌, List, ap, sym, subst, refl, map, false, IsTrue}
+use Rattle.a2_device.specs.Device.{DeviceState}
+use Rattle.a2_device.specs.Reading.{then_reads}
+use Rattle.vol_check.specs.Told.{volume_of}
+use Rattle.vol_format.specs.Accepted.{IsAccepted}
+use Rattle.vol_laws.specs.Writes.{Write}
+use Rattle.edit_formats.specs.Prepared.{write_of}
+use Rattle.edit_formats.proofs.Edits.{edited_after, edited_as}
+use Rattle.file_edits.specs.Saved.{IsSaveEdit}
+use Rattle.file_edits.proofs.saving.save_new.Goals as goal
+
+pub returns-clause-edited : goal.returns-clause-edited
+returns-clause-edited g c =
+    let format = c.args.format.now in
+    let meaning = g.F.Format.meaning format in
+    let old = g.D.Device.state c.args.device.now in
+    let mid = g.D.Device.state c.check.new.device in
+    let read = g.D.Device.state c.prepare.new.device in
+    let new = g.D.Device.state c.write_all.new.device in
+    let checked = c.in_ok-checked.ensures in
+    let directory = g.F.Format.directory format (volume_of c.in_ok-checked.checked) in
+    let IsMade : List Write → Type 0 = λ made. made ≡ map write_of c.as_slice.result.now in
+    let IsEdit : DeviceState → List Write → Type 0 = λ device made.
+    IsSaveEdit meaning (g.F.SavableFormat.saves format) device.store c.args.path.now c.args.attributes.now c.args.stored.now c.args.units.now made in
+    edited_as c.write_all.result old new IsMade (IsEdit old)
+    (λ honest made is.
+    let kept = checked.device.kept honest refl in
+    let accepted : IsAccepted meaning (g.F.Format.directory format c.volume.result.now) mid.store =
+    subst (λ v. IsAccepted meaning (g.F.Format.directory format v) mid.store) (sym c.volume.ensures)
+    (subst (λ (d : DeviceState). IsAccepted meaning directory d.store) (sym kept) (checked.accepted honest)) in
+    subst (IsEdit old) (sym (is ∙ ap (map write_of) c.as_slice.ensures.value))
+    (subst (λ (d : DeviceState). IsEdit d (map write_of c.in_ok-writes.writes.items)) kept
+    (c.in_ok-writes.ensures.saves (subst IsTrue (sym checked.device.same.honest) honest) accepted)))
+    (edited_after c.write_all.result old new IsMade read (then_reads false old mid read checked.device c.in_ok-writes.ensures.device) c.write_all.ensures.edited)

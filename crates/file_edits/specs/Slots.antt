@@ -1,0 +1,40 @@
+-- The free slot of a new file, or why it gets none.
+use Rattle.std.specs.Prelude.{◌≡◌, ℕ, Bool, true, false, List, length, if◌then◌else◌, Result, Ok, Err}
+use Rattle.edit_formats.specs.declared.error.EditError.{EditError}
+use Rattle.edit_formats.specs.declared.error.EditError.TheVariants.{Check, NotFound, Name, Exists, TooLong, DirFull, Device, Memory}
+use Rattle.save_formats.specs.declared.target.Attributes.{Attributes}
+use Rattle.save_formats.specs.declared.target.Slot.{Slot}
+use Rattle.save_formats.specs.declared.target.Target.{Target}
+use Rattle.save_formats.specs.declared.target.Target.TheVariants.{NoDirectory, NoName, InUse, Full, At}
+use Rattle.save_formats.specs.Saves.{SaveMeaning}
+use Rattle.file_edits.specs.Saved.{IsVacant}
+
+-- The slot that a path leads to, for a file that is not too long. A name that can't be entered is told before the length, and the length before a directory that is full.
+abbrev pub slot_or_refusal : Target → Bool → Result Slot EditError
+slot_or_refusal NoDirectory long = Err NotFound
+slot_or_refusal NoName long = Err Name
+slot_or_refusal InUse long = Err Exists
+slot_or_refusal Full long = if long then Err TooLong else Err DirFull
+slot_or_refusal (At slot) long = if long then Err TooLong else Ok slot
+
+-- what is told of the path and the length
+abbrev pub IsSlotTold : SaveMeaning → List (List ℕ) → List ℕ → Attributes → List Bool → Result Slot EditError → Type 0
+IsSlotTold saves store path attributes stored (Ok slot) = saves.IsTarget store path (At slot)
+IsSlotTold saves store path attributes stored (Err NotFound) = saves.IsTarget store path NoDirectory
+IsSlotTold saves store path attributes stored (Err Name) = saves.IsTarget store path NoName
+IsSlotTold saves store path attributes stored (Err Exists) = saves.IsTarget store path InUse
+IsSlotTold saves store path attributes stored (Err TooLong) =
+    ((target : Target) × saves.IsTarget store path target × IsVacant target) × (saves.too_long attributes.eof (length stored) ≡ true)
+IsSlotTold saves store path attributes stored (Err DirFull) = saves.IsTarget store path Full × (saves.too_long attributes.eof (length stored) ≡ false)
+IsSlotTold saves store path attributes stored (Err error) = Unit {0}
+
+abbrev pub IsSlotRefusal : EditError → Type 0
+IsSlotRefusal Check = Unit {0}
+IsSlotRefusal NotFound = Unit {0}
+IsSlotRefusal Name = Unit {0}
+IsSlotRefusal Exists = Unit {0}
+IsSlotRefusal TooLong = Unit {0}
+IsSlotRefusal DirFull = Unit {0}
+IsSlotRefusal Device = Unit {0}
+IsSlotRefusal Memory = Unit {0}
+IsSlotRefusal error = ⊥

@@ -1,0 +1,119 @@
+// The command that saves a new file.
+ghost use Rattle.std.specs.Prelude.{◌≡◌, ◌*◌, length, Err, IfErr, IsTrue, OnOk};
+ghost use Rattle.vol_format.specs.Fits.{Fits};
+ghost use Rattle.vol_format.specs.Accepted.{IsVolume};
+ghost use Rattle.edit_formats.specs.Writes.{HasEdited};
+ghost use Rattle.file_edits.specs.Saved.{
+  IsSaveEdit,
+  IsSaveRefusal,
+  IsSaveTold,
+  HasSaved,
+  IsOldOrSaved,
+  HasNoDirectory,
+  HasNoName,
+  HasNameInUse,
+  IsTooLong,
+  HasFullDirectory,
+  HasFewPlaces,
+};
+
+use crate::preparing::prepare;
+use a2_device::Device;
+use edit_formats::{EditError, write_all};
+use save_formats::{Attributes, SavableFormat};
+use std::alloc::Allocator;
+use vol_check::check;
+
+// Saves a new file; all writes are made ready before the first.
+fn save_new<D: Device, F: SavableFormat, A: Allocator + Copy>(
+    alloc: A,
+    device: &mut D,
+    format: &F,
+    path: &[u8],
+    attributes: &Attributes,
+    stored: &[bool],
+    units: &[u8],
+) -> Result<(), EditError>
+    requires fits { Fits (F.meaning format.now) (D.state device.old) }
+    requires units { (F.meaning format.now).unit_size * length stored.now ≡ length units.now }
+
+    ensures edited { HasEdited (IsSaveEdit (F.meaning format.now) (F.saves format.now)
+        (D.state device.old).store path.now attributes.now stored.now units.now)
+        result (D.state device.old) (D.state device.new) }
+    ensures refusals { IfErr result IsSaveRefusal }
+    ensures check { IsTrue (D.state device.old).honest → result ≡ Err EditError.Check
+        → IsVolume (F.meaning format.now) (D.state device.old).store → ⊥ }
+    ensures told { IsTrue (D.state device.old).honest
+        → IsSaveTold (F.meaning format.now) (F.saves format.now)
+        (D.state device.old).store path.now attributes.now stored.now result }
+{
+    let checked = check(alloc, device, format)?;
+    let writes = prepare(
+        alloc,
+        device,
+        format,
+        checked.volume(),
+        path,
+        attributes,
+        stored,
+        units,
+    )?;
+    write_all(device, writes.as_slice())
+}
+
+/// Saves a new file under a path that no file has. Its units stand one after the other in `units`, each as long as a
+/// unit of the volume; `stored` says of each whether it is stored or a hole. The parts of the file get the first free
+/// places, in the order of the available places, and its entry the first free slot of its directory. The units are
+/// written first, then the marks of their places, then the entry. All writes are prepared before the first is made.
+///
+/// # Errors
+/// Of several the first in this order: `Check` where the volume is not accepted; `NotFound` where it has no such
+/// directory; `Name` where no file can have this name; `Exists` where an entry of the directory has it; `TooLong` where
+/// the file is longer than a file can be; `DirFull` where the directory has no free slot; `VolumeFull` where fewer
+/// places are free than the file has parts. `Device` where a read or a write fails; `Memory`, before the first write
+/// alone.
+pub fn save<D: Device, F: SavableFormat, A: Allocator + Copy>(
+    alloc: A,
+    device: &mut D,
+    format: &F,
+    path: &[u8],
+    attributes: &Attributes,
+    stored: &[bool],
+    units: &[u8],
+) -> Result<(), EditError>
+    requires fits { Fits (F.meaning format.now) (D.state device.old) }
+    requires units { (F.meaning format.now).unit_size * length stored.now ≡ length units.now }
+
+    // every device
+    ensures edited { HasEdited (IsSaveEdit (F.meaning format.now) (F.saves format.now)
+        (D.state device.old).store path.now attributes.now stored.now units.now)
+        result (D.state device.old) (D.state device.new) }
+    ensures refusals { IfErr result IsSaveRefusal }
+
+    // an honest device
+    ensures saved { IsTrue (D.state device.old).honest
+        → OnOk result (HasSaved (F.meaning format.now) (F.saves format.now) path.now attributes.now stored.now units.now
+        (D.state device.old).store (D.state device.new).store) }
+    ensures stopped { IsTrue (D.state device.old).honest → result ≡ Err EditError.Device
+        → IsOldOrSaved (F.meaning format.now) (F.saves format.now)
+        path.now attributes.now stored.now units.now (D.state device.old).store (D.state device.new).store }
+    ensures check { IsTrue (D.state device.old).honest → result ≡ Err EditError.Check
+        → IsVolume (F.meaning format.now) (D.state device.old).store → ⊥ }
+    ensures not_found { IsTrue (D.state device.old).honest → result ≡ Err EditError.NotFound
+        → HasNoDirectory (F.meaning format.now) (F.saves format.now) (D.state device.old).store path.now }
+    ensures name { IsTrue (D.state device.old).honest → result ≡ Err EditError.Name
+        → HasNoName (F.meaning format.now) (F.saves format.now) (D.state device.old).store path.now }
+    ensures exists { IsTrue (D.state device.old).honest → result ≡ Err EditError.Exists
+        → HasNameInUse (F.meaning format.now) (F.saves format.now) (D.state device.old).store path.now }
+    ensures too_long { IsTrue (D.state device.old).honest → result ≡ Err EditError.TooLong
+        → IsTooLong (F.meaning format.now) (F.saves format.now)
+        (D.state device.old).store path.now attributes.now stored.now }
+    ensures dir_full { IsTrue (D.state device.old).honest → result ≡ Err EditError.DirFull
+        → HasFullDirectory (F.meaning format.now) (F.saves format.now)
+        (D.state device.old).store path.now attributes.now stored.now }
+    ensures volume_full { IsTrue (D.state device.old).honest → result ≡ Err EditError.VolumeFull
+        → HasFewPlaces (F.meaning format.now) (F.saves format.now)
+        (D.state device.old).store path.now attributes.now stored.now }
+{
+    save_new(alloc, device, format, path, attributes, stored, units)
+}

@@ -1,8 +1,0 @@
-pub mod Firsts
-pub mod PartWrites
-pub mod Plans
-pub mod NewPlaces
-pub mod Elsewhere
-pub mod PlacedWrites
-pub mod Savings
-pub mod MadeSaving

@@ -1,6 +1,0 @@
-pub mod Places
-pub mod Given
-pub mod Parts
-pub mod Saved
-pub mod Slots
-pub mod Placing

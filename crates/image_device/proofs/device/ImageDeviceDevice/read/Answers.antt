@@ -1,5 +1,0 @@
-use Rattle.image_device.proofs.Failed.{failed_read}
-use Rattle.image_device.proofs.device.ImageDeviceDevice.read.Goals as goal
-
-pub returns-in-Err-clause-device : goal.returns-in-Err-clause-device
-returns-in-Err-clause-device g c = failed_read _ _ c.args.place c.in-Err.ensures.unreadable c.fault.ensures.counted

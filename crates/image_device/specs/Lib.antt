@@ -1,4 +1,0 @@
-pub mod Units
-pub mod DosPlaces
-pub mod ImageDevice
-pub mod LentDevice

@@ -1,5 +1,0 @@
-pub mod Disks
-pub mod Fronts
-pub mod Converted
-pub mod NotMade
-pub mod Appended

@@ -1,6 +1,0 @@
-use Rattle.plan_writes.proofs.Releases.{IsReleasing}
-use Rattle.plan_writes.proofs.change.release.Given as goal
-
-abbrev pub invariant-loop-place : goal.invariant-loop-place
-invariant-loop-place g l =
-    IsReleasing (g.F.Format.directory l.format l.volume) l.skipped l.places l.initial.draft.tasks l.place-index l.unit l.draft

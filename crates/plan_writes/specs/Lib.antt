@@ -1,7 +1,0 @@
-pub mod Tasks
-pub mod Work
-pub mod Writes
-pub mod Example
-pub mod Agenda
-pub mod Entries
-pub mod Drafts

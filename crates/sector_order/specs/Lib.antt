@@ -1,2 +1,0 @@
-pub mod Skew
-pub mod Order

@@ -1,0 +1,72 @@
+-- How a job with output files ends.
+use Rattle.std.specs.Prelude.{◌≡◌, ◌≢◌, ◌⊎◌, ℕ, false, List, [], Option, Some, None}
+use Rattle.std.specs.Io.KnownBytes.{Keeps}
+use Rattle.std.specs.declared.io.ErrorKind.{ErrorKind}
+use Rattle.std.specs.declared.io.ErrorKind.TheVariants.{OutOfMemory}
+use Rattle.shop_replies.specs.Reply.{AppendsFront, IsWritten, failure_line}
+use Rattle.shop_replies.specs.declared.refusal.Failure.TheVariants.{Memory}
+use Rattle.shop_files.specs.declared.ending.Ending.{Ending}
+use Rattle.shop_files.specs.declared.ending.Unwritten.{Unwritten}
+use Rattle.shop_files.specs.declared.telling.Found.{Found}
+use Rattle.shop_files.specs.declared.ending.Unwritten.TheVariants.{Text, Image, ImageAfterCertificate, Certificate}
+
+-- something could not be written, and the status is 4
+abbrev pub stopped : Unwritten → Ending
+stopped unwritten = record { status = 4; unwritten = Some unwritten }
+
+-- want of memory was told, and nothing else
+abbrev pub IsOutOfMemory : Ending → Option (List ℕ) → Option (List ℕ) → Type 0
+IsOutOfMemory ending old new = (ending.unwritten ≡ None) × IsWritten 4 (failure_line Memory) ending.status old new
+
+-- the image or the certificate could not take its place
+abbrev pub IsOutOfPlace : Unwritten → Type 0
+IsOutOfPlace unwritten = (unwritten ≡ Image) ⊎ (unwritten ≡ ImageAfterCertificate) ⊎ (unwritten ≡ Certificate)
+
+-- An output file could not be put onto the disk, for such a reason: want of memory was told, or nothing was, and it is
+-- known which file that is.
+abbrev pub IsUnflushed : ErrorKind → Unwritten → Ending → Option (List ℕ) → Option (List ℕ) → Type 0
+IsUnflushed kind unwritten ending old new =
+    ((kind ≡ OutOfMemory) × IsOutOfMemory ending old new)
+    ⊎ ((kind ≢ OutOfMemory) × (ending ≡ stopped unwritten) × Keeps old new)
+
+-- the image or the certificate could not be put onto the disk
+abbrev pub IsOffDisk : Unwritten → Type 0
+IsOffDisk unwritten = (unwritten ≡ Image) ⊎ (unwritten ≡ Certificate)
+
+abbrev pub IsUnflushedEnding : Ending → Option (List ℕ) → Option (List ℕ) → Type 0
+IsUnflushedEnding ending old new =
+    (kind : ErrorKind) × (unwritten : Unwritten) × IsOffDisk unwritten × IsUnflushed kind unwritten ending old new
+
+-- an output file could not take its place, once the text was told
+abbrev pub IsUnplacedEnding : ℕ → List ℕ → Ending → Option (List ℕ) → Option (List ℕ) → Type 0
+IsUnplacedEnding status told ending old new =
+    (unwritten : Unwritten) × IsOutOfPlace unwritten × (ending ≡ stopped unwritten)
+    × IsWritten status told status old new
+
+-- A job without an image has ended: its text was told with its status, or a front of it to a writer that failed; or
+-- want of memory was told in the place of a text that has no byte and is told as failed.
+abbrev pub IsToldEnding : ℕ → List ℕ → Ending → Option (List ℕ) → Option (List ℕ) → Type 0
+IsToldEnding status told ending old new =
+    ((ending.unwritten ≡ None) × IsWritten status told ending.status old new)
+    ⊎ ((status ≡ 4) × (told ≡ []) × IsOutOfMemory ending old new)
+    ⊎ ((ending ≡ stopped Text) × AppendsFront old new told)
+
+-- A job with output files has ended: as one without an image; or a file could not be put onto the disk, and its text was
+-- not told; or its text was told, and then a file could not take its place.
+abbrev pub IsEnding : ℕ → List ℕ → Ending → Option (List ℕ) → Option (List ℕ) → Type 0
+IsEnding status told ending old new =
+    IsToldEnding status told ending old new ⊎ IsUnflushedEnding ending old new ⊎ IsUnplacedEnding status told ending old new
+
+-- nothing is known of the files of a job, and nothing is to be explained
+abbrev pub nothing_found : Found
+nothing_found = record {
+  is_wanted = false;
+  path = None;
+  out = None;
+  certificate = None;
+  order = None;
+  bytes = None;
+  fault = None;
+  unwritten = None;
+  is_content = false;
+}

@@ -1,0 +1,6 @@
+pub mod Images
+pub mod Outputs
+pub mod Roles
+pub mod Endings
+pub mod Written
+pub mod Known

@@ -1,0 +1,122 @@
+// How a job with output files ends.
+ghost use Rattle.std.specs.Prelude.{◌≡◌, IfErr, IfSome, IsErrAnd};
+ghost use Rattle.shop_files.specs.Endings.{IsEnding, IsOffDisk, IsOutOfPlace, IsToldEnding, IsUnflushed};
+ghost use Rattle.shop_files.specs.Written.{IsUntouched, failure_of};
+
+use crate::ending::{Ending, Unwritten};
+use crate::output::Output;
+use shop_replies::{FAILED, Failure, Reply, written};
+use std::io::{ErrorKind, Write};
+
+// The certificate in what is told of a volume that was brought into order: all behind the first line.
+fn certificate_in(told: &[u8]) -> &[u8] {
+    match told.iter().position(|byte| *byte == b'\n') {
+        Some(end) => &told[end + 1..],
+        None => &[],
+    }
+}
+
+/// Ends a job that has told its text to memory and handed its image to a file: the certificate of a job that is done is
+/// written to its own file, both are put onto the disk, then the text is told, and then they take their places. Where
+/// one of these fails, what stood at the places stands, and the status is 4; of an image that is not on the disk,
+/// nothing is told.
+///
+/// The certificate takes its place first. It tells the layout of the image that stood there before, so where the image
+/// can't take its own place then, it is good for the one that stands.
+pub fn settle<T: Write>(
+    mut out: Output<'_>,
+    mut certificate: Output<'_>,
+    status: u8,
+    told: &[u8],
+    text: &mut T,
+) -> Ending
+    ensures ending { IsEnding status told.now result (T.contents text.old) (T.contents text.new) }
+    ensures no_image { IsUntouched out.entry
+        → IsToldEnding status told.now result (T.contents text.old) (T.contents text.new) }
+    ensures failed { IfSome (failure_of out.entry) (λ kind.
+        IsUnflushed kind Unwritten.Image result (T.contents text.old) (T.contents text.new)) }
+{
+    if out.is_empty() {
+        return tell(status, told, text);
+    }
+    if status == 0 {
+        // A failure stays with the file, which then can't be put onto the disk.
+        let _ = certificate.write_all(certificate_in(told));
+    }
+    if let Err((kind, unwritten)) = flush_both(&mut out, &mut certificate) {
+        discard_both(out, certificate);
+        return tell_unflushed(kind, unwritten, text);
+    }
+    if written(told, status, text) != status {
+        discard_both(out, certificate);
+        return Ending::stopped(Unwritten::Text);
+    }
+    match take_both_places(out, certificate) {
+        Ok(()) => Ending::written(status),
+        Err(unwritten) => Ending::stopped(unwritten),
+    }
+}
+
+// Puts both files onto the disk, or answers which of them can't be, and why.
+fn flush_both(
+    out: &mut Output<'_>,
+    certificate: &mut Output<'_>,
+) -> Result<(), (ErrorKind, Unwritten)>
+    ensures unwritten { IfErr result (λ why. IsOffDisk why.1) }
+    ensures failed { IfSome (failure_of out.old) (λ kind.
+        IsErrAnd result (λ why. (why.0 ≡ kind) × (why.1 ≡ Unwritten.Image))) }
+{
+    if let Err(error) = out.flush_to_disk() {
+        return Err((error.kind(), Unwritten::Image));
+    }
+    match certificate.flush_to_disk() {
+        Ok(()) => Ok(()),
+        Err(error) => Err((error.kind(), Unwritten::Certificate)),
+    }
+}
+
+// Ends a job one of whose files could not be put onto the disk, for such a reason: want of memory is told, and of any
+// other nothing.
+fn tell_unflushed<T: Write>(kind: ErrorKind, unwritten: Unwritten, text: &mut T) -> Ending
+    ensures { IsUnflushed kind unwritten result (T.contents text.old) (T.contents text.new) }
+{
+    if kind == ErrorKind::OutOfMemory {
+        return Ending::written(Reply::failed(Failure::Memory).tell(text));
+    }
+    Ending::stopped(unwritten)
+}
+
+// Puts both files into their places, or answers which of them can't be.
+fn take_both_places(out: Output<'_>, certificate: Output<'_>) -> Result<(), Unwritten>
+    ensures { IfErr result IsOutOfPlace }
+{
+    let is_alone = certificate.is_empty();
+    if certificate.take_place().is_err() {
+        out.discard();
+        return Err(Unwritten::Certificate);
+    }
+    match out.take_place() {
+        Ok(()) => Ok(()),
+        Err(_) if is_alone => Err(Unwritten::Image),
+        Err(_) => Err(Unwritten::ImageAfterCertificate),
+    }
+}
+
+fn discard_both(out: Output<'_>, certificate: Output<'_>) {
+    out.discard();
+    certificate.discard();
+}
+
+// Tells the text of a job that handed no image out. A text that found no room in memory is told as that.
+fn tell<T: Write>(status: u8, told: &[u8], text: &mut T) -> Ending
+    ensures { IsToldEnding status told.now result (T.contents text.old) (T.contents text.new) }
+{
+    if status == FAILED && told.is_empty() {
+        return Ending::written(Reply::failed(Failure::Memory).tell(text));
+    }
+    if written(told, status, text) == status {
+        Ending::written(status)
+    } else {
+        Ending::stopped(Unwritten::Text)
+    }
+}

@@ -1,0 +1,249 @@
+// What is told to people beside the answer.
+ghost use Rattle.std.specs.Prelude.{◌≡◌};
+ghost use Rattle.shop_files.specs.Endings.{nothing_found};
+
+use crate::ending::Unwritten;
+use a2_device::Order;
+use explanations::{Explanation, FINDINGS, REFUSALS, explained};
+use shop_jobs::ImageOrder;
+use shop_replies::most_bytes;
+use shop_words::escaped;
+use std::{fmt, io};
+
+/// Why the file of an image is not opened.
+#[derive(Clone, Copy, Debug, PartialEq, Eq)]
+pub enum ImageFault {
+    /// The system does not open it.
+    Unopened,
+    /// Another program works on it: it holds the lock.
+    Held,
+    /// Another file has taken its place since it was opened.
+    Replaced,
+}
+
+/// What became known of the files of a job.
+#[derive(Debug, Drop)]
+pub struct Found {
+    /// Whether the answer is to be explained.
+    pub is_wanted: bool,
+    /// The path of the image.
+    pub path: Option<String>,
+    /// The path of the output file.
+    pub out: Option<String>,
+    /// The path of the certificate's file.
+    pub certificate: Option<String>,
+    /// The order that the job names for its image.
+    pub order: Option<ImageOrder>,
+    /// How many bytes were read of the image.
+    pub bytes: Option<usize>,
+    /// Why the image was not opened.
+    pub fault: Option<ImageFault>,
+    /// What could not be written.
+    pub unwritten: Option<Unwritten>,
+    /// Whether what is told is the bytes of a file, and no words of the program's.
+    pub is_content: bool,
+}
+
+impl Found {
+    /// Nothing is known yet.
+    pub fn new() -> Found
+        ensures { result ≡ nothing_found }
+    {
+        Found {
+            is_wanted: false,
+            path: None,
+            out: None,
+            certificate: None,
+            order: None,
+            bytes: None,
+            fault: None,
+            unwritten: None,
+            is_content: false,
+        }
+    }
+}
+
+/// The words of a refusal of the image's length.
+const LENGTH: &str = "REFUSED Length";
+
+// A number of bytes, with a comma before each three digits.
+#[derive(Clone, Copy)]
+struct Grouped(usize);
+
+impl fmt::Display for Grouped {
+    fn fmt<W: fmt::Write>(&self, f: &mut fmt::Formatter<W>) -> fmt::Result {
+        let thousands = self.0 / 1_000;
+        let rest = self.0 % 1_000;
+        if thousands == 0 {
+            return write!(f, "{rest}");
+        }
+        if thousands < 1_000 {
+            return write!(f, "{thousands},{rest:03}");
+        }
+        let millions = thousands / 1_000;
+        let thousands = thousands % 1_000;
+        write!(f, "{millions},{thousands:03},{rest:03}")
+    }
+}
+
+// How many bytes an image has in an order, or where none is named.
+fn wanted_length(order: Option<ImageOrder>) -> &'static str {
+    match order {
+        Some(ImageOrder::Dos) => "An image in DOS order has 143,360 bytes.",
+        Some(ImageOrder::Prodos) => {
+            "An image in ProDOS order has 143,360 bytes, or of a ProDOS volume of another size 16 to 65,535 blocks of \
+                512 bytes."
+        }
+        Some(ImageOrder::Nibble) => "An image in nibble order has 232,960 bytes.",
+        None => {
+            "An image has 143,360 bytes, in nibble order 232,960, or in ProDOS order 16 to 65,535 blocks of 512 bytes."
+        }
+    }
+}
+
+// Tells which image it is, and how many bytes were read of it.
+fn tell_image(rt: &HostRuntime, found: &Found) -> io::Result<()> {
+    if found.path.is_none() {
+        return Ok(());
+    }
+    let name = shown(rt, &found.path)?;
+    match found.bytes {
+        Some(bytes) if bytes > most_bytes(Order::Prodos) => {
+            let most = Grouped(most_bytes(Order::Prodos));
+            eprintln!(rt; "{name}: more than {most} bytes.")
+        }
+        Some(bytes) => {
+            let bytes = Grouped(bytes);
+            eprintln!(rt; "{name}: {bytes} bytes were read.")
+        }
+        None => eprintln!(rt; "{name}: not read."),
+    }
+}
+
+// Tells what each of the words of a table means that begin a line of what was told.
+fn tell_rows(
+    rt: &HostRuntime,
+    found: &Found,
+    table: &[Explanation],
+    told: &[u8],
+) -> io::Result<()> {
+    for row in explained(rt.alloc(), table, told)? {
+        let front = row.front;
+        let meaning = row.meaning;
+        let advice = row.advice;
+        if front == LENGTH {
+            let wanted = wanted_length(found.order);
+            eprintln!(rt; "{wanted}")?;
+        }
+        let colon = if front.ends_with(':') { "" } else { ":" };
+        eprintln!(rt; "{front}{colon} {meaning} {advice}")?;
+    }
+    Ok(())
+}
+
+// What to do where the file of an image is not opened, in whole sentences.
+fn fault_text(fault: ImageFault) -> &'static str {
+    match fault {
+        ImageFault::Unopened => {
+            "it could not be opened. Look whether it is there, whether you may read it and, with `--in-place`, write \
+                it."
+        }
+        ImageFault::Held => {
+            "another program works on it and holds its lock, so nothing was read or written. Try again when that has \
+                ended."
+        }
+        ImageFault::Replaced => {
+            "another program has replaced it since it was opened, so nothing was written. Try again."
+        }
+    }
+}
+
+// What stands where something could not be written, in whole sentences.
+fn unwritten_text(unwritten: Unwritten) -> &'static str {
+    match unwritten {
+        Unwritten::Text => "the text could not be written there. Each file is as it was.",
+        Unwritten::TextAfterImage => {
+            "the text could not be written there. The image was changed in its own file."
+        }
+        Unwritten::Image => "it could not be written. Each file is as it was.",
+        Unwritten::ImageAfterCertificate => {
+            "it could not be written, and is as it was. The certificate was written, and is good for the image as it \
+                is."
+        }
+        Unwritten::Certificate => {
+            "it could not be written. Each file is as it was, the one of the image too."
+        }
+        Unwritten::CertificateBeforeImage => {
+            "it could not be written, so nothing was done. Each file is as it was."
+        }
+        Unwritten::CertificateAfterImage => {
+            "it could not be written. The image was changed in its own file."
+        }
+    }
+}
+
+/// What may be in the way of an output file.
+const IN_THE_WAY: &str =
+    "A file is first written under another name in the same folder, one that ends in `.new`. Look whether the folder \
+    is there and may be written to, whether the disk has room, and whether the name is that of a folder or too long. \
+    Files that end in `.new` and were left behind there may be deleted.";
+
+// The name of a file as it is shown.
+fn shown(rt: &HostRuntime, path: &Option<String>) -> io::Result<String> {
+    match path {
+        Some(path) if path.as_str() != "-" => Ok(escaped(rt.alloc(), path.as_str())?),
+        Some(_) => Ok("standard input".to_string(rt.alloc())?),
+        None => Ok("the file".to_string(rt.alloc())?),
+    }
+}
+
+// Tells why the image was not opened, if it was not.
+fn tell_fault(rt: &HostRuntime, found: &Found) -> io::Result<()> {
+    let Some(fault) = found.fault else {
+        return Ok(());
+    };
+    let name = shown(rt, &found.path)?;
+    let text = fault_text(fault);
+    eprintln!(rt; "{name}: {text}")
+}
+
+// Tells what could not be written, and what stands then.
+fn tell_unwritten(rt: &HostRuntime, found: &Found) -> io::Result<()> {
+    let Some(unwritten) = found.unwritten else {
+        return Ok(());
+    };
+    let text = unwritten_text(unwritten);
+    let path = match unwritten {
+        Unwritten::Text | Unwritten::TextAfterImage => {
+            return eprintln!(rt; "standard output: {text}");
+        }
+        Unwritten::Image | Unwritten::ImageAfterCertificate => &found.out,
+        Unwritten::Certificate
+        | Unwritten::CertificateBeforeImage
+        | Unwritten::CertificateAfterImage => &found.certificate,
+    };
+    let name = shown(rt, path)?;
+    eprintln!(rt; "{name}: {text} {IN_THE_WAY}")
+}
+
+// Tells on standard error which image was read, and what each of the words means that begin a line of what was told.
+fn tell(rt: &HostRuntime, found: &Found, told: &[u8]) -> io::Result<()> {
+    tell_image(rt, found)?;
+    tell_fault(rt, found)?;
+    tell_unwritten(rt, found)?;
+    tell_rows(rt, found, &REFUSALS, told)?;
+    tell_rows(rt, found, &FINDINGS, told)
+}
+
+/// Explains on standard error what was told. Where that can't be written, nothing else changes.
+pub fn explain(rt: &HostRuntime, found: &Found, told: &[u8]) {
+    let _ = tell(rt, found, told);
+}
+
+/// Warns on standard error that `identify` names another way to read the image than the words of a job do.
+pub fn warn_of_order(rt: &HostRuntime, file_system: &str, order: &str) {
+    let _ = eprintln!(rt;
+        "warning: `a2shop identify` names another way to read this image: `--fs {file_system} --order {order}`. In a \
+        wrong order a change destroys files; look at `a2shop catalog` in both, and keep the original."
+    );
+}

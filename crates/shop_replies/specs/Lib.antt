@@ -1,0 +1,4 @@
+pub mod Disk
+pub mod Reply
+pub mod ConvertReply
+pub mod Volume

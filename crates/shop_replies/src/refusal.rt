@@ -1,0 +1,89 @@
+// Why a job is refused, and what fails under one.
+ghost use Rattle.std.specs.Prelude.{◌≡◌};
+ghost use Rattle.shop_replies.specs.Reply.{failure_line, refusal_line};
+
+/// Why a job was refused.
+#[derive(Clone, Copy, Debug, PartialEq, Eq)]
+pub enum Refusal {
+    /// The image cannot be changed where it stands.
+    InPlace,
+    /// The format has no such type of files.
+    Type,
+    /// The text of the date is no date and time that the format can have.
+    Date,
+    /// The text of the places to reserve is no list of places.
+    Reserve,
+    /// The image has the wrong length for its order.
+    Length,
+    /// The volume has a fault.
+    Check,
+    /// The volume has no file of that name.
+    NotFound,
+    /// No file may get the new name.
+    Name,
+    /// An entry of the directory has the new name.
+    Exists,
+    /// The file is locked.
+    Locked,
+    /// The file is longer than a file can be.
+    TooLong,
+    /// The directory has no free entry.
+    DirFull,
+    /// Fewer places are free than the file takes.
+    VolumeFull,
+    /// Some part is misplaced, and each place has a part.
+    NoFreePlace,
+    /// The file that is read beside the image is too long.
+    InputTooLong,
+    /// A track of the image lacks a sector.
+    NoSector,
+}
+
+/// What failed under a job.
+#[derive(Clone, Copy, Debug, PartialEq, Eq)]
+pub enum Failure {
+    /// A file could not be opened or read.
+    Input,
+    /// A sector of the image could not be read.
+    Device,
+    Memory,
+}
+
+impl Refusal {
+    /// The line that tells it.
+    pub fn line(self) -> &'static [u8]
+        ensures { result.now ≡ refusal_line self }
+    {
+        match self {
+            Refusal::InPlace => b"REFUSED InPlace\n",
+            Refusal::Type => b"REFUSED Type\n",
+            Refusal::Date => b"REFUSED Date\n",
+            Refusal::Reserve => b"REFUSED Reserve\n",
+            Refusal::Length => b"REFUSED Length\n",
+            Refusal::Check => b"REFUSED Check\n",
+            Refusal::NotFound => b"REFUSED NotFound\n",
+            Refusal::Name => b"REFUSED Name\n",
+            Refusal::Exists => b"REFUSED Exists\n",
+            Refusal::Locked => b"REFUSED Locked\n",
+            Refusal::TooLong => b"REFUSED TooLong\n",
+            Refusal::DirFull => b"REFUSED DirFull\n",
+            Refusal::VolumeFull => b"REFUSED VolumeFull\n",
+            Refusal::NoFreePlace => b"REFUSED NoFreePlace\n",
+            Refusal::InputTooLong => b"REFUSED InputTooLong\n",
+            Refusal::NoSector => b"REFUSED NoSector\n",
+        }
+    }
+}
+
+impl Failure {
+    /// The line that tells it.
+    pub fn line(self) -> &'static [u8]
+        ensures { result.now ≡ failure_line self }
+    {
+        match self {
+            Failure::Input => b"FAILED Input\n",
+            Failure::Device => b"FAILED Device\n",
+            Failure::Memory => b"FAILED Memory\n",
+        }
+    }
+}

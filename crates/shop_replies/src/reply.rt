@@ -1,0 +1,249 @@
+// What a job answers: a status, what is told, and an image or none.
+ghost use Rattle.std.specs.Prelude.{◌≡◌, ◌⊎◌, IsTrue, None, Some};
+ghost use Rattle.std.specs.Io.KnownBytes.{Appends};
+ghost use Rattle.shop_replies.specs.Reply.{
+  AppendsFront,
+  HandsOut,
+  IsDelivered,
+  IsMade,
+  IsWritten,
+  failed,
+  held,
+  refused,
+  status_number,
+  status_of,
+  text_of,
+  told_text,
+};
+
+use crate::plan_writing::write_plan;
+use crate::refusal::{Failure, Refusal};
+use crate::writing::{write_lines, write_whole, written};
+use file_listings::{ProLines, ProSteps};
+use std::io::Write;
+
+/// How a job ended.
+#[derive(Clone, Copy, Debug, PartialEq, Eq)]
+pub enum Status {
+    /// The job is done.
+    Done,
+    /// What the job was to look at is not as it should be.
+    Wrong,
+    /// The job was refused.
+    Refused,
+    /// Something failed under the job.
+    Failed,
+}
+
+/// What is told of a job.
+#[derive(Debug, Drop)]
+pub enum Told {
+    /// `OK`.
+    Ok,
+    /// A text.
+    Text(String),
+    /// Bytes, which are told as they are.
+    Bytes(Vec<u8>),
+    /// The lines of a listing, which are made as they are told.
+    Listing(ProLines),
+    /// The steps of a plan in words, which are made as they are told.
+    Plan(ProSteps),
+    /// Why it was refused.
+    Refusal(Refusal),
+    /// What failed.
+    Failure(Failure),
+}
+
+/// What a job answers.
+#[derive(Debug, Drop)]
+pub struct Reply {
+    /// How it ended.
+    pub status: Status,
+    /// What is told of it.
+    pub told: Told,
+    /// The image that it hands out, for the output file.
+    pub image: Option<Vec<u8>>,
+}
+
+/// The status of a writer that failed, and of a job under which something failed.
+pub const FAILED: u8 = 4;
+
+impl Status {
+    /// The status as the program's: 0 done, 1 something is wrong, 3 refused, 4 failed.
+    pub fn number(self) -> u8
+        ensures { result ≡ status_number self }
+    {
+        match self {
+            Status::Done => 0,
+            Status::Wrong => 1,
+            Status::Refused => 3,
+            Status::Failed => FAILED,
+        }
+    }
+}
+
+impl Told {
+    // Writes what is told to the last, or as much as the writer takes, and answers whether it took all.
+    fn write<T: Write>(&mut self, text: &mut T) -> bool
+        ensures whole { IsTrue result → Appends (T.contents text.old) (T.contents text.new) (told_text self.old) }
+        ensures front { AppendsFront (T.contents text.old) (T.contents text.new) (told_text self.old) }
+    {
+        match self {
+            Told::Ok => write_whole(b"OK\n", text),
+            Told::Text(told) => write_whole(told.as_bytes(), text),
+            Told::Bytes(bytes) => write_whole(bytes.as_slice(), text),
+            Told::Listing(lines) => write_lines(lines, text),
+            Told::Plan(lines) => write_plan(lines, text),
+            Told::Refusal(refusal) => write_whole(refusal.line(), text),
+            Told::Failure(failure) => write_whole(failure.line(), text),
+        }
+    }
+
+    // Writes what is told and flushes the writer, and answers whether both were done.
+    fn tell<T: Write>(&mut self, text: &mut T) -> bool
+        ensures whole { IsTrue result → Appends (T.contents text.old) (T.contents text.new) (told_text self.old) }
+        ensures front { AppendsFront (T.contents text.old) (T.contents text.new) (told_text self.old) }
+    {
+        self.write(text) && text.flush().is_ok()
+    }
+}
+
+impl Reply {
+    // What is told, with no image.
+    fn told(status: Status, told: Told) -> Reply
+        ensures { result ≡ record { status = status; told = told; image = None } }
+    {
+        Reply {
+            status,
+            told,
+            image: None,
+        }
+    }
+
+    /// The text of a job that is done.
+    pub fn done(text: String) -> Reply
+        ensures { result ≡ record { status = Status.Done; told = Told.Text text; image = None } }
+    {
+        Reply::told(Status::Done, Told::Text(text))
+    }
+
+    /// The text of what a job found wrong.
+    pub fn wrong(text: String) -> Reply
+        ensures { result ≡ record { status = Status.Wrong; told = Told.Text text; image = None } }
+    {
+        Reply::told(Status::Wrong, Told::Text(text))
+    }
+
+    /// The text of a refusal that says more than its name.
+    pub fn unopened(text: String) -> Reply
+        ensures { result ≡ record { status = Status.Refused; told = Told.Text text; image = None } }
+    {
+        Reply::told(Status::Refused, Told::Text(text))
+    }
+
+    /// The bytes that a job has read or made, which are told as they are.
+    pub fn content(bytes: Vec<u8>) -> Reply
+        ensures { result ≡ record { status = Status.Done; told = Told.Bytes bytes; image = None } }
+    {
+        Reply::told(Status::Done, Told::Bytes(bytes))
+    }
+
+    /// The lines of a listing.
+    pub fn listing(lines: ProLines) -> Reply
+        ensures { result ≡ record { status = Status.Done; told = Told.Listing lines; image = None } }
+    {
+        Reply::told(Status::Done, Told::Listing(lines))
+    }
+
+    /// The steps of a plan in words.
+    pub fn plan(lines: ProSteps) -> Reply
+        ensures { result ≡ record { status = Status.Done; told = Told.Plan lines; image = None } }
+    {
+        Reply::told(Status::Done, Told::Plan(lines))
+    }
+
+    /// A job was refused.
+    pub fn refused(refusal: Refusal) -> Reply
+        ensures { result ≡ refused refusal }
+    {
+        Reply::told(Status::Refused, Told::Refusal(refusal))
+    }
+
+    /// Something failed under a job.
+    pub fn failed(failure: Failure) -> Reply
+        ensures { result ≡ failed failure }
+    {
+        Reply::told(Status::Failed, Told::Failure(failure))
+    }
+
+    /// The image that a job has made: it tells `OK`.
+    pub fn made(image: Vec<u8>) -> Reply
+        ensures { result ≡ record { status = Status.Done; told = Told.Ok; image = Some image } }
+    {
+        Reply {
+            status: Status::Done,
+            told: Told::Ok,
+            image: Some(image),
+        }
+    }
+
+    /// What was done to a volume, and the image with it.
+    pub fn optimized(report: Vec<u8>, image: Vec<u8>) -> Reply
+        ensures { result ≡ record { status = Status.Done; told = Told.Bytes report; image = Some image } }
+    {
+        Reply {
+            status: Status::Done,
+            told: Told::Bytes(report),
+            image: Some(image),
+        }
+    }
+
+    /// The image as it stands after a failure of the device.
+    pub fn interrupted(image: Vec<u8>) -> Reply
+        ensures { result ≡ record { status = Status.Failed; told = Told.Failure Failure.Device; image = Some image } }
+    {
+        Reply {
+            status: Status::Failed,
+            told: Told::Failure(Failure::Device),
+            image: Some(image),
+        }
+    }
+
+    /// Writes the text of a reply and answers its status, 4 where the writer fails.
+    pub fn tell<T: Write>(self, text: &mut T) -> u8
+        ensures { IsWritten (status_of self) (text_of self) result (T.contents text.old) (T.contents text.new) }
+    {
+        let Reply {
+            status,
+            mut told,
+            ..
+        } = self;
+        if told.tell(text) {
+            status.number()
+        } else {
+            FAILED
+        }
+    }
+
+    /// Writes the text of a reply, then hands its image to the output file's writer, and answers its status, 4 where a
+    /// writer fails. What hands out no image leaves that writer as it is; so does a text that could not be written.
+    pub fn deliver<T: Write, O: Write>(self, text: &mut T, out: &mut O) -> u8
+        ensures told { IsDelivered self result (held (T.contents text.old) (O.contents out.old))
+            (held (T.contents text.new) (O.contents out.new)) }
+        ensures out { (out.new ≡ out.old)
+            ⊎ (IsMade self × HandsOut self result (T.contents text.old) (T.contents text.new)) }
+    {
+        let Reply {
+            status,
+            mut told,
+            image,
+        } = self;
+        if !told.tell(text) {
+            return FAILED;
+        }
+        match image {
+            Some(image) => written(image.as_slice(), status.number(), out),
+            None => status.number(),
+        }
+    }
+}

@@ -1,8 +1,0 @@
-use Rattle.vol_files.proofs.Existence.{files_exist}
-use Rattle.vol_files.proofs.files.a_volume_has_its_files.Goals as goal
-
-pub returns : goal.returns
-returns g c =
-    let format = c.args.format.now in
-    λ directory store parts accepted are.
-    files_exist (g.F.Format.meaning format) (g.met.F.Format.readable format) directory store parts are accepted

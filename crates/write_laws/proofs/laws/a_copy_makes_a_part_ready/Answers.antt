@@ -1,9 +1,0 @@
-use Rattle.write_laws.proofs.Readying.{ready_after_copy}
-use Rattle.write_laws.proofs.laws.a_copy_makes_a_part_ready.Goals as goal
-
-pub returns : goal.returns
-returns g c =
-    let format = c.args.format.now in
-    λ directory store part holder place accepted lost held within whole.
-    ready_after_copy (g.F.Format.meaning format) (g.met.F.Format.readable format) (g.met.F.WritableFormat.movable format) (g.met.F.WritableFormat.writable format)
-    directory store part holder place accepted lost held within whole

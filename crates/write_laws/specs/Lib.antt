@@ -1,4 +1,0 @@
-pub mod Kept
-pub mod Moved
-pub mod Marked
-pub mod System
