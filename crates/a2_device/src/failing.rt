@@ -27,7 +27,7 @@ impl<D: Device> FaultDevice<D> {
             ≡ record { device = device; read_order = false; write_order = None; writes = 0; faults = 0 } }
         ensures state { ⟦<FaultDevice<D> as Device>⟧.state result ≡ D.state device }
     {
-        // The counts of a device fit their type.
+        // Called for what their contracts say: the counts of a device fit their type.
         let _writes = device.writes();
         let _faults = device.faults();
         FaultDevice {

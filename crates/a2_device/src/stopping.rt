@@ -22,7 +22,7 @@ impl<D: Device> StopDevice<D> {
         ensures state { let state = D.state device in
             ⟦<StopDevice<D> as Device>⟧.state result ≡ record state { passes = at_most passes state.passes } }
     {
-        // The counts of a device fit their type.
+        // Called for what their contracts say: the counts of a device fit their type.
         let _writes = device.writes();
         let _faults = device.faults();
         StopDevice {

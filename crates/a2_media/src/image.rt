@@ -41,7 +41,7 @@ impl<A: Allocator> ImageDevice<A> {
         requires { IsOfDisk image }
         ensures { ⟦<ImageDevice<A> as Device>⟧.state result ≡ image_state UnitKind.Sector image 0 0 0 }
     {
-        // The sectors of such an image are those of a disk.
+        // Called for what its contract says: the sectors of such an image are those of a disk.
         let _blocks = image.blocks();
         ImageDevice::over(image, UnitKind::Sector)
     }
@@ -50,7 +50,8 @@ impl<A: Allocator> ImageDevice<A> {
     pub fn prodos(image: Image<A>) -> Self
         ensures { ⟦<ImageDevice<A> as Device>⟧.state result ≡ image_state UnitKind.Block image 0 0 0 }
     {
-        // The sectors of an image of a disk are those of a disk, and another one has whole blocks.
+        // Called for what their contracts say: the sectors of an image of a disk are those of a disk, and another one
+        // has whole blocks.
         let _blocks = image.blocks();
         let _order = image.order();
         ImageDevice::over(image, UnitKind::Block)

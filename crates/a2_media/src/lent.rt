@@ -30,7 +30,7 @@ impl<'a, A: Allocator> LentDevice<'a, A> {
         requires { IsOfDisk image.now }
         ensures { ⟦<LentDevice<'a, A> as Device>⟧.state result ≡ lent_state UnitKind.Sector image.now 0 0 }
     {
-        // The sectors of such an image are those of a disk.
+        // Called for what its contract says: the sectors of such an image are those of a disk.
         let _blocks = image.blocks();
         LentDevice::over(image, UnitKind::Sector)
     }
@@ -39,7 +39,8 @@ impl<'a, A: Allocator> LentDevice<'a, A> {
     pub fn prodos(image: &'a Image<A>) -> Self
         ensures { ⟦<LentDevice<'a, A> as Device>⟧.state result ≡ lent_state UnitKind.Block image.now 0 0 }
     {
-        // The sectors of an image of a disk are those of a disk, and another one has whole blocks.
+        // Called for what their contracts say: the sectors of an image of a disk are those of a disk, and another one
+        // has whole blocks.
         let _blocks = image.blocks();
         let _order = image.order();
         LentDevice::over(image, UnitKind::Block)

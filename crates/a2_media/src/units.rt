@@ -83,7 +83,7 @@ fn write_lent<A: Allocator>(image: &mut Image<A>, track: u8, sector: u8, content
     ensures order { image.new.order ≡ image.old.order }
     ensures long { length image.new.bytes ≡ length image.old.bytes }
 {
-    // The sectors of an image are those that its bytes hold.
+    // Called for what its contract says: the sectors of an image are those that its bytes hold.
     let _order = image.order();
     let lent = image.sector_mut(track, sector);
     if lent.is_empty() {
@@ -111,7 +111,7 @@ pub(crate) fn write_sector<A: Allocator>(
     ensures order { image.new.order ≡ image.old.order }
     ensures long { length image.new.bytes ≡ length image.old.bytes }
 {
-    // An image of a disk has 560 sectors.
+    // Called for what its contract says: an image of a disk has 560 sectors.
     let _blocks = image.blocks();
     let (track, sector) = dos_sector(place);
     if write_lent(image, track, sector, unit) {

@@ -1,24 +1,25 @@
 //! `a2shop`, the Apple II disk workshop: opens the files that its words name and hands them to the
 //! commands of `shop_commands`.
 //!
-//! `streams.rt` takes the descriptors of closed streams, so that no file gets one. `start.rt` takes
-//! the words, `auto.rt` settles `--fs auto` and `--order auto` by the image, and `jobs.rt` looks
-//! where the files of a job lead, opens its image and does it: `placing.rt` where it changes the
-//! image's own file, `reading.rt` where it reads of that file what it needs, and else on all of its
-//! bytes. `shop_files` opens the files that a job names, ends a job with output files, and tells
-//! people what was meant.
+//! `stages.rt` is the program as a line of stages: its words, the job that they ask for, the inputs
+//! of the job opened, the job settled where a word is `auto`, the job done, its files ended and its
+//! answer told. Each stage has its file: `words.rt`, `asking.rt`, `inputs.rt`, `settling.rt`,
+//! `doing.rt` and `ending.rt`; `stop.rt` has what ends the line early. `streams.rt` takes the
+//! descriptors of closed streams, so that no file gets one.
 #![tactic(auto)]
 
-mod auto;
-mod jobs;
-mod placing;
-mod reading;
-mod start;
+mod asking;
+mod doing;
+mod ending;
+mod inputs;
+mod settling;
+mod stages;
 mod stop;
 mod streams;
+mod words;
 
 use std::process::ExitCode;
 
 fn main(rt: HostRuntime) -> ExitCode {
-    ExitCode::from(start::run(&rt))
+    ExitCode::from(stages::run(&rt))
 }

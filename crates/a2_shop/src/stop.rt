@@ -1,48 +1,63 @@
-// Why there is no job to be done.
-use shop_commands::tell_words_fault;
-use shop_files::Clash;
-use shop_replies::{Failure, Reply, written};
-use shop_words::WordsFault;
+// What ends the line of stages early.
+use crate::words::WORDS_REFUSED;
+use a2_media::FileError;
+use shop_files::{Clash, Unwritten};
+use shop_replies::{FAILED, Failure, Refusal, Reply, written};
 use std::alloc::AllocError;
 use std::io::Write;
-
-/// The status of refused words.
-const WORDS_REFUSED: u8 = 2;
 
 /// The status of a refused job.
 const REFUSED: u8 = 3;
 
-/// Why there is no job to be done.
-#[derive(Debug, Drop)]
+/// Why a job is not done.
+#[derive(Clone, Copy, Debug)]
 pub enum Stop {
-    /// The words are no job.
-    Words(WordsFault),
+    /// The words are no job: why was told, with this status.
+    Told(u8),
     /// Two roles of the job have one file, and one of them is written.
     Clash(Clash),
-    /// The image could not be read, or there was no memory for it.
+    /// The job is refused by its words or by the file of its image.
+    Refused(Refusal),
+    /// A file could not be read, or there was no memory.
     Failed(Failure),
     /// No way to read the image is better than all others.
     Ambiguous,
     /// There is no volume in the image.
     Unknown,
+    /// A file can't be written, so nothing was done.
+    Unwritten(Unwritten),
 }
 
 impl Stop {
     /// Tells why, and answers the status.
-    pub fn tell<T: Write>(&self, text: &mut T) -> u8 {
+    pub fn tell<T: Write>(self, text: &mut T) -> u8 {
         match self {
-            Stop::Words(fault) => tell_words_fault(fault, text),
+            Stop::Told(status) => status,
             Stop::Clash(clash) => written(clash.line(), WORDS_REFUSED, text),
-            Stop::Failed(failure) => Reply::failed(*failure).tell(text),
+            Stop::Refused(refusal) => Reply::refused(refusal).tell(text),
+            Stop::Failed(failure) => Reply::failed(failure).tell(text),
             Stop::Ambiguous => written(b"REFUSED Ambiguous\n", REFUSED, text),
             Stop::Unknown => written(b"REFUSED Unknown\n", REFUSED, text),
+            Stop::Unwritten(_) => FAILED,
+        }
+    }
+
+    /// The file that can't be written, if that is why.
+    pub fn unwritten(self) -> Option<Unwritten> {
+        match self {
+            Stop::Unwritten(unwritten) => Some(unwritten),
+            _ => None,
         }
     }
 }
 
-impl From<WordsFault> for Stop {
-    fn from(fault: WordsFault) -> Stop {
-        Stop::Words(fault)
+impl From<FileError> for Stop {
+    fn from(error: FileError) -> Stop {
+        match error {
+            FileError::InPlace => Stop::Refused(Refusal::InPlace),
+            FileError::Io => Stop::Failed(Failure::Input),
+            FileError::Length => Stop::Refused(Refusal::Length),
+        }
     }
 }
 

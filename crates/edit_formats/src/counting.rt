@@ -3,7 +3,7 @@ ghost use Rattle.std.specs.Prelude.{◌≡◌, ◌<◌, length, map, All, IfOk, 
 ghost use Rattle.a2_device.specs.Device.{OnlyReads};
 ghost use Rattle.edit_formats.specs.declared.writes.Prepared.{Prepared};
 ghost use Rattle.edit_formats.specs.Counting.{counted_writes, counting};
-ghost use Rattle.edit_formats.specs.Prepared.{write_of};
+ghost use Rattle.edit_formats.specs.Prepared.{AreOfSize, GoBelow, write_of};
 ghost use Rattle.edit_formats.specs.Refusal.{told_device, IsPrepareRefusal};
 
 use crate::{EditError, Prepared, alone, behind, copy_unit};
@@ -51,10 +51,8 @@ pub fn counted_writes<D: Device, A: Allocator + Copy>(
     requires key { key < (D.state device.old).places }
     ensures device { OnlyReads (told_device result) (D.state device.old) (D.state device.new) }
     ensures refused { IfErr result IsPrepareRefusal }
-    ensures inside { IfOk result (λ writes.
-        All (λ (write : Prepared A). write.place < (D.state device.old).places) writes.items) }
-    ensures sizes { IfOk result (λ writes.
-        All (λ (write : Prepared A). length write.unit.items ≡ (D.state device.old).unit_size) writes.items) }
+    ensures inside { IfOk result (λ writes. GoBelow (D.state device.old).places writes.items) }
+    ensures sizes { IfOk result (λ writes. AreOfSize (D.state device.old).unit_size writes.items) }
     ensures counted { IsTrue (D.state device.old).honest
         → IfOk result (λ writes.
         map write_of writes.items ≡ counted_writes by block.place block.unit.items key (D.state device.old).store) }

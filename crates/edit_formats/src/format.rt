@@ -16,7 +16,7 @@ pub trait EditableFormat: WritableFormat + FileFormat {
     ghost use Rattle.edit_formats.specs.Edits.{EditMeaning, IsLockable};
     ghost use Rattle.edit_formats.specs.Erasing.{EraseMeaning, IsErasable};
     ghost use Rattle.edit_formats.specs.Names.{NameMeaning, IsNamable};
-    ghost use Rattle.edit_formats.specs.Prepared.{write_of};
+    ghost use Rattle.edit_formats.specs.Prepared.{AreOfSize, GoBelow, write_of};
     ghost use Rattle.edit_formats.specs.Refusal.{told_device};
     ghost use Rattle.edit_formats.specs.Renamed.{IsAnswer, IsReadRefusal};
 
@@ -102,10 +102,8 @@ pub trait EditableFormat: WritableFormat + FileFormat {
         // every device
         ensures device { OnlyReads (told_device result) (D.state device.old) (D.state device.new) }
         ensures refused { IfErr result IsReadRefusal }
-        ensures inside { IfOk result (λ writes.
-            All (λ (write : Prepared A). write.place < (D.state device.old).places) writes.items) }
-        ensures sizes { IfOk result (λ writes.
-            All (λ (write : Prepared A). length write.unit.items ≡ (D.state device.old).unit_size) writes.items) }
+        ensures inside { IfOk result (λ writes. GoBelow (D.state device.old).places writes.items) }
+        ensures sizes { IfOk result (λ writes. AreOfSize (D.state device.old).unit_size writes.items) }
 
         // an honest device that has the directory
         ensures erases { IsTrue (D.state device.old).honest

@@ -2,7 +2,7 @@
 ghost use Rattle.std.specs.Prelude.{◌≡◌, ◌≢◌, ◌<◌, length, map, slice_get, All, Err, IfOk, IfErr, IsTrue};
 ghost use Rattle.a2_device.specs.Device.{OnlyReads};
 ghost use Rattle.edit_formats.specs.declared.writes.Prepared.{Prepared};
-ghost use Rattle.edit_formats.specs.Prepared.{write_of};
+ghost use Rattle.edit_formats.specs.Prepared.{AreOfSize, GoBelow, write_of};
 ghost use Rattle.edit_formats.specs.ProErasing.{pro_erasing, without_entry};
 ghost use Rattle.edit_formats.specs.Refusal.{told_device};
 ghost use Rattle.edit_formats.specs.Renamed.{IsReadRefusal};
@@ -43,10 +43,8 @@ pub(crate) fn erase_entry<D: Device, A: Allocator + Copy>(
 
     ensures device { OnlyReads (told_device result) (D.state device.old) (D.state device.new) }
     ensures refused { IfErr result IsReadRefusal }
-    ensures inside { IfOk result (λ writes.
-        All (λ (write : Prepared A). write.place < (D.state device.old).places) writes.items) }
-    ensures sizes { IfOk result (λ writes.
-        All (λ (write : Prepared A). length write.unit.items ≡ (D.state device.old).unit_size) writes.items) }
+    ensures inside { IfOk result (λ writes. GoBelow (D.state device.old).places writes.items) }
+    ensures sizes { IfOk result (λ writes. AreOfSize (D.state device.old).unit_size writes.items) }
     ensures erases { IsTrue (D.state device.old).honest
         → IfOk result (λ writes. map write_of writes.items ≡ pro_erasing entry.now (D.state device.old).store) }
     ensures known { entry.now.directory < (D.state device.old).places → result ≢ Err EditError.Check }

@@ -2,7 +2,7 @@
 ghost use Rattle.std.specs.Prelude.{◌≡◌, ◌<◌, List, [], ◌∷◌, ◌++◌, length, map, All, IfErr, IfOk};
 ghost use Rattle.edit_formats.specs.declared.writes.Prepared.{Prepared};
 ghost use Rattle.vol_laws.specs.Writes.{Write};
-ghost use Rattle.edit_formats.specs.Prepared.{write_of};
+ghost use Rattle.edit_formats.specs.Prepared.{AreOfSize, GoBelow, write_of};
 ghost use Rattle.edit_formats.specs.Writes.{HasEdited};
 
 use crate::EditError;
@@ -54,8 +54,8 @@ pub fn write_all<D: Device, A: Allocator>(
     device: &mut D,
     writes: &[Prepared<A>],
 ) -> Result<(), EditError>
-    requires places { All (λ (write : Prepared A). write.place < (D.state device.old).places) writes.now }
-    requires units { All (λ (write : Prepared A). length write.unit.items ≡ (D.state device.old).unit_size) writes.now }
+    requires places { GoBelow (D.state device.old).places writes.now }
+    requires units { AreOfSize (D.state device.old).unit_size writes.now }
     ensures refused { IfErr result (λ error. error ≡ EditError.Device) }
     ensures edited { HasEdited (λ (made : List Write). made ≡ map write_of writes.now) result (D.state device.old)
         (D.state device.new) }

@@ -1,7 +1,7 @@
 // A step of a session, unless an order to fail a read is met before it.
 ghost use Rattle.std.specs.Prelude.{◌≡◌, IsTrue, IsFalse};
 ghost use Rattle.vol_mover.specs.Tasks.{Course};
-ghost use Rattle.vol_mover.specs.Present.{IsSession};
+ghost use Rattle.vol_mover.specs.Present.{HasCourse};
 ghost use Rattle.vol_mover.specs.Shown.{present};
 ghost use Rattle.event_replay.specs.Holds.{ReadsNext, StepsSession, StepsToOrder};
 ghost use Rattle.event_replay.specs.Orders.{HasMetRead, HasNoReadOrder};
@@ -43,11 +43,9 @@ fn meet_read_order<'a, D: FailsToOrder, F: WritableFormat, A: Allocator>(
 fn stepped<'a, D: Device, F: WritableFormat, A: Allocator>(
     mut session: Session<'a, D, F, A>,
 ) -> (Session<'a, D, F, A>, Answer<A>)
-    requires { (course : Course)
-        × IsSession (F.meaning session.format.now) (present D.state F.directory session) course }
+    requires { HasCourse (F.meaning session.format.now) (present D.state F.directory session) }
     ensures format { result.0.format.now ≡ session.entry.format.now }
-    ensures session { (course : Course)
-        × IsSession (F.meaning session.entry.format.now) (present D.state F.directory result.0) course }
+    ensures session { HasCourse (F.meaning session.entry.format.now) (present D.state F.directory result.0) }
     ensures steps { StepsSession (F.meaning session.entry.format.now) (present D.state F.directory session.entry)
         result.1 (present D.state F.directory result.0) }
 {
@@ -64,11 +62,9 @@ fn stepped<'a, D: Device, F: WritableFormat, A: Allocator>(
 pub(crate) fn step<'a, D: FailsToOrder, F: WritableFormat, A: Allocator>(
     session: Session<'a, D, F, A>,
 ) -> (Session<'a, D, F, A>, Answer<A>)
-    requires { (course : Course)
-        × IsSession (F.meaning session.format.now) (present D.state F.directory session) course }
+    requires { HasCourse (F.meaning session.format.now) (present D.state F.directory session) }
     ensures format { result.0.format.now ≡ session.entry.format.now }
-    ensures session { (course : Course)
-        × IsSession (F.meaning session.entry.format.now) (present D.state F.directory result.0) course }
+    ensures session { HasCourse (F.meaning session.entry.format.now) (present D.state F.directory result.0) }
     ensures steps { StepsToOrder (F.meaning session.entry.format.now) (present D.state F.directory session.entry)
         result.1 (present D.state F.directory result.0) }
 {

@@ -35,7 +35,6 @@ use Rattle.save_formats.specs.declared.target.Target.TheVariants.{At}
 use Rattle.save_formats.specs.Saves.{SaveMeaning, IsSavable, IsElsewhere, HasEntering}
 use Rattle.file_edits.specs.Parts.{HasPartWrites}
 use Rattle.file_edits.specs.Places.{first_places, free_places}
-use Rattle.file_edits.specs.Placing.{HasPlacedWrites}
 use Rattle.file_edits.specs.Saved.{IsSaveEdit, extent_of, new_places}
 use Rattle.file_edits.proofs.Elsewhere.{elsewhere}
 use Rattle.file_edits.proofs.NewPlaces.{are_new, are_inside, count_is, have_places}
@@ -243,11 +242,17 @@ module _ {A : Type 0} (format : Meaning) (laws : IsReadable format) (movable : I
     | inr within ↦ within
   ])
 
-  own_writes : HasPlacedWrites format saves directory parts places stored text old made
-      → HasPlacedWrites format saves directory (saves.parts stored) (new_places saves directory stored) stored text old made
-  own_writes placed =
-      subst (λ (l : List NewPart). HasPlacedWrites format saves directory l (first_places directory (length l)) stored text old made) same_parts
-      (subst (λ (l : List ℕ). HasPlacedWrites format saves directory parts l stored text old made) same_places placed)
+  own_built : (start : List Write) → HasPartWrites saves format.unit_size parts places stored text (length parts) start
+      → HasPartWrites saves format.unit_size (saves.parts stored) (new_places saves directory stored) stored text (length (saves.parts stored)) start
+  own_built start built =
+      subst (λ (l : List NewPart). HasPartWrites saves format.unit_size l (first_places directory (length l)) stored text (length l) start) same_parts
+      (subst (λ (l : List ℕ). HasPartWrites saves format.unit_size parts l stored text (length parts) start) same_places built)
+
+  own_marked : (start : List (Prepared A)) → AreMarked format false directory places old start made
+      → AreMarked format false directory (new_places saves directory stored) old start made
+  own_marked start marked =
+      subst (λ (l : List NewPart). AreMarked format false directory (first_places directory (length l)) old start made) same_parts
+      (subst (λ (l : List ℕ). AreMarked format false directory l old start made) same_places marked)
 
   own_extent : record { units = length stored; parts = length parts; first = slice_index places 0 } ≡ extent_of saves directory stored
   own_extent =
@@ -258,12 +263,12 @@ module _ {A : Type 0} (format : Meaning) (laws : IsReadable format) (movable : I
       ap (λ (l : List NewPart). record { units = length stored; parts = length l; first = slice_index (first_places directory (length l)) 0 }) same_parts in
       first ∙ then
 
-  pub made_edit : HasPlacedWrites format saves directory parts places stored text old made → (entering : List Write)
+  pub made_edit : (start : List (Prepared A)) → HasPartWrites saves format.unit_size parts places stored text (length parts) (map write_of start)
+      → AreMarked format false directory places old start made → (entering : List Write)
       → entering ≡ saves.entering old.store path slot attributes (record { units = length stored; parts = length parts; first = slice_index places 0 })
       → (writes : List Write) → writes ≡ map write_of made ++ entering → length writes < 18446744073709551616
       → IsSaveEdit format saves old.store path attributes stored text writes
-  made_edit placed entering enters writes is few =
-      let own = own_writes placed in
-      save_edit format laws movable writable saves savable directory old path slot attributes stored text own.start made honest full accepted target short date enough
-      own.built own.marked writes
+  made_edit start built marked entering enters writes is few =
+      save_edit format laws movable writable saves savable directory old path slot attributes stored text start made honest full accepted target short date enough
+      (own_built (map write_of start) built) (own_marked start marked) writes
       (is ∙ ap (λ (l : List Write). map write_of made ++ l) (enters ∙ ap (saves.entering old.store path slot attributes) own_extent)) few

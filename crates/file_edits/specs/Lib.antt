@@ -1,7 +1,9 @@
 pub mod Answers
 pub mod Places
 pub mod Given
+pub mod Fitting
 pub mod Parts
 pub mod Saved
+pub mod Saving
 pub mod Slots
 pub mod Placing

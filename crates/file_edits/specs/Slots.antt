@@ -2,11 +2,11 @@
 use Rattle.std.specs.Prelude.{◌≡◌, ℕ, Bool, true, false, List, length, if◌then◌else◌, Result, Ok, Err}
 use Rattle.edit_formats.specs.declared.error.EditError.{EditError}
 use Rattle.edit_formats.specs.declared.error.EditError.TheVariants.{Check, NotFound, Name, Exists, TooLong, DirFull, Device, Memory}
-use Rattle.save_formats.specs.declared.target.Attributes.{Attributes}
 use Rattle.save_formats.specs.declared.target.Slot.{Slot}
 use Rattle.save_formats.specs.declared.target.Target.{Target}
 use Rattle.save_formats.specs.declared.target.Target.TheVariants.{NoDirectory, NoName, InUse, Full, At}
 use Rattle.save_formats.specs.Saves.{SaveMeaning}
+use Rattle.file_edits.specs.declared.given.NewFile.{NewFile}
 use Rattle.file_edits.specs.Saved.{IsVacant}
 
 -- The slot that a path leads to, for a file that is not too long. A name that can't be entered is told before the length, and the length before a directory that is full.
@@ -17,16 +17,23 @@ slot_or_refusal InUse long = Err Exists
 slot_or_refusal Full long = if long then Err TooLong else Err DirFull
 slot_or_refusal (At slot) long = if long then Err TooLong else Ok slot
 
+-- a file that can be entered: it may get its name, and it is not longer than a file can be
+pub record IsEnterable (saves : SaveMeaning) (file : NewFile) : Type 0 where
+  pub name : saves.may_have file.path.now ≡ true
+  pub short : saves.too_long file.attributes.now.eof (length file.stored.now) ≡ false
+
 -- what is told of the path and the length
-abbrev pub IsSlotTold : SaveMeaning → List (List ℕ) → List ℕ → Attributes → List Bool → Result Slot EditError → Type 0
-IsSlotTold saves store path attributes stored (Ok slot) = saves.IsTarget store path (At slot)
-IsSlotTold saves store path attributes stored (Err NotFound) = saves.IsTarget store path NoDirectory
-IsSlotTold saves store path attributes stored (Err Name) = saves.IsTarget store path NoName
-IsSlotTold saves store path attributes stored (Err Exists) = saves.IsTarget store path InUse
-IsSlotTold saves store path attributes stored (Err TooLong) =
-    ((target : Target) × saves.IsTarget store path target × IsVacant target) × (saves.too_long attributes.eof (length stored) ≡ true)
-IsSlotTold saves store path attributes stored (Err DirFull) = saves.IsTarget store path Full × (saves.too_long attributes.eof (length stored) ≡ false)
-IsSlotTold saves store path attributes stored (Err error) = Unit {0}
+abbrev pub IsSlotTold : SaveMeaning → List (List ℕ) → NewFile → Result Slot EditError → Type 0
+IsSlotTold saves store file (Ok slot) = saves.IsTarget store file.path.now (At slot)
+IsSlotTold saves store file (Err NotFound) = saves.IsTarget store file.path.now NoDirectory
+IsSlotTold saves store file (Err Name) = saves.IsTarget store file.path.now NoName
+IsSlotTold saves store file (Err Exists) = saves.IsTarget store file.path.now InUse
+IsSlotTold saves store file (Err TooLong) =
+    ((target : Target) × saves.IsTarget store file.path.now target × IsVacant target)
+    × (saves.too_long file.attributes.now.eof (length file.stored.now) ≡ true)
+IsSlotTold saves store file (Err DirFull) =
+    saves.IsTarget store file.path.now Full × (saves.too_long file.attributes.now.eof (length file.stored.now) ≡ false)
+IsSlotTold saves store file (Err error) = Unit {0}
 
 abbrev pub IsSlotRefusal : EditError → Type 0
 IsSlotRefusal Check = Unit {0}

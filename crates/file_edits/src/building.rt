@@ -22,7 +22,7 @@ ghost use Rattle.new_files.specs.Order.{part_at};
 ghost use Rattle.edit_formats.specs.declared.writes.Prepared.{Prepared};
 ghost use Rattle.edit_formats.specs.Prepared.{write_of};
 ghost use Rattle.file_edits.specs.Given.{given_unit};
-ghost use Rattle.file_edits.specs.Parts.{HasPartWrites, IsPartWrite};
+ghost use Rattle.file_edits.specs.Parts.{AreBuildable, HasPartWrites, IsPartWrite};
 
 use a2_device::PartKind;
 use edit_formats::{Prepared, behind};
@@ -30,24 +30,38 @@ use new_files::NewPart;
 use save_formats::SavableFormat;
 use std::alloc::{AllocError, Allocator};
 
-// Unit `number` of a file whose units stand one after the other; a hole is zeros.
+// The parts of a new file, each with its place.
+#[derive(Clone, Copy)]
+struct PlacedParts<'a> {
+    parts: &'a [NewPart],
+    places: &'a [u32],
+}
+
+// The units of a new file, each of a size, one after the other; those that are not stored are holes.
+#[derive(Clone, Copy)]
+struct GivenUnits<'a> {
+    size: usize,
+    stored: &'a [bool],
+    units: &'a [u8],
+}
+
+// Unit `number` of a file; a hole is zeros.
 fn given_unit<A: Allocator>(
     alloc: A,
-    size: usize,
-    stored: &[bool],
-    units: &[u8],
+    given: &GivenUnits<'_>,
     number: u32,
 ) -> Result<Vec<u8, A>, AllocError>
-    requires { size * length stored.now ≡ length units.now }
-    ensures value { IfOk result (λ unit. unit.items ≡ given_unit size stored.now units.now number) }
-    ensures size { IfOk result (λ unit. length unit.items ≡ size) }
+    requires { given.now.size * length given.now.stored.now ≡ length given.now.units.now }
+    ensures value { IfOk result (λ unit.
+        unit.items ≡ given_unit given.now.size given.now.stored.now given.now.units.now number) }
+    ensures size { IfOk result (λ unit. length unit.items ≡ given.now.size) }
 {
     let number = number as usize;
-    if number < stored.len() && stored[number] {
-        let from = size * number;
-        return Vec::from_slice(alloc, &units[from..from + size]);
+    if number < given.stored.len() && given.stored[number] {
+        let from = given.size * number;
+        return Vec::from_slice(alloc, &given.units[from..from + given.size]);
     }
-    vec![in alloc; 0; size]
+    vec![in alloc; 0; given.size]
 }
 
 // The unit of a table.
@@ -55,51 +69,42 @@ fn table_unit<F: SavableFormat, A: Allocator>(
     alloc: A,
     size: usize,
     format: &F,
-    parts: &[NewPart],
-    places: &[u32],
+    placed: &PlacedParts<'_>,
     at: usize,
 ) -> Result<Vec<u8, A>, AllocError>
     requires size { size ≡ (F.meaning format.now).unit_size }
-    requires parts { (stored : List Bool) × ((F.saves format.now).too_long 0 (length stored) ≡ false)
-        × (parts.now ≡ (F.saves format.now).parts stored) }
-    requires at { at < length parts.now }
-    requires table { (part_at parts.now at).kind ≢ Body }
-    requires count { length places.now ≡ length parts.now }
-    requires places { (count : ℕ) × All ((F.meaning format.now).CanName count) places.now }
-    ensures value { IfOk result (λ unit. (F.saves format.now).IsTable parts.now places.now at unit.items) }
+    requires placed { AreBuildable (F.meaning format.now) (F.saves format.now) placed.now }
+    requires at { at < length placed.now.parts.now }
+    requires table { (part_at placed.now.parts.now at).kind ≢ Body }
+    ensures value { IfOk result (λ unit.
+        (F.saves format.now).IsTable placed.now.parts.now placed.now.places.now at unit.items) }
     ensures size { IfOk result (λ unit. length unit.items ≡ size) }
 {
     let mut unit = vec![in alloc; 0; size]?;
-    format.build(parts, places, at, &mut unit);
+    format.build(placed.parts, placed.places, at, &mut unit);
     Ok(unit)
 }
 
 // The write of one part.
 fn part_write<F: SavableFormat, A: Allocator>(
     alloc: A,
-    size: usize,
     format: &F,
-    parts: &[NewPart],
-    places: &[u32],
-    stored: &[bool],
-    units: &[u8],
+    placed: &PlacedParts<'_>,
+    given: &GivenUnits<'_>,
     at: usize,
 ) -> Result<Prepared<A>, AllocError>
-    requires size { size ≡ (F.meaning format.now).unit_size }
-    requires parts { (stored : List Bool) × ((F.saves format.now).too_long 0 (length stored) ≡ false)
-        × (parts.now ≡ (F.saves format.now).parts stored) }
-    requires at { at < length parts.now }
-    requires count { length places.now ≡ length parts.now }
-    requires places { (count : ℕ) × All ((F.meaning format.now).CanName count) places.now }
-    requires units { size * length stored.now ≡ length units.now }
-    ensures { IfOk result (λ write.
-        IsPartWrite (F.saves format.now) size parts.now places.now stored.now units.now at (write_of write)) }
+    requires size { given.now.size ≡ (F.meaning format.now).unit_size }
+    requires placed { AreBuildable (F.meaning format.now) (F.saves format.now) placed.now }
+    requires units { given.now.size * length given.now.stored.now ≡ length given.now.units.now }
+    requires at { at < length placed.now.parts.now }
+    ensures { IfOk result (λ write. IsPartWrite (F.saves format.now) given.now.size placed.now.parts.now
+        placed.now.places.now given.now.stored.now given.now.units.now at (write_of write)) }
 {
-    let unit = match parts[at].kind {
-        PartKind::Body => given_unit(alloc, size, stored, units, parts[at].number)?,
-        _ => table_unit(alloc, size, format, parts, places, at)?,
+    let unit = match placed.parts[at].kind {
+        PartKind::Body => given_unit(alloc, given, placed.parts[at].number)?,
+        _ => table_unit(alloc, given.size, format, placed, at)?,
     };
-    let place = places[at];
+    let place = placed.places[at];
     Ok(Prepared { place, unit })
 }
 
@@ -125,9 +130,15 @@ pub fn part_writes<F: SavableFormat, A: Allocator + Copy>(
     ensures { IfOk result (λ writes. HasPartWrites (F.saves format.now) size parts.now places.now stored.now units.now
         (length parts.now) (map write_of writes.items)) }
 {
+    let placed = PlacedParts { parts, places };
+    let given = GivenUnits {
+        size,
+        stored,
+        units,
+    };
     let mut writes = Vec::new(alloc);
     for at in 0..parts.len() {
-        let write = part_write(alloc, size, format, parts, places, stored, units, at)?;
+        let write = part_write(alloc, format, &placed, &given, at)?;
         writes = behind(writes, write)?;
     }
     Ok(writes)

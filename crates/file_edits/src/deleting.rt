@@ -19,7 +19,7 @@ ghost use Rattle.edit_formats.specs.Deleted.{
 };
 ghost use Rattle.edit_formats.specs.Edited.{HasChanged, HasNoSuchFile};
 ghost use Rattle.edit_formats.specs.Lists.{without_named};
-ghost use Rattle.edit_formats.specs.Prepared.{write_of};
+ghost use Rattle.edit_formats.specs.Prepared.{AreOfSize, GoBelow, write_of};
 ghost use Rattle.edit_formats.specs.Refusal.{told_device};
 ghost use Rattle.edit_formats.specs.Renamed.{IsReadRefusal};
 ghost use Rattle.edit_formats.specs.Writes.{HasEdited};
@@ -66,10 +66,8 @@ fn deletion<D: Device, F: EditableFormat, A: Allocator + Copy>(
     // every device
     ensures device { OnlyReads (told_device result) (D.state device.old) (D.state device.new) }
     ensures refused { IfErr result IsReadRefusal }
-    ensures inside { IfOk result (λ writes.
-        All (λ (write : Prepared A). write.place < (D.state device.old).places) writes.items) }
-    ensures sizes { IfOk result (λ writes.
-        All (λ (write : Prepared A). length write.unit.items ≡ (D.state device.old).unit_size) writes.items) }
+    ensures inside { IfOk result (λ writes. GoBelow (D.state device.old).places writes.items) }
+    ensures sizes { IfOk result (λ writes. AreOfSize (D.state device.old).unit_size writes.items) }
     ensures few { IfOk result (λ writes. length (map write_of writes.items) < 18446744073709551616) }
 
     // an honest device with an accepted volume

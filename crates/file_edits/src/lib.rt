@@ -8,8 +8,9 @@
 //! A new file is given as its path, its attributes and its units, of which some may be holes (`specs/Given.antt`). Its
 //! parts get the first free places of the volume (`specs/Places.antt`, `places`); each part has its unit, that of the
 //! body as it is given and that of a table as the format builds it (`specs/Parts.antt`, `building`). Its entry gets the
-//! slot to which the path leads (`specs/Slots.antt`, `slots`). The writes are all made ready (`preparing`) before the
-//! first is made (`saving`). What saving leaves and why it is refused is told by `specs/Saved.antt`.
+//! slot to which the path leads (`specs/Slots.antt`, `slots`). The writes are all made ready (`specs/Placing.antt`,
+//! `preparing`) before the first is made (`saving`). What saving leaves and why it is refused is told by
+//! `specs/Saved.antt`.
 //!
 //! What always holds: all room is taken and all is weighed before the first write; a refusal leaves the device as it
 //! was; where a read or a write fails, the files are those of before or those of after.
@@ -19,6 +20,7 @@ mod answers;
 mod building;
 mod deleting;
 mod deletion;
+mod given;
 mod locking;
 mod naming;
 mod places;

@@ -17,18 +17,21 @@ ghost use Rattle.std.specs.Prelude.{
   IsTrue,
 };
 ghost use Rattle.a2_device.specs.Device.{OnlyReads};
-ghost use Rattle.vol_format.specs.Fits.{Fits};
 ghost use Rattle.vol_format.specs.Accepted.{IsAccepted};
-ghost use Rattle.edit_formats.specs.declared.writes.Prepared.{Prepared};
+ghost use Rattle.vol_format.specs.Fits.{Fits};
 ghost use Rattle.edit_formats.specs.Prepared.{write_of};
 ghost use Rattle.edit_formats.specs.Refusal.{told_device, IsPrepareRefusal};
 ghost use Rattle.save_formats.specs.declared.target.Target.TheVariants.{At};
 ghost use Rattle.save_formats.specs.Saves.{IsSlotWithin};
-ghost use Rattle.file_edits.specs.Places.{first_places};
-ghost use Rattle.file_edits.specs.Placing.{HasPlacedWrites};
-ghost use Rattle.file_edits.specs.Saved.{IsSaveEdit, IsSaveRefusal, IsSaveTold};
+ghost use Rattle.file_edits.specs.Fitting.{AreWritesFor};
+ghost use Rattle.file_edits.specs.Given.{HasUnitsOf};
+ghost use Rattle.file_edits.specs.Placing.{placed_extent, read_volume, HasFirstPlaces, HasPlacedWrites};
+ghost use Rattle.file_edits.specs.Saved.{IsSaveRefusal};
+ghost use Rattle.file_edits.specs.Saving.{saving_of, AreWritesOf, IsToldOf};
+ghost use Rattle.file_edits.specs.Slots.{IsEnterable};
 
 use crate::building::part_writes;
+use crate::given::NewFile;
 use crate::places::first_places;
 use crate::slots::free_slot;
 use a2_device::Device;
@@ -36,6 +39,15 @@ use edit_formats::{EditError, Prepared, mark_all};
 use new_files::{NewFileError, NewPart};
 use save_formats::{Attributes, Extent, SavableFormat, Slot};
 use std::alloc::{AllocError, Allocator};
+
+// A new file, and where it goes: its entry into a slot, and each of its parts to a place.
+#[derive(Clone, Copy)]
+struct PlacedFile<'a> {
+    file: NewFile<'a>,
+    slot: Slot,
+    parts: &'a [NewPart],
+    places: &'a [u32],
+}
 
 // The parts of a file that is not too long.
 fn parts_of<F: SavableFormat, A: Allocator>(
@@ -80,125 +92,99 @@ fn placed_writes<D: Device, F: SavableFormat, A: Allocator + Copy>(
     device: &mut D,
     format: &F,
     volume: &F::Volume,
-    parts: &[NewPart],
-    places: &[u32],
-    stored: &[bool],
-    units: &[u8],
+    placed: &PlacedFile<'_>,
 ) -> Result<Vec<Prepared<A>, A>, EditError>
     requires fits { Fits (F.meaning format.now) (D.state device.old) }
     requires volume { (F.directory format.now volume.now).places ≡ (D.state device.old).places }
-    requires short { (F.saves format.now).too_long 0 (length stored.now) ≡ false }
-    requires parts { parts.now ≡ (F.saves format.now).parts stored.now }
-    requires places { places.now ≡ first_places (F.directory format.now volume.now) (length parts.now) }
-    requires count { length places.now ≡ length parts.now }
-    requires units { (F.meaning format.now).unit_size * length stored.now ≡ length units.now }
+    requires short { (F.saves format.now).too_long 0 (length placed.now.file.stored.now) ≡ false }
+    requires places { HasFirstPlaces (F.saves format.now) (F.directory format.now volume.now) placed.now }
+    requires units { HasUnitsOf (F.meaning format.now) placed.now.file }
 
     ensures device { OnlyReads (told_device result) (D.state device.old) (D.state device.new) }
     ensures refused { IfErr result IsPrepareRefusal }
-    ensures inside { IfOk result (λ writes.
-        All (λ (write : Prepared A). write.place < (D.state device.old).places) writes.items) }
-    ensures sizes { IfOk result (λ writes.
-        All (λ (write : Prepared A). length write.unit.items ≡ (D.state device.old).unit_size) writes.items) }
-    ensures placed { IfOk result (λ writes.
-        HasPlacedWrites (F.meaning format.now) (F.saves format.now) (F.directory format.now volume.now)
-        parts.now places.now stored.now units.now (D.state device.old) writes.items) }
+    ensures fit { IfOk result (λ writes. AreWritesFor (D.state device.old) writes.items) }
+    ensures placed { IfOk result (λ writes. HasPlacedWrites (read_volume (F.meaning format.now) (F.saves format.now)
+        (F.directory format.now volume.now) (D.state device.old)) placed.now writes.items) }
 {
-    let start = part_writes(alloc, device.unit(), format, parts, places, stored, units)?;
-    mark_all(alloc, device, format, volume, places, false, start)
+    let start = part_writes(
+        alloc,
+        device.unit(),
+        format,
+        placed.parts,
+        placed.places,
+        placed.file.stored,
+        placed.file.units,
+    )?;
+    mark_all(alloc, device, format, volume, placed.places, false, start)
 }
 
-// The writes that enter a file of so many units and parts, which begins at a place.
+// The writes that enter a file.
 fn entry_writes<D: Device, F: SavableFormat, A: Allocator + Copy>(
     alloc: A,
     device: &mut D,
     format: &F,
-    path: &[u8],
-    slot: Slot,
-    attributes: &Attributes,
-    units: usize,
-    parts: usize,
-    first: u32,
+    placed: &PlacedFile<'_>,
 ) -> Result<Vec<Prepared<A>, A>, EditError>
     requires fits { Fits (F.meaning format.now) (D.state device.old) }
-    requires slot { IsSlotWithin (F.meaning format.now) (D.state device.old).places slot }
-    requires name { (F.saves format.now).may_have path.now ≡ true }
-    requires short { (F.saves format.now).too_long attributes.now.eof units ≡ false }
-    requires parts { parts < 65536 }
-    requires first { (count : ℕ) × (F.meaning format.now).CanName count first }
+    requires slot { IsSlotWithin (F.meaning format.now) (D.state device.old).places placed.now.slot }
+    requires enterable { IsEnterable (F.saves format.now) placed.now.file }
+    requires parts { length placed.now.parts.now < 65536 }
+    requires some { 0 < length placed.now.places.now }
+    requires places { (count : ℕ) × All ((F.meaning format.now).CanName count) placed.now.places.now }
 
     ensures device { OnlyReads (told_device result) (D.state device.old) (D.state device.new) }
     ensures refused { IfErr result IsPrepareRefusal }
-    ensures inside { IfOk result (λ writes.
-        All (λ (write : Prepared A). write.place < (D.state device.old).places) writes.items) }
-    ensures sizes { IfOk result (λ writes.
-        All (λ (write : Prepared A). length write.unit.items ≡ (D.state device.old).unit_size) writes.items) }
+    ensures fit { IfOk result (λ writes. AreWritesFor (D.state device.old) writes.items) }
     ensures enters { IsTrue (D.state device.old).honest → IfOk result (λ writes. map write_of writes.items
-        ≡ (F.saves format.now).entering (D.state device.old).store path.now slot attributes.now
-        (record { units = units; parts = parts; first = first })) }
+        ≡ (F.saves format.now).entering (D.state device.old).store placed.now.file.path.now placed.now.slot
+        placed.now.file.attributes.now (placed_extent placed.now)) }
 {
     let extent = Extent {
-        units: units as u32,
-        parts: parts as u16,
-        first,
+        units: placed.file.stored.len() as u32,
+        parts: placed.parts.len() as u16,
+        first: placed.places[0],
     };
-    format.enter(alloc, device, path, slot, attributes, &extent)
+    format.enter(
+        alloc,
+        device,
+        placed.file.path,
+        placed.slot,
+        placed.file.attributes,
+        &extent,
+    )
 }
 
-// The writes that save a file of these parts at these places, in a slot.
+// The writes that save a file whose parts have the first free places of the volume.
 fn writes_at<D: Device, F: SavableFormat, A: Allocator + Copy>(
     alloc: A,
     device: &mut D,
     format: &F,
     volume: &F::Volume,
-    path: &[u8],
-    slot: Slot,
-    attributes: &Attributes,
-    parts: &[NewPart],
-    places: &[u32],
-    stored: &[bool],
-    units: &[u8],
+    placed: &PlacedFile<'_>,
 ) -> Result<Vec<Prepared<A>, A>, EditError>
     requires fits { Fits (F.meaning format.now) (D.state device.old) }
     requires volume { (F.directory format.now volume.now).places ≡ (D.state device.old).places }
-    requires slot { IsSlotWithin (F.meaning format.now) (D.state device.old).places slot }
-    requires name { (F.saves format.now).may_have path.now ≡ true }
-    requires short { (F.saves format.now).too_long attributes.now.eof (length stored.now) ≡ false }
-    requires date { length attributes.now.date.0 ≡ 4 }
-    requires parts { parts.now ≡ (F.saves format.now).parts stored.now }
-    requires places { places.now ≡ first_places (F.directory format.now volume.now) (length parts.now) }
-    requires count { length places.now ≡ length parts.now }
-    requires units { (F.meaning format.now).unit_size * length stored.now ≡ length units.now }
+    requires slot { IsSlotWithin (F.meaning format.now) (D.state device.old).places placed.now.slot }
+    requires enterable { IsEnterable (F.saves format.now) placed.now.file }
+    requires date { length placed.now.file.attributes.now.date.0 ≡ 4 }
+    requires places { HasFirstPlaces (F.saves format.now) (F.directory format.now volume.now) placed.now }
+    requires units { HasUnitsOf (F.meaning format.now) placed.now.file }
 
     // every device
     ensures device { OnlyReads (told_device result) (D.state device.old) (D.state device.new) }
     ensures refused { IfErr result IsPrepareRefusal }
-    ensures inside { IfOk result (λ writes.
-        All (λ (write : Prepared A). write.place < (D.state device.old).places) writes.items) }
-    ensures sizes { IfOk result (λ writes.
-        All (λ (write : Prepared A). length write.unit.items ≡ (D.state device.old).unit_size) writes.items) }
+    ensures fit { IfOk result (λ writes. AreWritesFor (D.state device.old) writes.items) }
 
     // an honest device with an accepted volume, on which the path leads to the slot
     ensures saves { IsTrue (D.state device.old).honest
         → IsAccepted (F.meaning format.now) (F.directory format.now volume.now) (D.state device.old).store
-        → (F.saves format.now).IsTarget (D.state device.old).store path.now (At slot)
-        → IfOk result (λ writes. IsSaveEdit (F.meaning format.now) (F.saves format.now)
-        (D.state device.old).store path.now attributes.now stored.now units.now
-        (map write_of writes.items)) }
+        → (F.saves format.now).IsTarget (D.state device.old).store placed.now.file.path.now (At placed.now.slot)
+        → IfOk result (λ writes. AreWritesOf (saving_of (F.meaning format.now) (F.saves format.now)
+        (D.state device.old).store placed.now.file) (map write_of writes.items)) }
 {
-    let placed = placed_writes(alloc, device, format, volume, parts, places, stored, units)?;
-    let first = places[0];
-    let entering = entry_writes(
-        alloc,
-        device,
-        format,
-        path,
-        slot,
-        attributes,
-        stored.len(),
-        parts.len(),
-        first,
-    )?;
-    Ok(joined(placed, entering)?)
+    let placing = placed_writes(alloc, device, format, volume, placed)?;
+    let entering = entry_writes(alloc, device, format, placed)?;
+    Ok(joined(placing, entering)?)
 }
 
 // The writes that save a file to an accepted volume.
@@ -207,52 +193,38 @@ pub(crate) fn prepare<D: Device, F: SavableFormat, A: Allocator + Copy>(
     device: &mut D,
     format: &F,
     volume: &F::Volume,
-    path: &[u8],
-    attributes: &Attributes,
-    stored: &[bool],
-    units: &[u8],
+    file: &NewFile<'_>,
 ) -> Result<Vec<Prepared<A>, A>, EditError>
     requires fits { Fits (F.meaning format.now) (D.state device.old) }
     requires volume { (F.directory format.now volume.now).places ≡ (D.state device.old).places }
-    requires units { (F.meaning format.now).unit_size * length stored.now ≡ length units.now }
+    requires units { HasUnitsOf (F.meaning format.now) file.now }
 
     // every device
     ensures device { OnlyReads (told_device result) (D.state device.old) (D.state device.new) }
     ensures refused { IfErr result IsSaveRefusal }
-    ensures inside { IfOk result (λ writes.
-        All (λ (write : Prepared A). write.place < (D.state device.old).places) writes.items) }
-    ensures sizes { IfOk result (λ writes.
-        All (λ (write : Prepared A). length write.unit.items ≡ (D.state device.old).unit_size) writes.items) }
+    ensures fit { IfOk result (λ writes. AreWritesFor (D.state device.old) writes.items) }
 
     // an honest device with an accepted volume
     ensures saves { IsTrue (D.state device.old).honest
         → IsAccepted (F.meaning format.now) (F.directory format.now volume.now) (D.state device.old).store
-        → IfOk result (λ writes. IsSaveEdit (F.meaning format.now) (F.saves format.now)
-        (D.state device.old).store path.now attributes.now stored.now units.now
-        (map write_of writes.items)) }
+        → IfOk result (λ writes. AreWritesOf (saving_of (F.meaning format.now) (F.saves format.now)
+        (D.state device.old).store file.now) (map write_of writes.items)) }
     ensures told { IsTrue (D.state device.old).honest
         → IsAccepted (F.meaning format.now) (F.directory format.now volume.now) (D.state device.old).store
-        → IsSaveTold (F.meaning format.now) (F.saves format.now)
-        (D.state device.old).store path.now attributes.now stored.now result }
+        → IsToldOf (saving_of (F.meaning format.now) (F.saves format.now) (D.state device.old).store file.now) result }
     ensures described { IsTrue (D.state device.old).honest
         → (F.meaning format.now).Describes (D.state device.old).store (F.directory format.now volume.now)
         → result ≢ Err EditError.Check }
 {
-    measure_date(attributes);
-    let slot = free_slot(alloc, device, format, path, attributes, stored)?;
-    let parts = parts_of(alloc, format, stored)?;
+    measure_date(file.attributes);
+    let slot = free_slot(alloc, device, format, file)?;
+    let parts = parts_of(alloc, format, file.stored)?;
     let places = first_places(alloc, format, volume, parts.len())?;
-    writes_at(
-        alloc,
-        device,
-        format,
-        volume,
-        path,
+    let placed = PlacedFile {
+        file: *file,
         slot,
-        attributes,
-        parts.as_slice(),
-        places.as_slice(),
-        stored,
-        units,
-    )
+        parts: parts.as_slice(),
+        places: places.as_slice(),
+    };
+    writes_at(alloc, device, format, volume, &placed)
 }

@@ -3,10 +3,11 @@ ghost use Rattle.std.specs.Prelude.{◌≡◌, ◌*◌, length, Err, IfErr, IsTr
 ghost use Rattle.vol_format.specs.Fits.{Fits};
 ghost use Rattle.vol_format.specs.Accepted.{IsVolume};
 ghost use Rattle.edit_formats.specs.Writes.{HasEdited};
+ghost use Rattle.file_edits.specs.Given.{HasUnitsOf};
+ghost use Rattle.file_edits.specs.Saving.{saving_of, AreWritesOf, IsToldOf};
 ghost use Rattle.file_edits.specs.Saved.{
   IsSaveEdit,
   IsSaveRefusal,
-  IsSaveTold,
   HasSaved,
   IsOldOrSaved,
   HasNoDirectory,
@@ -17,6 +18,7 @@ ghost use Rattle.file_edits.specs.Saved.{
   HasFewPlaces,
 };
 
+use crate::given::NewFile;
 use crate::preparing::prepare;
 use a2_device::Device;
 use edit_formats::{EditError, write_all};
@@ -29,35 +31,21 @@ fn save_new<D: Device, F: SavableFormat, A: Allocator + Copy>(
     alloc: A,
     device: &mut D,
     format: &F,
-    path: &[u8],
-    attributes: &Attributes,
-    stored: &[bool],
-    units: &[u8],
+    file: &NewFile<'_>,
 ) -> Result<(), EditError>
     requires fits { Fits (F.meaning format.now) (D.state device.old) }
-    requires units { (F.meaning format.now).unit_size * length stored.now ≡ length units.now }
+    requires units { HasUnitsOf (F.meaning format.now) file.now }
 
-    ensures edited { HasEdited (IsSaveEdit (F.meaning format.now) (F.saves format.now)
-        (D.state device.old).store path.now attributes.now stored.now units.now)
-        result (D.state device.old) (D.state device.new) }
+    ensures edited { HasEdited (AreWritesOf (saving_of (F.meaning format.now) (F.saves format.now)
+        (D.state device.old).store file.now)) result (D.state device.old) (D.state device.new) }
     ensures refusals { IfErr result IsSaveRefusal }
     ensures check { IsTrue (D.state device.old).honest → result ≡ Err EditError.Check
         → IsVolume (F.meaning format.now) (D.state device.old).store → ⊥ }
     ensures told { IsTrue (D.state device.old).honest
-        → IsSaveTold (F.meaning format.now) (F.saves format.now)
-        (D.state device.old).store path.now attributes.now stored.now result }
+        → IsToldOf (saving_of (F.meaning format.now) (F.saves format.now) (D.state device.old).store file.now) result }
 {
     let checked = check(alloc, device, format)?;
-    let writes = prepare(
-        alloc,
-        device,
-        format,
-        checked.volume(),
-        path,
-        attributes,
-        stored,
-        units,
-    )?;
+    let writes = prepare(alloc, device, format, checked.volume(), file)?;
     write_all(device, writes.as_slice())
 }
 
@@ -115,5 +103,11 @@ pub fn save<D: Device, F: SavableFormat, A: Allocator + Copy>(
         → HasFewPlaces (F.meaning format.now) (F.saves format.now)
         (D.state device.old).store path.now attributes.now stored.now }
 {
-    save_new(alloc, device, format, path, attributes, stored, units)
+    let file = NewFile {
+        path,
+        attributes,
+        stored,
+        units,
+    };
+    save_new(alloc, device, format, &file)
 }

@@ -1,15 +1,16 @@
 // The free slot in which a new file is entered.
-ghost use Rattle.std.specs.Prelude.{◌≡◌, ◌≢◌, true, false, length, Err, IfErr, IfOk, IsTrue};
+ghost use Rattle.std.specs.Prelude.{◌≡◌, ◌≢◌, Err, IfErr, IfOk, IsTrue};
 ghost use Rattle.a2_device.specs.Device.{OnlyReads};
-ghost use Rattle.vol_format.specs.Fits.{Fits};
 ghost use Rattle.vol_format.specs.Directory.{Directory};
+ghost use Rattle.vol_format.specs.Fits.{Fits};
 ghost use Rattle.edit_formats.specs.Refusal.{told_device};
 ghost use Rattle.save_formats.specs.Saves.{IsSlotWithin};
-ghost use Rattle.file_edits.specs.Slots.{slot_or_refusal, IsSlotRefusal, IsSlotTold};
+ghost use Rattle.file_edits.specs.Slots.{slot_or_refusal, IsEnterable, IsSlotRefusal, IsSlotTold};
 
+use crate::given::NewFile;
 use a2_device::Device;
 use edit_formats::EditError;
-use save_formats::{Attributes, SavableFormat, Slot, Target};
+use save_formats::{SavableFormat, Slot, Target};
 use std::alloc::Allocator;
 
 // The slot that a path leads to, for a file that is not too long.
@@ -31,9 +32,7 @@ pub(crate) fn free_slot<D: Device, F: SavableFormat, A: Allocator + Copy>(
     alloc: A,
     device: &mut D,
     format: &F,
-    path: &[u8],
-    attributes: &Attributes,
-    stored: &[bool],
+    file: &NewFile<'_>,
 ) -> Result<Slot, EditError>
     requires fits { Fits (F.meaning format.now) (D.state device.old) }
 
@@ -41,17 +40,19 @@ pub(crate) fn free_slot<D: Device, F: SavableFormat, A: Allocator + Copy>(
     ensures device { OnlyReads (told_device result) (D.state device.old) (D.state device.new) }
     ensures refused { IfErr result IsSlotRefusal }
     ensures inside { IfOk result (IsSlotWithin (F.meaning format.now) (D.state device.old).places) }
-    ensures name { IfOk result (λ slot. (F.saves format.now).may_have path.now ≡ true) }
-    ensures short { IfOk result (λ slot. (F.saves format.now).too_long attributes.now.eof (length stored.now) ≡ false) }
+    ensures enterable { IfOk result (λ slot. IsEnterable (F.saves format.now) file.now) }
 
     // an honest device that has the directory
     ensures told { (directory : Directory) → IsTrue (D.state device.old).honest
         → (F.meaning format.now).Describes (D.state device.old).store directory
-        → IsSlotTold (F.saves format.now) (D.state device.old).store path.now attributes.now stored.now result }
+        → IsSlotTold (F.saves format.now) (D.state device.old).store file.now result }
     ensures described { (directory : Directory) → IsTrue (D.state device.old).honest
         → (F.meaning format.now).Describes (D.state device.old).store directory
         → result ≢ Err EditError.Check }
 {
-    let target = format.target(alloc, device, path)?;
-    slot_or_refusal(target, format.is_too_long(attributes.eof, stored.len()))
+    let target = format.target(alloc, device, file.path)?;
+    slot_or_refusal(
+        target,
+        format.is_too_long(file.attributes.eof, file.stored.len()),
+    )
 }

@@ -7,6 +7,9 @@
 //! (`specs/Ranking.antt`); `identify_reply` tells all readings that the image's length allows, and the verdict
 //! (`specs/IdentifyText.antt`, `specs/IdentifyReply.antt`); `best_reading` chooses among the readings in a file system,
 //! an order or both that are given (`specs/BestReading.antt`).
+//!
+//! What always holds: an image is read where it is lent, without a copy, and its bytes are as they were after each
+//! call; what is told of it follows from its bytes alone; and a reading is called best only where it beats every other.
 #![tactic(auto)]
 
 mod best;

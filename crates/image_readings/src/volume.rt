@@ -167,7 +167,7 @@ fn dos_finding(alloc: Global, disk: &Image) -> Result<Finding, AllocError>
 fn prodos_finding(alloc: Global, image: &Image) -> Result<Finding, AllocError>
     ensures { IfOk result (IsToldOf OfProdos (device_of OfProdos image.now)) }
 {
-    // An image has 16 to 65,535 blocks.
+    // Called for what its contract says: an image has 16 to 65,535 blocks.
     let _blocks = image.blocks();
     let mut device = LentDevice::prodos(image);
     match prodos_found(alloc, &mut device) {

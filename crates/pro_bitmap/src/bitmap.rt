@@ -113,7 +113,7 @@ impl<A: Allocator> Bitmap<A> {
         ensures units { IsTrue (D.state device.old).honest
             → IfOk result (λ map. map.units ≡ units_in (D.state device.old).store first (units_of total)) }
     {
-        // The places of a device fit their type.
+        // Called for what its contract says: the places of a device fit their type.
         let _places = device.places();
         let count = units_of(total);
         let mut units = vec![in alloc; [0; BLOCK_BYTES]; count as usize]?;

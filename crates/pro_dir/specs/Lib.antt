@@ -8,3 +8,4 @@ pub mod Paths
 pub mod Parents
 pub mod Walk
 pub mod lemmas
+pub mod Reading

@@ -53,7 +53,6 @@ ghost use Rattle.pro_dir.specs.Walk.{
   kept_slots,
   FewListed,
   HasMetMore,
-  IsTable,
   IsFollowing,
   IsListing,
   IsReadOut,
@@ -67,6 +66,7 @@ ghost use Rattle.pro_dir.specs.Walk.{
   whole_block,
   work,
 };
+ghost use Rattle.pro_dir.specs.Reading.{HasTable, KeepsEntries, KeepsFree};
 ghost use Rattle.pro_dir.specs.Within.{IsInSlot, IsKeptWithin, IsReadWithin, IsWaitingWithin};
 
 use crate::entry::{BLOCK_BYTES, ENTRIES, Entry};
@@ -163,8 +163,7 @@ impl<A: Allocator> Tree<A> {
             (reading.new.free ≡ option_or reading.old.free (first_free_of reading.old.key block unit.now)) }
         ensures within { (places : ℕ) → block < places → IsReadWithin places reading.old.key reading.old.free
             → OnOk result (IsReadWithin places reading.old.key reading.new.free) }
-        ensures same { (self.new.entries ≡ self.old.entries) × (self.new.pending ≡ self.old.pending)
-            × (self.new.free ≡ self.old.free) }
+        ensures same { KeepsEntries self.old self.new }
     {
         self.blocks.push(block)?;
         self.met[block as usize] = true;
@@ -195,8 +194,7 @@ impl<A: Allocator> Tree<A> {
             → OnOk result (IsReadWithin places reading.old.key reading.new.free) }
         ensures unit { IsTrue (D.state device.old).honest
             → OnOk result (unit.new ≡ unit_at (D.state device.old).store block) }
-        ensures same { (self.new.entries ≡ self.old.entries) × (self.new.pending ≡ self.old.pending)
-            × (self.new.free ≡ self.old.free) }
+        ensures same { KeepsEntries self.old self.new }
     {
         if device.read(block as u32, unit).is_err() {
             return Err(WalkError::Device);
@@ -213,10 +211,10 @@ impl<A: Allocator> Tree<A> {
         reading: &mut Reading,
     ) -> Result<(), WalkError>
         requires size { (D.state device.old).unit_size ≡ 512 }
-        requires table { IsTable (D.state device.old).places self.old.met.items self.old.blocks.items }
+        requires table { HasTable (D.state device.old).places self.old }
 
         ensures device { OnlyReads (met_device result) (D.state device.old) (D.state device.new) }
-        ensures table { OnOk result (IsTable (D.state device.old).places self.new.met.items self.new.blocks.items) }
+        ensures table { OnOk result (HasTable (D.state device.old).places self.new) }
         ensures more { OnOk result
             (HasMetMore self.old.met.items self.new.met.items self.old.blocks.items self.new.blocks.items) }
         ensures within { IsReadWithin (D.state device.old).places reading.old.key reading.old.free
@@ -232,8 +230,7 @@ impl<A: Allocator> Tree<A> {
             reading.old.free reading.old.key unit.old
             → IfErr result (λ e. (fault : Fault) → e ≡ AFault fault → (holder : ℕ) × (fault ≡ ADirLink holder)
             × HasBadLink (D.state device.old).store before reading.old.key holder) }
-        ensures same { (self.new.entries ≡ self.old.entries) × (self.new.pending ≡ self.old.pending)
-            × (self.new.free ≡ self.old.free) }
+        ensures same { KeepsEntries self.old self.new }
     {
         let mut holder = reading.key;
         let mut next = next_block(unit);
@@ -251,11 +248,11 @@ impl<A: Allocator> Tree<A> {
     // Reads the subdirectory that an entry names.
     fn open<D: Device>(&mut self, device: &mut D, entry: &Entry) -> Result<Reading, WalkError>
         requires size { (D.state device.old).unit_size ≡ 512 }
-        requires table { IsTable (D.state device.old).places self.old.met.items self.old.blocks.items }
+        requires table { HasTable (D.state device.old).places self.old }
 
         ensures device { OnlyReads (met_device result) (D.state device.old) (D.state device.new) }
         ensures table { IfOk result (λ reading.
-            IsTable (D.state device.old).places self.new.met.items self.new.blocks.items) }
+            HasTable (D.state device.old).places self.new) }
         ensures more { IfOk result (λ reading.
             HasMetMore self.old.met.items self.new.met.items self.old.blocks.items self.new.blocks.items) }
         ensures within { IfOk result (λ reading. IsReadWithin (D.state device.old).places reading.key reading.free) }
@@ -268,8 +265,7 @@ impl<A: Allocator> Tree<A> {
         ensures refused { IsTrue (D.state device.old).honest → IfErr result (λ e. (fault : Fault) → e ≡ AFault fault
             → SubdirectoryFaultAt (D.state device.old).store self.old.blocks.items entry.now.place
             (key_of entry.now) fault) }
-        ensures same { (self.new.entries ≡ self.old.entries) × (self.new.pending ≡ self.old.pending)
-            × (self.new.free ≡ self.old.free) }
+        ensures same { KeepsEntries self.old self.new }
     {
         let key = entry.key_block();
         if !self.is_new(device.places(), key as u32) {
@@ -354,18 +350,17 @@ impl<A: Allocator> Tree<A> {
     // Lists the entry of a subdirectory; what is inside it waits from then on.
     fn list_directory<D: Device>(&mut self, device: &mut D, entry: Entry) -> Result<(), WalkError>
         requires size { (D.state device.old).unit_size ≡ 512 }
-        requires table { IsTable (D.state device.old).places self.old.met.items self.old.blocks.items }
+        requires table { HasTable (D.state device.old).places self.old }
         requires directory { is_directory entry ≡ true }
 
         ensures device { OnlyReads (met_device result) (D.state device.old) (D.state device.new) }
-        ensures table { OnOk result (IsTable (D.state device.old).places self.new.met.items self.new.blocks.items) }
+        ensures table { OnOk result (HasTable (D.state device.old).places self.new) }
         ensures work { OnOk result
             (work self.new.met.items self.new.pending.items ≤ work self.old.met.items self.old.pending.items) }
         ensures entries { OnOk result (self.new.entries.items ≡ self.old.entries.items ++ entry ∷ []) }
         ensures waiting { All (IsWaitingWithin (D.state device.old).places) self.old.pending.items
             → OnOk result (All (IsWaitingWithin (D.state device.old).places) self.new.pending.items) }
-        ensures kept { All (IsKeptWithin (D.state device.old).places) self.old.free.items
-            → OnOk result (All (IsKeptWithin (D.state device.old).places) self.new.free.items) }
+        ensures kept { KeepsFree (D.state device.old).places self.old self.new result }
         ensures listed { IsTrue (D.state device.old).honest
             → IsListing (D.state device.old).store self.old.blocks.items self.old.entries.items
             (entry ∷ all_waiting (D.state device.old).store self.old.pending.items) self.old.free.items
@@ -420,11 +415,11 @@ impl<A: Allocator> Tree<A> {
     // inside it.
     fn list<D: Device>(&mut self, device: &mut D, slots: Waiting) -> Result<(), WalkError>
         requires size { (D.state device.old).unit_size ≡ 512 }
-        requires table { IsTable (D.state device.old).places self.old.met.items self.old.blocks.items }
+        requires table { HasTable (D.state device.old).places self.old }
         requires waiting { IsWaitingWithin (D.state device.old).places slots }
 
         ensures device { OnlyReads (met_device result) (D.state device.old) (D.state device.new) }
-        ensures table { OnOk result (IsTable (D.state device.old).places self.new.met.items self.new.blocks.items) }
+        ensures table { OnOk result (HasTable (D.state device.old).places self.new) }
         ensures work { OnOk result (work self.new.met.items self.new.pending.items
             < work self.old.met.items self.old.pending.items + left_in slots) }
         ensures few { OnOk result (length self.new.entries.items + work self.new.met.items self.new.pending.items
@@ -433,8 +428,7 @@ impl<A: Allocator> Tree<A> {
             → OnOk result (All (IsInSlot (D.state device.old).places) self.new.entries.items) }
         ensures waiting { All (IsWaitingWithin (D.state device.old).places) self.old.pending.items
             → OnOk result (All (IsWaitingWithin (D.state device.old).places) self.new.pending.items) }
-        ensures kept { All (IsKeptWithin (D.state device.old).places) self.old.free.items
-            → OnOk result (All (IsKeptWithin (D.state device.old).places) self.new.free.items) }
+        ensures kept { KeepsFree (D.state device.old).places self.old self.new result }
         ensures listed { IsTrue (D.state device.old).honest
             → IsListing (D.state device.old).store self.old.blocks.items self.old.entries.items
             (waiting_in (D.state device.old).store slots
@@ -461,15 +455,14 @@ impl<A: Allocator> Tree<A> {
     // Lists the entries that wait, and all that is inside them.
     fn list_all<D: Device>(&mut self, device: &mut D) -> Result<(), WalkError>
         requires size { (D.state device.old).unit_size ≡ 512 }
-        requires table { IsTable (D.state device.old).places self.old.met.items self.old.blocks.items }
+        requires table { HasTable (D.state device.old).places self.old }
         requires waiting { All (IsWaitingWithin (D.state device.old).places) self.old.pending.items }
 
         ensures device { OnlyReads (met_device result) (D.state device.old) (D.state device.new) }
-        ensures table { OnOk result (IsTable (D.state device.old).places self.new.met.items self.new.blocks.items) }
+        ensures table { OnOk result (HasTable (D.state device.old).places self.new) }
         ensures within { All (IsInSlot (D.state device.old).places) self.old.entries.items
             → OnOk result (All (IsInSlot (D.state device.old).places) self.new.entries.items) }
-        ensures kept { All (IsKeptWithin (D.state device.old).places) self.old.free.items
-            → OnOk result (All (IsKeptWithin (D.state device.old).places) self.new.free.items) }
+        ensures kept { KeepsFree (D.state device.old).places self.old self.new result }
         ensures few { OnOk result (length self.new.entries.items
             ≤ length self.old.entries.items + work self.old.met.items self.old.pending.items) }
         ensures listed { IsTrue (D.state device.old).honest
@@ -500,7 +493,7 @@ impl<A: Allocator> Tree<A> {
         requires places { 2 < (D.state device.old).places }
 
         ensures device { OnlyReads (met_device result) (D.state device.old) (D.state device.new) }
-        ensures table { IfOk result (λ tree. IsTable (D.state device.old).places tree.met.items tree.blocks.items) }
+        ensures table { IfOk result (λ tree. HasTable (D.state device.old).places tree) }
         ensures within { IfOk result (λ tree. All (IsInSlot (D.state device.old).places) tree.entries.items) }
         ensures waiting { IfOk result (λ tree. All (IsWaitingWithin (D.state device.old).places) tree.pending.items) }
         ensures kept { IfOk result (λ tree. All (IsKeptWithin (D.state device.old).places) tree.free.items) }
@@ -536,7 +529,7 @@ impl<A: Allocator> Tree<A> {
         requires places { 2 < (D.state device.old).places }
 
         ensures device { OnlyReads (met_device result) (D.state device.old) (D.state device.new) }
-        ensures table { IfOk result (λ tree. IsTable (D.state device.old).places tree.met.items tree.blocks.items) }
+        ensures table { IfOk result (λ tree. HasTable (D.state device.old).places tree) }
         ensures within { IfOk result (λ tree. All (IsInSlot (D.state device.old).places) tree.entries.items) }
         ensures kept { IfOk result (λ tree. All (IsKeptWithin (D.state device.old).places) tree.free.items) }
         ensures few { IfOk result (λ tree. length tree.entries.items ≤ 14 * (D.state device.old).places) }

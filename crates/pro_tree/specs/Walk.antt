@@ -6,6 +6,7 @@ use Rattle.a2_device.specs.declared.fault.Fault.{Fault}
 use Rattle.a2_device.specs.declared.fault.Fault.TheVariants.{OutOfRange, Shared, StorageType}
 use Rattle.vol_format.specs.declared.link.Link.{Link}
 use Rattle.vol_format.specs.declared.link.Link.TheVariants.{Wild, Directory as ToDirectory, OtherType, To}
+use Rattle.pro_tree.specs.declared.file_walk.FileWalk.{FileWalk}
 use Rattle.pro_tree.specs.File.{InFile}
 use Rattle.pro_tree.specs.Parts.{rank, named_by}
 
@@ -59,3 +60,7 @@ pub record IsTaking (store : List (List ℕ)) (part : Part) (old parts : List Pa
   pub pointers : AreTaken store part parts n
   pub walked : (file storage key : ℕ) → InFile store file storage key part → IsSoFar store file storage key (rank part + 1) old
       → IsSoFar store file storage key below parts
+
+-- where the places that were met were those of the parts, they are so still
+abbrev pub KeepsTable : {A : Type 0} → FileWalk A → FileWalk A → Type 0
+KeepsTable old new = IsTable old.met.items old.parts.items → IsTable new.met.items new.parts.items

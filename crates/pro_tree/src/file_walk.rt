@@ -32,8 +32,7 @@ ghost use Rattle.a2_device.specs.declared.fault.Fault.{Fault};
 ghost use Rattle.a2_device.specs.declared.fault.WalkError.TheVariants.{Fault as AFault, Device as ADevice};
 ghost use Rattle.vol_format.specs.declared.link.Link.TheVariants.{To};
 ghost use Rattle.pro_tree.specs.Parts.{IsPartsOf, HasNoWild, FileFaultAt, rank};
-ghost use Rattle.pro_tree.specs.Walk.{IsTame, IsRefusedAt, IsReached, IsTaking, part_named, parts_named};
-ghost use Rattle.a2_device.specs.Table.{IsTable};
+ghost use Rattle.pro_tree.specs.Walk.{IsTame, IsRefusedAt, IsReached, IsTaking, KeepsTable, part_named, parts_named};
 
 use crate::links::{child, root};
 use a2_device::{Device, Fault, Part, PartKind, WalkError};
@@ -91,8 +90,7 @@ impl<A: Allocator> FileWalk<A> {
         ensures tame { IfOk result (λ _. IsTame link) }
         ensures named { IfOk result (λ part. part ≡ part_named link) }
         ensures parts { IfOk result (λ _. self.new.parts.items ≡ self.old.parts.items ++ parts_named link) }
-        ensures table { IfOk result (λ _. IsTable self.old.met.items self.old.parts.items
-            → IsTable self.new.met.items self.new.parts.items) }
+        ensures table { IfOk result (λ _. KeepsTable self.old self.new) }
         ensures refused { IfErr result (λ e. (fault : Fault) → e ≡ AFault fault
             → IsRefusedAt self.old.met.items holder link fault) }
     {
@@ -119,8 +117,7 @@ impl<A: Allocator> FileWalk<A> {
         ensures places { self.new.places ≡ self.old.places }
         ensures size { length self.new.met.items ≡ length self.old.met.items }
         ensures no_device { IfErr result (λ e. e ≢ ADevice) }
-        ensures table { OnOk result
-            (IsTable self.old.met.items self.old.parts.items → IsTable self.new.met.items self.new.parts.items) }
+        ensures table { OnOk result (KeepsTable self.old self.new) }
         ensures taken { (store : List (List ℕ)) → length store ≡ self.old.places
             → unit_at store index.now.place ≡ unit.now
             → OnOk result (IsTaking store index.now self.old.parts.items self.new.parts.items 256
@@ -147,8 +144,7 @@ impl<A: Allocator> FileWalk<A> {
         ensures places { self.new.places ≡ self.old.places }
         ensures size { length self.new.met.items ≡ length self.old.met.items }
         ensures device { OnlyReads (met_device result) (D.state device.old) (D.state device.new) }
-        ensures table { OnOk result
-            (IsTable self.old.met.items self.old.parts.items → IsTable self.new.met.items self.new.parts.items) }
+        ensures table { OnOk result (KeepsTable self.old self.new) }
         ensures taken { IsTrue (D.state device.old).honest
             → OnOk result (IsTaking (D.state device.old).store index.now self.old.parts.items self.new.parts.items 256
             (rank index.now + 1 + 256)) }
@@ -173,8 +169,7 @@ impl<A: Allocator> FileWalk<A> {
         ensures places { self.new.places ≡ self.old.places }
         ensures size { length self.new.met.items ≡ length self.old.met.items }
         ensures device { OnlyReads (met_device result) (D.state device.old) (D.state device.new) }
-        ensures table { OnOk result
-            (IsTable self.old.met.items self.old.parts.items → IsTable self.new.met.items self.new.parts.items) }
+        ensures table { OnOk result (KeepsTable self.old self.new) }
         ensures taken { IsTrue (D.state device.old).honest
             → OnOk result (IsTaking
             (D.state device.old).store master.now self.old.parts.items self.new.parts.items 128 (1 + 257 * 128)) }
@@ -203,8 +198,7 @@ impl<A: Allocator> FileWalk<A> {
         requires number { part.now.number ≡ 0 }
         ensures size { length self.new.met.items ≡ length self.old.met.items }
         ensures device { OnlyReads (met_device result) (D.state device.old) (D.state device.new) }
-        ensures table { OnOk result
-            (IsTable self.old.met.items self.old.parts.items → IsTable self.new.met.items self.new.parts.items) }
+        ensures table { OnOk result (KeepsTable self.old self.new) }
         ensures taken { IsTrue (D.state device.old).honest
             → OnOk result ((below : ℕ)
             × IsTaking (D.state device.old).store part.now self.old.parts.items self.new.parts.items 256 below) }

@@ -33,7 +33,7 @@ pub trait SavableFormat: EditableFormat {
     ghost use Rattle.vol_format.specs.Directory.{Directory};
     ghost use Rattle.new_files.specs.Order.{part_at};
     ghost use Rattle.edit_formats.specs.declared.writes.Prepared.{Prepared};
-    ghost use Rattle.edit_formats.specs.Prepared.{write_of};
+    ghost use Rattle.edit_formats.specs.Prepared.{AreOfSize, GoBelow, write_of};
     ghost use Rattle.edit_formats.specs.Refusal.{told_device};
     ghost use Rattle.edit_formats.specs.Renamed.{IsReadRefusal};
     ghost use Rattle.save_formats.specs.Saves.{SaveMeaning, IsSavable, IsSlotWithin, IsTargetOf, IsTargetWithin};
@@ -116,10 +116,8 @@ pub trait SavableFormat: EditableFormat {
         ensures device { OnlyReads (told_device result) (D.state device.old) (D.state device.new) }
         ensures refused { IfErr result IsReadRefusal }
         ensures checked { result ≢ Err EditError.Check }
-        ensures inside { IfOk result (λ writes.
-            All (λ (write : Prepared A). write.place < (D.state device.old).places) writes.items) }
-        ensures sizes { IfOk result (λ writes.
-            All (λ (write : Prepared A). length write.unit.items ≡ (D.state device.old).unit_size) writes.items) }
+        ensures inside { IfOk result (λ writes. GoBelow (D.state device.old).places writes.items) }
+        ensures sizes { IfOk result (λ writes. AreOfSize (D.state device.old).unit_size writes.items) }
         ensures enters { IsTrue (D.state device.old).honest
             → IfOk result (λ writes. map write_of writes.items
             ≡ (saves self.now).entering (D.state device.old).store path.now slot attributes.now extent.now) };

@@ -1,61 +1,43 @@
 -- What the program answers to a job on an image, and to words.
-use Rattle.std.specs.Prelude.{◌≡◌, ◌⊎◌, ℕ, Bool, true, false, List, Option, Some, None, IfSome, IsSome, codes, string_bytes, option_map}
+use Rattle.std.specs.Prelude.{◌≡◌, ◌⊎◌, ℕ, Bool, true, false, List, [], Option, Some, None, IfSome, IsSome, codes, string_bytes, unwrap_or}
 use Rattle.std.specs.Io.KnownBytes.{Appends, Keeps}
 use Rattle.a2_device.specs.declared.order.Order.{Order}
 use Rattle.a2_device.specs.declared.order.Order.TheVariants as orders
 use Rattle.file_listings.specs.DosText.{Text}
 use Rattle.given_file.specs.Content.{GivenView}
 use Rattle.given_file.specs.Words.{dos_head, dos_kind, pro_kind}
-use Rattle.pro_dates.specs.SaidDates.{IsDateOf, NamesDate}
 use Rattle.given_file.specs.declared.content.Head.{Head}
 use Rattle.given_file.specs.declared.content.Head.TheVariants as heads
-use Rattle.shop_jobs.specs.Job.{JobView, SaveView, TargetView, ToFile, InPlace, catalog, check, read, convert, plan, optimize, edit, save, verify, identify}
-use Rattle.shop_words.specs.Job.{asked_job, IsTaken}
+use Rattle.pro_dates.specs.SaidDates.{IsDateOf, NamesDate}
+use Rattle.shop_jobs.specs.Job.{AskView, AttributesView, Catalog, ChangeOf, ChangeView, Convert, EditOf, Identify, JobView, LookAt, Optimize, Save}
+use Rattle.shop_jobs.specs.Paths.{from_of, is_in_place, named_order_of}
 use Rattle.shop_jobs.specs.declared.job.FileSystem.{FileSystem}
 use Rattle.shop_jobs.specs.declared.job.FileSystem.TheVariants as systems
-use Rattle.shop_jobs.specs.declared.job.SaveAttributes.{SaveAttributes}
 use Rattle.shop_jobs.specs.declared.job.VolumeOptions.{VolumeOptions}
+use Rattle.shop_words.specs.Job.{asked_job, IsTaken}
 use Rattle.shop_words.specs.Fault.{IsFaultOf}
 use Rattle.shop_words.specs.declared.fault.WordsFault.{WordsFault}
 use Rattle.shop_words.specs.declared.fault.WordsFault.TheVariants as words
 use Rattle.shop_replies.specs.declared.refusal.Failure.{Failure}
 use Rattle.shop_replies.specs.declared.refusal.Failure.TheVariants as failures
-use Rattle.shop_replies.specs.declared.reply.Reply.{Reply}
 use Rattle.shop_replies.specs.declared.refusal.Refusal.{Refusal}
 use Rattle.shop_replies.specs.declared.refusal.Refusal.TheVariants as refusals
-use Rattle.shop_replies.specs.Reply.{HandsImage, Held, IsDelivered, IsWritten, failed, failure_line, refused}
-use Rattle.volume_jobs.specs.DosCatalogReply.{IsDosCatalogReply}
-use Rattle.shop_replies.specs.Volume.{form_of, order_of}
-use Rattle.volume_jobs.specs.FileSystems.{edits_of, files_of}
-use Rattle.volume_jobs.specs.VolumeReply.{IsVolumeReply}
-use Rattle.volume_jobs.specs.Work.{IsWorkReply, WorkView, Catalog, Read, Check, Plan, Optimize, Change, Save, Verify}
+use Rattle.shop_replies.specs.declared.reply.Reply.{Reply}
 use Rattle.shop_replies.specs.ConvertReply.{IsConvertReply}
+use Rattle.shop_replies.specs.Reading.{IsReadFailure}
+use Rattle.shop_replies.specs.Reply.{HandsImage, Held, IsDelivered, IsWritten, failed, failure_line, refused}
+use Rattle.shop_reads.specs.Look.{IsLookReply, shown_by}
+use Rattle.shop_changes.specs.EditRules.{changed_by}
+use Rattle.shop_changes.specs.Work.{WorkView}
+use Rattle.shop_changes.specs.Work as works
+use Rattle.shop_image.specs.ChangeReply.{IsChangeReply}
+use Rattle.shop_image.specs.DosCatalogReply.{IsDosCatalogReply}
+use Rattle.shop_image.specs.VolumeReply.{IsVolumeReply}
 use Rattle.image_readings.specs.IdentifyReply.{IsIdentifyReply}
 
 -- the order by which it is known how many bytes to read at most: no order allows more than ProDOS order
-abbrev pub image_order_of : JobView → Order
-image_order_of (catalog path volume) = order_of volume.order
-image_order_of (check path volume reserve) = order_of volume.order
-image_order_of (read path name volume whole) = order_of volume.order
-image_order_of (plan path volume reserve reclaim in_words) = order_of volume.order
-image_order_of (optimize words reserve reclaim cert) = order_of words.volume.order
-image_order_of (edit path name volume change target reserve) = order_of volume.order
-image_order_of (save words reserve) = order_of words.volume.order
-image_order_of (verify path volume from reserve reclaim) = order_of volume.order
-image_order_of (convert words) = order_of words.order
-image_order_of (identify path) = orders.Prodos
-
--- the image is to be changed in its own file
-abbrev pub goes_in_place : TargetView → Bool
-goes_in_place (ToFile path) = false
-goes_in_place InPlace = true
-
--- the job changes the image in its own file
-abbrev pub is_in_place : JobView → Bool
-is_in_place (optimize words reserve reclaim cert) = goes_in_place words.target
-is_in_place (edit path name volume change target reserve) = goes_in_place target
-is_in_place (save words reserve) = goes_in_place words.target
-is_in_place job = false
+abbrev pub image_order_of : AskView → Order
+image_order_of ask = unwrap_or (named_order_of ask) orders.Prodos
 
 -- after how many writes to stop; without a limit there are never so many
 abbrev pub limit_of : Option ℕ → ℕ
@@ -65,10 +47,7 @@ limit_of (Some limit) = limit
 abbrev pub IsStatus : ℕ → Type 0
 IsStatus status = (status ≡ 0) ⊎ (status ≡ 1) ⊎ (status ≡ 3) ⊎ (status ≡ 4)
 
--- what is told of the volume in an image, where the words reserve places or not
-abbrev pub IsToldOf : VolumeOptions → Option Text → List ℕ → WorkView → Reply → Type 0
-IsToldOf volume reserve image work reply =
-    IsVolumeReply volume.file_system (order_of volume.order) volume.data_disk reserve image (IsWorkReply work (form_of volume.file_system) (files_of volume.file_system) (edits_of volume.file_system)) reply
+-- ---- what is asked of a volume
 
 -- the type that the words name, in a file system
 abbrev pub kind_of : FileSystem → Option Text → Option ℕ
@@ -79,18 +58,6 @@ kind_of systems.Prodos word = pro_kind word
 abbrev pub head_of : FileSystem → ℕ → Head
 head_of systems.Dos kind = dos_head kind
 head_of systems.Prodos kind = heads.None
-
--- what the words say of a new file
-pub record AttributesView : Type 0 where
-  pub kind : Option Text
-  pub aux : ℕ
-  pub date : Option Text
-
-abbrev pub attributes_view : SaveAttributes → AttributesView
-attributes_view a = record { kind = option_map string_bytes a.kind; aux = a.aux; date = option_map string_bytes a.date }
-
-abbrev pub attributes_of : SaveView → AttributesView
-attributes_of words = record { kind = words.kind; aux = words.aux; date = words.date }
 
 -- such words and these bytes give the file, in a file system
 pub record IsGiven (file_system : FileSystem) (words : AttributesView) (content : List ℕ) (given : GivenView) : Type 0 where
@@ -106,133 +73,102 @@ RefusesAttributes file_system words refusals.Type = kind_of file_system words.ki
 RefusesAttributes file_system words refusals.Date = IsSome (kind_of file_system words.kind) × ¬ NamesDate words.date
 RefusesAttributes file_system words refusal = ⊥
 
--- the volume that a job changes, and the places that it reserves there
-abbrev pub IsOnVolume : JobView → VolumeOptions → Option Text → Type 0
-IsOnVolume (optimize words reserve reclaim cert) volume said = (volume ≡ words.volume) × (said ≡ reserve)
-IsOnVolume (edit path name changed change target reserve) volume said = (volume ≡ changed) × (said ≡ reserve)
-IsOnVolume (save words reserve) volume said = (volume ≡ words.volume) × (said ≡ reserve)
-IsOnVolume job volume said = ⊥
+-- the work that a change asks of its volume, with the bytes of a file beside the image
+abbrev pub AsksFor : VolumeOptions → ChangeView → List ℕ → WorkView → Type 0
+AsksFor volume (Optimize reclaim stop_after cert) bytes work = work ≡ works.Optimize reclaim (limit_of stop_after)
+AsksFor volume (EditOf name edit) bytes work = work ≡ works.EditOf edit name
+AsksFor volume (Save name attributes from) bytes work =
+    (given : GivenView) × IsGiven volume.file_system attributes bytes given × (work ≡ works.Save name given)
 
--- what a job that changes its volume asks of it, with the bytes of a file beside the image
-abbrev pub AsksFor : JobView → List ℕ → WorkView → Type 0
-AsksFor (optimize words reserve reclaim cert) bytes work = work ≡ Optimize reclaim (limit_of words.stop_after)
-AsksFor (edit path name volume change target reserve) bytes work = work ≡ Change change name
-AsksFor (save words reserve) bytes work = (given : GivenView) × IsGiven words.volume.file_system (attributes_of words) bytes given × (work ≡ Save words.name given)
-AsksFor job bytes work = ⊥
+-- the words of a change are refused: those of a saving alone
+abbrev pub RefusesWords : VolumeOptions → ChangeView → Refusal → Type 0
+RefusesWords volume (Save name attributes from) refusal = RefusesAttributes volume.file_system attributes refusal
+RefusesWords volume change refusal = ⊥
 
--- what a job that only reads its volume asks of it, with the bytes of a file beside the image; none of any other job
-abbrev pub reading_of : JobView → List ℕ → Option WorkView
-reading_of (catalog path volume) bytes = Some Catalog
-reading_of (check path volume reserve) bytes = Some Check
-reading_of (read path name volume whole) bytes = Some (Read name whole)
-reading_of (plan path volume reserve reclaim in_words) bytes = Some (Plan reclaim in_words)
-reading_of (verify path volume from reserve reclaim) bytes = Some (Verify reclaim bytes)
-reading_of (optimize words reserve reclaim cert) bytes = None
-reading_of (edit path name volume change target reserve) bytes = None
-reading_of (save words reserve) bytes = None
-reading_of (convert words) bytes = None
-reading_of (identify path) bytes = None
+-- ---- what is told
 
--- the words of a job that changes its volume are refused: those of a saving alone
-abbrev pub RefusesWords : JobView → Refusal → Type 0
-RefusesWords (save words reserve) refusal = RefusesAttributes words.volume.file_system (attributes_of words) refusal
-RefusesWords job refusal = ⊥
+-- What is told of each job on these bytes of an image, with these bytes of the file beside it: of a look what it tells of
+-- the volume; of a change that its words are refused, or what the work that it asks for tells of the volume.
+abbrev pub IsReplyToBytes : AskView → List ℕ → List ℕ → Reply → Type 0
+IsReplyToBytes Identify image extra reply = IsIdentifyReply image reply
+IsReplyToBytes (Convert words) image extra reply = IsConvertReply words.order words.to words.volume image reply
+IsReplyToBytes (LookAt volume reserve look) image extra reply =
+    IsVolumeReply volume reserve image (λ reserved. IsLookReply look extra (shown_by volume reserved)) reply
+IsReplyToBytes (ChangeOf volume reserve change target) image extra reply =
+    ((refusal : Refusal) × (reply ≡ refused refusal) × RefusesWords volume change refusal)
+    ⊎ ((work : WorkView) × AsksFor volume change extra work
+    × IsVolumeReply volume reserve image (λ reserved. IsChangeReply work (changed_by volume reserved)) reply)
 
--- the reply to a saving of these bytes: its words are refused, or it is what is told of the volume
-abbrev pub IsSaveReply : SaveView → Option Text → List ℕ → List ℕ → Reply → Type 0
-IsSaveReply words reserve image bytes reply =
-    ((refusal : Refusal) × (reply ≡ refused refusal) × RefusesWords (save words reserve) refusal)
-    ⊎ ((work : WorkView) × AsksFor (save words reserve) bytes work × IsToldOf words.volume reserve image work reply)
+-- the bytes of the file beside the image, where they are known; a job that names no such file has none
+abbrev pub beside : Option Text → Option (List ℕ) → Option (List ℕ)
+beside None extra = Some []
+beside (Some path) extra = extra
 
--- what is told to a job of these bytes of an image, and of those of a file beside it where they are known
-abbrev pub IsReplyToBytes : JobView → List ℕ → Option (List ℕ) → Reply → Type 0
-IsReplyToBytes (catalog path volume) image extra reply = IsToldOf volume None image Catalog reply
-IsReplyToBytes (check path volume reserve) image extra reply = IsToldOf volume reserve image Check reply
-IsReplyToBytes (read path name volume whole) image extra reply = IsToldOf volume None image (Read name whole) reply
-IsReplyToBytes (plan path volume reserve reclaim in_words) image extra reply = IsToldOf volume reserve image (Plan reclaim in_words) reply
-IsReplyToBytes (optimize words reserve reclaim cert) image extra reply = IsToldOf words.volume reserve image (Optimize reclaim (limit_of words.stop_after)) reply
-IsReplyToBytes (edit path name volume change target reserve) image extra reply = IsToldOf volume reserve image (Change change name) reply
-IsReplyToBytes (save words reserve) image extra reply = IfSome extra (λ bytes. IsSaveReply words reserve image bytes reply)
-IsReplyToBytes (verify path volume from reserve reclaim) image extra reply = IfSome extra (λ bytes. IsToldOf volume reserve image (Verify reclaim bytes) reply)
-IsReplyToBytes (convert words) image extra reply = IsConvertReply (order_of words.order) (order_of words.to) words.volume image reply
-IsReplyToBytes (identify path) image extra reply = IsIdentifyReply image reply
+-- the reply to a job: `InPlace` where the image is to be changed in its own file, which bytes are not; else what is told of
+-- the bytes, where those of the file beside the image are known
+abbrev pub IsReplyTo : AskView → List ℕ → Option (List ℕ) → Reply → Type 0
+IsReplyTo ask image extra reply =
+    ((is_in_place ask ≡ true) × (reply ≡ refused refusals.InPlace))
+    ⊎ ((is_in_place ask ≡ false) × IfSome (beside (from_of ask) extra) (λ bytes. IsReplyToBytes ask image bytes reply))
 
--- the reply to a job: `InPlace` where the image is to be changed in its own file, which bytes are not; else what is told of the bytes
-abbrev pub IsReplyTo : JobView → List ℕ → Option (List ℕ) → Reply → Type 0
-IsReplyTo job image extra reply =
-    ((is_in_place job ≡ true) × (reply ≡ refused refusals.InPlace))
-    ⊎ ((is_in_place job ≡ false) × IsReplyToBytes job image extra reply)
+-- ---- what is read and written
 
 -- the job reads the image
-abbrev pub ReadsImage : JobView → Type 0
-ReadsImage job = is_in_place job ≡ false
+abbrev pub ReadsImage : AskView → Type 0
+ReadsImage ask = is_in_place ask ≡ false
 
 -- the job reads a file beside the image
-abbrev pub ReadsExtra : JobView → Type 0
-ReadsExtra (save words reserve) = goes_in_place words.target ≡ false
-ReadsExtra (verify path volume from reserve reclaim) = Unit {0}
-ReadsExtra job = ⊥
+abbrev pub ReadsExtra : AskView → Type 0
+ReadsExtra ask = IsSome (from_of ask) × (is_in_place ask ≡ false)
 
 -- the job only reads its volume
-abbrev pub ReadsVolume : JobView → Type 0
-ReadsVolume (catalog path volume) = Unit {0}
-ReadsVolume (check path volume reserve) = Unit {0}
-ReadsVolume (read path name volume whole) = Unit {0}
-ReadsVolume (plan path volume reserve reclaim in_words) = Unit {0}
-ReadsVolume (verify path volume from reserve reclaim) = Unit {0}
-ReadsVolume job = ⊥
+abbrev pub ReadsVolume : AskView → Type 0
+ReadsVolume (LookAt volume reserve look) = Unit {0}
+ReadsVolume ask = ⊥
 
 -- the job changes a volume
-abbrev pub ChangesVolume : JobView → Type 0
-ChangesVolume (optimize words reserve reclaim cert) = Unit {0}
-ChangesVolume (edit path name volume change target reserve) = Unit {0}
-ChangesVolume (save words reserve) = Unit {0}
-ChangesVolume job = ⊥
+abbrev pub ChangesVolume : AskView → Type 0
+ChangesVolume (ChangeOf volume reserve change target) = Unit {0}
+ChangesVolume ask = ⊥
 
 -- the job makes an image, for the output file
-abbrev pub MakesImage : JobView → Type 0
-MakesImage (catalog path volume) = ⊥
-MakesImage (check path volume reserve) = ⊥
-MakesImage (read path name volume whole) = ⊥
-MakesImage (plan path volume reserve reclaim in_words) = ⊥
-MakesImage (optimize words reserve reclaim cert) = goes_in_place words.target ≡ false
-MakesImage (edit path name volume change target reserve) = goes_in_place target ≡ false
-MakesImage (save words reserve) = goes_in_place words.target ≡ false
-MakesImage (verify path volume from reserve reclaim) = ⊥
-MakesImage (convert words) = Unit {0}
-MakesImage (identify path) = ⊥
+abbrev pub MakesImage : AskView → Type 0
+MakesImage Identify = ⊥
+MakesImage (Convert words) = Unit {0}
+MakesImage (LookAt volume reserve look) = ⊥
+MakesImage (ChangeOf volume reserve change target) = is_in_place (ChangeOf volume reserve change target) ≡ false
 
--- the image of a job is handed out, once its text is told: `OK` for a conversion, an edit or a saving, else that of the optimizer's reply
-abbrev pub HandsOutFor : JobView → ℕ → Option (List ℕ) → Option (List ℕ) → Type 0
-HandsOutFor (convert words) status old new = Appends old new (codes "OK\n") × ((status ≡ 0) ⊎ (status ≡ 4))
-HandsOutFor (edit path name volume change target reserve) status old new = Appends old new (codes "OK\n") × ((status ≡ 0) ⊎ (status ≡ 4))
-HandsOutFor (save words reserve) status old new = Appends old new (codes "OK\n") × ((status ≡ 0) ⊎ (status ≡ 4))
-HandsOutFor job status old new = HandsImage status old new
-
--- what may go wrong before the bytes are there: a reader fails, or there is no room for what it has
-abbrev pub IsReadFailure : Failure → Type 0
-IsReadFailure failure = (failure ≡ failures.Input) ⊎ (failure ≡ failures.Memory)
+-- the image of a job is handed out, once its text is told: `OK` for a conversion, an edit or a saving, else that of the
+-- optimizer's reply
+abbrev pub HandsOutFor : AskView → ℕ → Option (List ℕ) → Option (List ℕ) → Type 0
+HandsOutFor (Convert words) status old new = Appends old new (codes "OK\n") × ((status ≡ 0) ⊎ (status ≡ 4))
+HandsOutFor (ChangeOf volume reserve (EditOf name edit) target) status old new = Appends old new (codes "OK\n") × ((status ≡ 0) ⊎ (status ≡ 4))
+HandsOutFor (ChangeOf volume reserve (Save name attributes from) target) status old new = Appends old new (codes "OK\n") × ((status ≡ 0) ⊎ (status ≡ 4))
+HandsOutFor ask status old new = HandsImage status old new
 
 -- the bytes of a job that reads them could not be read
-abbrev pub IsUnread : JobView → Reply → Type 0
-IsUnread job reply = ReadsImage job × ((failure : Failure) × IsReadFailure failure × (reply ≡ failed failure))
+abbrev pub IsUnread : AskView → Reply → Type 0
+IsUnread ask reply = ReadsImage ask × ((failure : Failure) × IsReadFailure failure × (reply ≡ failed failure))
 
--- a job was answered by one reply, told and handed out behind what the writers had: the reply to its bytes, or that they could not be read
-abbrev pub IsAnswer : JobView → List ℕ → Option (List ℕ) → ℕ → Held → Held → Type 0
-IsAnswer job image extra status old new =
-    (reply : Reply) × (IsReplyTo job image extra reply ⊎ IsUnread job reply) × IsDelivered reply status old new
+-- a job was answered by one reply, told and handed out behind what the writers had: the reply to its bytes, or that they
+-- could not be read
+abbrev pub IsAnswer : AskView → List ℕ → Option (List ℕ) → ℕ → Held → Held → Type 0
+IsAnswer ask image extra status old new =
+    (reply : Reply) × (IsReplyTo ask image extra reply ⊎ IsUnread ask reply) × IsDelivered reply status old new
 
 -- a job in place was answered with `InPlace`, whatever the readers have
-abbrev pub IsInPlaceAnswer : JobView → ℕ → Held → Held → Type 0
-IsInPlaceAnswer job status old new = is_in_place job ≡ true → IsDelivered (refused refusals.InPlace) status old new
+abbrev pub IsInPlaceAnswer : AskView → ℕ → Held → Held → Type 0
+IsInPlaceAnswer ask status old new = is_in_place ask ≡ true → IsDelivered (refused refusals.InPlace) status old new
 
--- A job that lists a DOS 3.3 disk has such a reply. Of another job this says nothing.
-abbrev pub IsDosCatalogAnswer : JobView → List ℕ → ℕ → Held → Held → Type 0
-IsDosCatalogAnswer (catalog path volume) image status old new =
+-- A job that lists a DOS 3.3 disk has such a reply: no words of a listing reserve places. Of another job this says nothing.
+abbrev pub IsDosCatalogAnswer : AskView → List ℕ → ℕ → Held → Held → Type 0
+IsDosCatalogAnswer (LookAt volume None Catalog) image status old new =
     volume.file_system ≡ systems.Dos
-    → (reply : Reply) × (IsDosCatalogReply (order_of volume.order) image reply ⊎ ((failure : Failure) × IsReadFailure failure × (reply ≡ failed failure)))
+    → (reply : Reply) × (IsDosCatalogReply volume.order image reply ⊎ ((failure : Failure) × IsReadFailure failure × (reply ≡ failed failure)))
     × IsDelivered reply status old new
-IsDosCatalogAnswer job image status old new = Unit {0}
+IsDosCatalogAnswer ask image status old new = Unit {0}
+
+-- ---- words
 
 -- words that are no job were told: the help that they ask for, a refusal with the text for the user, or want of memory
 abbrev pub IsWordsAnswer : WordsFault → ℕ → Option (List ℕ) → Option (List ℕ) → Type 0
@@ -254,22 +190,22 @@ AreToldNoJob list status old new = TellsNoJob list status old.text new.text × K
 abbrev pub IsCommandAnswer : List Text → List ℕ → Option (List ℕ) → ℕ → Held → Held → Type 0
 IsCommandAnswer list image extra status old new =
     AreToldNoJob list status old new
-    ⊎ ((job : JobView) × (asked_job list ≡ Some job) × IsAnswer job image extra status old new)
+    ⊎ ((job : JobView) × (asked_job list ≡ Some job) × IsAnswer job.ask image extra status old new)
 
 -- words that ask for a job in place were answered with `InPlace` or as no job, whatever the readers have
 abbrev pub IsInPlaceCommandAnswer : List Text → ℕ → Held → Held → Type 0
-IsInPlaceCommandAnswer list status old new = (job : JobView) → asked_job list ≡ Some job → is_in_place job ≡ true
+IsInPlaceCommandAnswer list status old new = (job : JobView) → asked_job list ≡ Some job → is_in_place job.ask ≡ true
     → AreToldNoJob list status old new ⊎ IsDelivered (refused refusals.InPlace) status old new
 
 -- the image is read for the job that the words ask for
 abbrev pub CommandReadsImage : List Text → Type 0
-CommandReadsImage list = (job : JobView) × (asked_job list ≡ Some job) × ReadsImage job
+CommandReadsImage list = (job : JobView) × (asked_job list ≡ Some job) × ReadsImage job.ask
 
 -- a file beside the image is read for the job that the words ask for
 abbrev pub CommandReads : List Text → Type 0
-CommandReads list = (job : JobView) × (asked_job list ≡ Some job) × ReadsExtra job
+CommandReads list = (job : JobView) × (asked_job list ≡ Some job) × ReadsExtra job.ask
 
 -- an image was handed out for the job that the words ask for
 abbrev pub CommandHandsOut : List Text → ℕ → Option (List ℕ) → Option (List ℕ) → Type 0
 CommandHandsOut list status old new =
-    (job : JobView) × (asked_job list ≡ Some job) × MakesImage job × HandsOutFor job status old new
+    (job : JobView) × (asked_job list ≡ Some job) × MakesImage job.ask × HandsOutFor job.ask status old new

@@ -1,46 +1,38 @@
 -- What a job does to the device that has its volume, and what it tells of it.
-use Rattle.std.specs.Prelude.{◌≡◌, ◌≢◌, ◌⊎◌, List, ℕ, Some, IfSome, IsTrue}
+use Rattle.std.specs.Prelude.{◌≡◌, ◌⊎◌, ℕ, List, IfSome}
 use Rattle.a2_device.specs.Device.{DeviceState}
-use Rattle.shop_jobs.specs.Job.{JobView}
-use Rattle.shop_jobs.specs.Paths.{reserve_of, volume_of}
+use Rattle.shop_jobs.specs.Job.{AskView, ChangeOf, LookAt}
+use Rattle.shop_jobs.specs.Paths.{volume_of}
 use Rattle.shop_jobs.specs.declared.job.VolumeOptions.{VolumeOptions}
-use Rattle.shop_replies.specs.declared.refusal.Failure.TheVariants as failures
 use Rattle.shop_replies.specs.declared.refusal.Refusal.{Refusal}
 use Rattle.shop_replies.specs.declared.reply.Reply.{Reply}
-use Rattle.shop_replies.specs.Reply.{failed, refused}
-use Rattle.shop_replies.specs.Volume.{HasUnitsOf, form_of}
-use Rattle.volume_jobs.specs.FileSystems.{edits_of, files_of}
-use Rattle.volume_jobs.specs.Work.{IsWorkReply, WorkView}
-use Rattle.device_jobs.specs.Changing.{IsChangeOutcome, IsWorkOutcome}
-use Rattle.device_jobs.specs.Reading.{IsDeviceReply}
-use Rattle.device_jobs.specs.declared.outcome.Outcome.{Outcome}
-use Rattle.device_jobs.specs.declared.outcome.Outcome.TheVariants.{Unfinished}
-use Rattle.shop_commands.specs.Answer.{AsksFor, RefusesWords, reading_of}
+use Rattle.shop_replies.specs.Reply.{refused}
+use Rattle.shop_replies.specs.Volume.{HasUnitsOf}
+use Rattle.shop_reads.specs.Look.{IsLookReply, shown_by}
+use Rattle.shop_reads.specs.Reserving.{IsDeviceReply}
+use Rattle.shop_changes.specs.Changing.{IsChangeOutcome, IsWorkOutcome}
+use Rattle.shop_changes.specs.EditRules.{changed_by}
+use Rattle.shop_changes.specs.Work.{WorkView}
+use Rattle.shop_changes.specs.declared.outcome.Outcome.{Outcome}
+use Rattle.shop_changes.specs.declared.outcome.Outcome.TheVariants.{Unfinished}
+use Rattle.shop_commands.specs.Answer.{AsksFor, RefusesWords}
 
 -- the device has the units of the volume that the job names
-abbrev pub HasUnitsFor : JobView → DeviceState → Type 0
-HasUnitsFor job device = IfSome (volume_of job) (λ (volume : VolumeOptions). HasUnitsOf volume.file_system device)
+abbrev pub HasUnitsFor : AskView → DeviceState → Type 0
+HasUnitsFor ask device = IfSome (volume_of ask) (λ (volume : VolumeOptions). HasUnitsOf volume.file_system device)
 
--- A job that only reads its volume was told of a device, with these bytes of a file beside it: what its own work tells, of the volume and the reserved places of its words.
-pub record IsToldOnDevice (job : JobView) (bytes : List ℕ) (device : DeviceState) (reply : Reply) : Type 0 where
-  pub volume : VolumeOptions
-  pub of_words : volume_of job ≡ Some volume
-  pub work : WorkView
-  pub asked : reading_of job bytes ≡ Some work
-  pub told : IsDeviceReply volume.file_system volume.data_disk (reserve_of job)
-      (IsWorkReply work (form_of volume.file_system) (files_of volume.file_system) (edits_of volume.file_system)) device reply
+-- A job that only reads its volume was told of a device, with these bytes of a file beside it: what its own look tells, of
+-- the volume and the reserved places of its words.
+abbrev pub IsToldOnDevice : AskView → List ℕ → DeviceState → Reply → Type 0
+IsToldOnDevice (LookAt volume reserve look) bytes device reply =
+    IsDeviceReply volume.file_system reserve (λ reserved. IsLookReply look bytes (shown_by volume reserved) device reply) reply
+IsToldOnDevice ask bytes device reply = ⊥
 
--- A job that changes its volume was done on a device, with these bytes of a file beside it: the work that it asks for, on the volume and with the reserved places of its words.
-pub record IsDoneOnDevice (job : JobView) (bytes : List ℕ) (old new : DeviceState) (outcome : Outcome) : Type 0 where
-  pub volume : VolumeOptions
-  pub of_words : volume_of job ≡ Some volume
-  pub work : WorkView
-  pub asked : AsksFor job bytes work
-  pub done : IsChangeOutcome volume.file_system volume.data_disk (reserve_of job)
-      (IsWorkOutcome work (files_of volume.file_system) (edits_of volume.file_system)) old new outcome
-
--- its words are refused, and the device is as it was; or it was done
-abbrev pub IsJobOutcome : JobView → List ℕ → DeviceState → DeviceState → Outcome → Type 0
-IsJobOutcome job bytes old new outcome =
-    ((refusal : Refusal) × RefusesWords job refusal × (outcome ≡ Unfinished (refused refusal)) × (new ≡ old))
-    ⊎ IsDoneOnDevice job bytes old new outcome
+-- A job that changes its volume, with these bytes of a file beside it: its words are refused, and the device is as it was;
+-- or the work that it asks for was done on the device, on the volume and with the reserved places of its words.
+abbrev pub IsJobOutcome : AskView → List ℕ → DeviceState → DeviceState → Outcome → Type 0
+IsJobOutcome (ChangeOf volume reserve change target) bytes old new outcome =
+    ((refusal : Refusal) × RefusesWords volume change refusal × (outcome ≡ Unfinished (refused refusal)) × (new ≡ old))
+    ⊎ ((work : WorkView) × AsksFor volume change bytes work
+    × IsChangeOutcome volume.file_system reserve (λ reserved. IsWorkOutcome work (changed_by volume reserved)) old new outcome)
+IsJobOutcome ask bytes old new outcome = ⊥

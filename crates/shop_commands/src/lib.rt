@@ -1,16 +1,27 @@
 //! Commands of the workshop, from words to bytes.
 //!
-//! `run_job` turns the bytes of an image into one `Reply` by the jobs of `volume_jobs` and `shop_replies`, writes its text
-//! once and hands its image to the output file; `specs/Answer.antt` says which reply that is, by the job and the bytes.
-//! `job_of_words` is the job that words ask for, or tells why there is none: the program runs it, and `run_command` is
-//! `job_of_words` followed by `run_job`.
+//! A job is taken apart once, by what it asks. `reply_to` turns the bytes of an image into one `Reply`: a look and a
+//! change are those of `shop_image`, a conversion is that of `shop_replies`, and `identify` that of `image_readings`;
+//! `change_work` makes the work of a change, or refuses its words. `run_job` reads the bytes, writes the text of the
+//! reply once and hands its image to the output file. `job_of_words` is the job that words ask for, or tells why there
+//! is none: the program runs it, and `run_command` is `job_of_words` followed by `run_job`. On the device that has the
+//! volume, `read_job_on_device` tells of a look, and `run_job_in_place` does a change.
+//!
+//! The model: `specs/Answer.antt` says which reply comes, by the job and the bytes, and what words are answered;
+//! `specs/OnDevice.antt` says it of a device.
+//!
+//! What always holds: one reply is told, to the last byte of its text or to a front of it, and an image is handed out
+//! once its text is told; a job in place reads no bytes; and what is read beyond the image is the one file that the job
+//! names.
 #![tactic(auto)]
 
 mod command;
 mod input;
 mod job;
 mod on_device;
+mod work;
 
 pub use command::{job_of_words, run_command, tell_words_fault};
-pub use job::{is_in_place, only_reads, reading_work, reply_to, run_job, volume_work};
+pub use job::{only_reads, reply_to, run_job};
 pub use on_device::{read_job_on_device, run_job_in_place};
+pub use work::change_work;

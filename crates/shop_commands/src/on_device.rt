@@ -1,17 +1,18 @@
 // Jobs on the device that has their volume.
 ghost use Rattle.std.specs.Prelude.{◌≡◌, ◌≢◌, IsTrue};
 ghost use Rattle.a2_device.specs.Device.{OnlyReads};
-ghost use Rattle.shop_jobs.specs.Job.{job_view};
+ghost use Rattle.shop_jobs.specs.Job.{ask_view};
 ghost use Rattle.shop_replies.specs.declared.refusal.Failure.TheVariants.{Device as OfDevice};
 ghost use Rattle.shop_replies.specs.Reply.{failed};
-ghost use Rattle.reading_jobs.specs.TellingFailures.{tells_device};
+ghost use Rattle.shop_reads.specs.TellingFailures.{tells_device};
 ghost use Rattle.shop_commands.specs.Answer.{ChangesVolume, ReadsVolume};
 ghost use Rattle.shop_commands.specs.OnDevice.{HasUnitsFor, IsJobOutcome, IsToldOnDevice};
 
-use crate::job::{changed_volume, reading_work, volume_work};
+use crate::work::change_work;
 use a2_device::Device;
-use device_jobs::{Outcome, change_in_place, read_on_device};
-use shop_jobs::{Job, reserve_of, volume_of};
+use shop_changes::{Outcome, change_in_place};
+use shop_jobs::{Ask, Job};
+use shop_reads::look_on_device;
 use shop_replies::Reply;
 use std::alloc::Global;
 
@@ -23,16 +24,18 @@ pub fn read_job_on_device<D: Device>(
     extra: &[u8],
     device: &mut D,
 ) -> Reply
-    requires reading { ReadsVolume (job_view job.now) }
-    requires units { HasUnitsFor (job_view job.now) (D.state device.old) }
+    requires reading { ReadsVolume (ask_view job.now.ask) }
+    requires units { HasUnitsFor (ask_view job.now.ask) (D.state device.old) }
     ensures reads { OnlyReads (tells_device result) (D.state device.old) (D.state device.new) }
     ensures told { IsTrue (D.state device.old).honest → result ≢ failed OfDevice
-        → IsToldOnDevice (job_view job.now) extra.now (D.state device.old) result }
+        → IsToldOnDevice (ask_view job.now.ask) extra.now (D.state device.old) result }
 {
-    match (reading_work(job, extra), volume_of(job)) {
-        (Some(work), Some(volume)) => {
-            read_on_device(alloc, work, device, volume, reserve_of(job))
-        }
+    match &job.ask {
+        Ask::Look {
+            volume,
+            reserve,
+            look,
+        } => look_on_device(alloc, look, extra, device, *volume, reserve.as_deref()),
         _ => unreachable!(),
     }
 }
@@ -46,14 +49,20 @@ pub fn run_job_in_place<D: Device>(
     extra: &[u8],
     device: D,
 ) -> (Outcome, D)
-    requires changes { ChangesVolume (job_view job.now) }
-    requires units { HasUnitsFor (job_view job.now) (D.state device) }
-    ensures { IsJobOutcome (job_view job.now) extra.now (D.state device) (D.state result.1) result.0 }
+    requires changes { ChangesVolume (ask_view job.now.ask) }
+    requires units { HasUnitsFor (ask_view job.now.ask) (D.state device) }
+    ensures { IsJobOutcome (ask_view job.now.ask) extra.now (D.state device) (D.state result.1) result.0 }
 {
-    let work = match volume_work(job, extra) {
-        Ok(work) => work,
-        Err(refusal) => return (Outcome::Unfinished(Reply::refused(refusal)), device),
-    };
-    let (volume, reserve) = changed_volume(job);
-    change_in_place(alloc, work, device, volume, reserve)
+    match &job.ask {
+        Ask::Change {
+            volume,
+            reserve,
+            change,
+            ..
+        } => match change_work(*volume, change, extra) {
+            Ok(work) => change_in_place(alloc, work, device, *volume, reserve.as_deref()),
+            Err(refusal) => (Outcome::Unfinished(Reply::refused(refusal)), device),
+        },
+        _ => unreachable!(),
+    }
 }

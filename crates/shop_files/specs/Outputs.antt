@@ -1,5 +1,5 @@
 -- Where the paths of a job lead, and the files that it writes.
-use Rattle.std.specs.Prelude.{◌≡◌, ℕ, List, Option, Some, None}
+use Rattle.std.specs.Prelude.{◌≡◌, ◌⊎◌, ℕ, List, Option, Some, None, option_map}
 use Rattle.std.specs.declared.alloc.Global.{Global}
 use Rattle.shop_files.specs.declared.target.Target.{Target}
 use Rattle.shop_files.specs.declared.target.Target.TheVariants.{Nowhere}
@@ -9,17 +9,27 @@ use Rattle.shop_files.specs.Written.{GoesTo, IsUntouched}
 use Rattle.shop_files.specs.declared.output.Output.{Output}
 use Rattle.shop_files.specs.declared.output.Output.TheVariants.{Nothing}
 use Rattle.shop_files.specs.declared.files.JobFiles.{JobFiles}
+use Rattle.shop_files.specs.declared.files.NamedFile.{NamedFile}
 
 -- the file of a path that may be left out: none without a path, else a new one that goes to this target
 abbrev pub IsOutputOf : Option (List ℕ) → Target Global → Output → Type 0
 IsOutputOf None target output = output ≡ Nothing
 IsOutputOf (Some path) target output = GoesTo path target output × IsUntouched output
 
--- A path that a job does not name leads nowhere, and it is not asked which file standard input is where the image has
--- a path.
-pub record HasNoOther (job : JobView) (files : JobFiles) : Type 0 where
-  pub image : IsOnStandardInput job → files.image ≡ Nowhere
+-- A file has this path, or none; without a path it leads nowhere.
+pub record IsNamed (path : Option (List ℕ)) (file : NamedFile) : Type 0 where
+  pub same : option_map (λ s. s.now) file.path ≡ path
+  pub nowhere : path ≡ None → file.target ≡ Nowhere
+
+-- the path of the image: none where it comes from standard input
+abbrev pub IsImagePath : JobView → Option (List ℕ) → Type 0
+IsImagePath job path = (IsOnStandardInput job × (path ≡ None)) ⊎ ((¬ IsOnStandardInput job) × (path ≡ Some job.image))
+
+-- Each file has the path that the job names for it, and it is not asked which file standard input is where the image
+-- has a path.
+pub record NamesFiles (job : JobView) (files : JobFiles) : Type 0 where
+  pub image : (path : Option (List ℕ)) × IsImagePath job path × IsNamed path files.image
   pub input : ¬ IsOnStandardInput job → files.input ≡ None
-  pub from : from_of job ≡ None → files.from ≡ Nowhere
-  pub out : out_of job ≡ None → files.out ≡ Nowhere
-  pub certificate : certificate_of job ≡ None → files.certificate ≡ Nowhere
+  pub from : IsNamed (from_of job.ask) files.from
+  pub out : IsNamed (out_of job.ask) files.out
+  pub certificate : IsNamed (certificate_of job.ask) files.certificate

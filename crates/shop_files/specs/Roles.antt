@@ -83,11 +83,11 @@ image_identity (Some node) image = record { path = None; node = Some node }
 -- the files of a job, where its paths lead
 abbrev pub roles_of : JobFiles → Bool → RolesView
 roles_of files in_place = record {
-  image = image_identity files.input files.image;
+  image = image_identity files.input files.image.target;
   in_place = in_place;
-  from = identity_of files.from;
-  out = identity_of files.out;
-  certificate = identity_of files.certificate;
+  from = identity_of files.from.target;
+  out = identity_of files.out.target;
+  certificate = identity_of files.certificate.target;
 }
 
 -- the image is changed in its own file; or it is read, and its output file takes its place; or it is only read

@@ -1,8 +1,8 @@
 // Where the paths of a job lead.
-ghost use Rattle.std.specs.Prelude.{◌≡◌, ◌↔◌, IfErr, IfOk, IfSome, None, Ok, option_map};
+ghost use Rattle.std.specs.Prelude.{◌≡◌, ◌↔◌, IfErr, IfOk, IfSome, None, option_map};
 ghost use Rattle.std.specs.IoError.{error_kind};
 ghost use Rattle.shop_jobs.specs.Job.{job_view};
-ghost use Rattle.shop_files.specs.Outputs.{HasNoOther, IsOutputOf};
+ghost use Rattle.shop_files.specs.Outputs.{IsNamed, IsOutputOf, NamesFiles};
 ghost use Rattle.shop_files.specs.Roles.{HasClash, IsUse, identity_of, identity_view, image_identity, roles_of};
 ghost use Rattle.shop_files.specs.declared.clash.Clash.{Clash as AClash};
 
@@ -10,7 +10,7 @@ use crate::clash::{Clash, Roles};
 use crate::identity::{FileIdentity, is_same_file};
 use crate::image::ImageUse;
 use crate::{Node, Output, Target, target_of};
-use shop_jobs::{Job, certificate_path, from_path, image_path, is_on_standard_input, out_path};
+use shop_jobs::{Job, certificate_path, from_path, is_on_standard_input, out_path};
 use std::alloc::Global;
 use std::io::ErrorKind;
 use std::{fs, io};
@@ -24,25 +24,62 @@ const NONE: FileIdentity<'static> = FileIdentity {
     node: None,
 };
 
-/// Where the paths of a job lead, and which file standard input is where the image comes from there.
+/// A path that a job may name, and where it leads.
 #[derive(Drop)]
-pub struct JobFiles {
-    image: Target<Global>,
-    input: Option<Node>,
-    from: Target<Global>,
-    out: Target<Global>,
-    certificate: Target<Global>,
+struct NamedFile<'a> {
+    path: Option<&'a str>,
+    target: Target<Global>,
 }
 
-// Where a path leads that may be left out.
-fn target_at(rt: &HostRuntime, path: Option<&str>) -> io::Result<Target<Global>>
-    ensures none { path.entry ≡ None → result ≡ Ok Target.Nowhere }
-    ensures failed { IfErr result (λ error. error_kind error ≡ ErrorKind.OutOfMemory) }
-{
-    match path {
-        Some(path) => target_of(rt, rt.alloc(), path),
-        None => Ok(Target::Nowhere),
+impl<'a> NamedFile<'a> {
+    // Looks where a path leads; one that is left out leads nowhere.
+    fn of(rt: &HostRuntime, path: Option<&'a str>) -> io::Result<NamedFile<'a>>
+        ensures named { IfOk result (IsNamed (option_map (λ s. s.now) path.entry)) }
+        ensures failed { IfErr result (λ error. error_kind error ≡ ErrorKind.OutOfMemory) }
+    {
+        let target = match path {
+            Some(path) => target_of(rt, rt.alloc(), path)?,
+            None => Target::Nowhere,
+        };
+        Ok(NamedFile { path, target })
     }
+
+    // Which file stands or is to stand there.
+    fn identity(&self) -> FileIdentity<'_>
+        ensures { identity_view result ≡ identity_of self.now.target }
+    {
+        match &self.target {
+            Target::Place(place) => FileIdentity {
+                path: Some(place.path.as_str()),
+                node: match &place.standing {
+                    Some(standing) => Some(standing.node),
+                    None => None,
+                },
+            },
+            Target::Straight | Target::Nowhere => NONE,
+        }
+    }
+
+    // The file to be written there, if there is a path.
+    fn output<'b>(&'b self, rt: &'b HostRuntime) -> Output<'b>
+        ensures { IsOutputOf (option_map (λ s. s.now) self.now.path) self.now.target result }
+    {
+        match self.path {
+            Some(path) => Output::new(rt, path, &self.target),
+            None => Output::Nothing,
+        }
+    }
+}
+
+/// The files that a job names, where their paths lead, and which file standard input is where the image comes from
+/// there.
+#[derive(Drop)]
+pub struct JobFiles<'a> {
+    image: NamedFile<'a>,
+    input: Option<Node>,
+    from: NamedFile<'a>,
+    out: NamedFile<'a>,
+    certificate: NamedFile<'a>,
 }
 
 // Which file standard input is, if it is a regular one and the system shows it.
@@ -51,52 +88,36 @@ fn input_node(rt: &HostRuntime) -> Option<Node> {
     found.is_file().then_some(Node::of(&found))
 }
 
-// Which file stands or is to stand at a place.
-fn identity(target: &Target<Global>) -> FileIdentity<'_>
-    ensures { identity_view result ≡ identity_of target.now }
-{
-    match target {
-        Target::Place(place) => FileIdentity {
-            path: Some(place.path.as_str()),
-            node: match &place.standing {
-                Some(standing) => Some(standing.node),
-                None => None,
-            },
-        },
-        Target::Straight | Target::Nowhere => NONE,
-    }
-}
-
-impl JobFiles {
+impl<'a> JobFiles<'a> {
     /// Looks where the paths of a job lead.
     ///
     /// # Errors
     /// Want of memory.
-    pub fn of(rt: &HostRuntime, job: &Job) -> io::Result<JobFiles>
-        ensures none { IfOk result (HasNoOther (job_view job.now)) }
+    pub fn of(rt: &HostRuntime, job: &'a Job) -> io::Result<JobFiles<'a>>
+        ensures named { IfOk result (NamesFiles (job_view job.now)) }
         ensures failed { IfErr result (λ error. error_kind error ≡ ErrorKind.OutOfMemory) }
     {
         let is_input = is_on_standard_input(job);
-        let path = (!is_input).then_some(image_path(job));
+        let path = (!is_input).then_some(job.image.as_str());
         Ok(JobFiles {
-            image: target_at(rt, path)?,
+            image: NamedFile::of(rt, path)?,
             input: if is_input { input_node(rt) } else { None },
-            from: target_at(rt, from_path(job))?,
-            out: target_at(rt, out_path(job))?,
-            certificate: target_at(rt, certificate_path(job))?,
+            from: NamedFile::of(rt, from_path(job))?,
+            out: NamedFile::of(rt, out_path(job))?,
+            certificate: NamedFile::of(rt, certificate_path(job))?,
         })
     }
 
     // Which file the image is.
     fn image_identity(&self) -> FileIdentity<'_>
-        ensures { identity_view result ≡ image_identity self.now.input self.now.image }
+        ensures { identity_view result ≡ image_identity self.now.input self.now.image.target }
     {
         match self.input {
             Some(node) => FileIdentity {
                 path: None,
                 node: Some(node),
             },
-            None => identity(&self.image),
+            None => self.image.identity(),
         }
     }
 
@@ -108,9 +129,9 @@ impl JobFiles {
         let roles = Roles {
             image: self.image_identity(),
             in_place,
-            from: identity(&self.from),
-            out: identity(&self.out),
-            certificate: identity(&self.certificate),
+            from: self.from.identity(),
+            out: self.out.identity(),
+            certificate: self.certificate.identity(),
         };
         roles.clash()
     }
@@ -121,7 +142,7 @@ impl JobFiles {
     {
         if in_place {
             ImageUse::Change
-        } else if is_same_file(identity(&self.out), self.image_identity()) {
+        } else if is_same_file(self.out.identity(), self.image_identity()) {
             ImageUse::Replace
         } else {
             ImageUse::Read
@@ -129,34 +150,16 @@ impl JobFiles {
     }
 
     /// The output file of a job that has one, for its image.
-    pub fn output<'a>(&'a self, rt: &'a HostRuntime, path: Option<&'a str>) -> Output<'a>
-        ensures { IsOutputOf (option_map (λ s. s.now) path.entry) self.now.out result }
+    pub fn output<'b>(&'b self, rt: &'b HostRuntime) -> Output<'b>
+        ensures { IsOutputOf (option_map (λ s. s.now) self.now.out.path) self.now.out.target result }
     {
-        output_at(rt, path, &self.out)
+        self.out.output(rt)
     }
 
     /// The file of the certificate of a job that writes one.
-    pub fn certificate_output<'a>(
-        &'a self,
-        rt: &'a HostRuntime,
-        path: Option<&'a str>,
-    ) -> Output<'a>
-        ensures { IsOutputOf (option_map (λ s. s.now) path.entry) self.now.certificate result }
+    pub fn certificate_output<'b>(&'b self, rt: &'b HostRuntime) -> Output<'b>
+        ensures { IsOutputOf (option_map (λ s. s.now) self.now.certificate.path) self.now.certificate.target result }
     {
-        output_at(rt, path, &self.certificate)
-    }
-}
-
-// The file of a path, if there is one.
-fn output_at<'a>(
-    rt: &'a HostRuntime,
-    path: Option<&'a str>,
-    target: &'a Target<Global>,
-) -> Output<'a>
-    ensures { IsOutputOf (option_map (λ s. s.now) path.entry) target.now result }
-{
-    match path {
-        Some(path) => Output::new(rt, path, target),
-        None => Output::Nothing,
+        self.certificate.output(rt)
     }
 }

@@ -1,15 +1,14 @@
 // The image of a job, open.
 ghost use Rattle.std.specs.Prelude.{◌≡◌, ◌≢◌, ◌↔◌, ◌⊎◌, IfErr, IfOk, IsErrOf, IsTrue};
-ghost use Rattle.shop_replies.specs.declared.refusal.Failure.TheVariants.{Input, Memory};
+ghost use Rattle.shop_replies.specs.Reading.{IsReadFailure};
 ghost use Rattle.shop_replies.specs.Volume.{HasUnitsOf, kind_of};
 ghost use Rattle.shop_files.specs.Images.{StandsInItsFile};
 
-use crate::bytes::front_of;
 use crate::{ImageFault, Node};
 use a2_device::Device;
 use a2_media::{FileDevice, FileError, SystemFile, UnitKind};
 use shop_jobs::{FileSystem, VolumeOptions};
-use shop_replies::{Failure, order_of};
+use shop_replies::{Failure, read_front};
 use std::fs::{self, File, OpenOptions, TryLockError};
 use std::io;
 
@@ -66,7 +65,7 @@ fn unit_kind(file_system: FileSystem) -> UnitKind
 pub fn is_in_its_file(volume: VolumeOptions) -> bool
     ensures { IsTrue result ↔ StandsInItsFile volume }
 {
-    a2_media::is_in_place(order_of(volume.order), unit_kind(volume.file_system))
+    a2_media::is_in_place(volume.order, unit_kind(volume.file_system))
 }
 
 impl OpenImage {
@@ -104,11 +103,11 @@ impl OpenImage {
     /// # Errors
     /// `Input` where it can't be read, `Memory` where there is no room for it.
     pub fn bytes(&mut self, rt: &HostRuntime, most: u32) -> Result<Vec<u8>, Failure>
-        ensures { IfErr result (λ failure. (failure ≡ Input) ⊎ (failure ≡ Memory)) }
+        ensures { IfErr result IsReadFailure }
     {
         match self {
-            OpenImage::StandardInput => front_of(rt.alloc(), &mut rt.stdin(), most),
-            OpenImage::File(file) => front_of(rt.alloc(), file, most),
+            OpenImage::StandardInput => read_front(rt.alloc(), &mut rt.stdin(), most),
+            OpenImage::File(file) => read_front(rt.alloc(), file, most),
         }
     }
 
@@ -126,6 +125,6 @@ impl OpenImage {
             return Err(FileError::InPlace);
         };
         let kind = unit_kind(volume.file_system);
-        FileDevice::of_image(file, order_of(volume.order), kind)
+        FileDevice::of_image(file, volume.order, kind)
     }
 }

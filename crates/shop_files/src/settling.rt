@@ -8,18 +8,9 @@ use crate::output::Output;
 use shop_replies::{FAILED, Failure, Reply, written};
 use std::io::{ErrorKind, Write};
 
-// The certificate in what is told of a volume that was brought into order: all behind the first line.
-fn certificate_in(told: &[u8]) -> &[u8] {
-    match told.iter().position(|byte| *byte == b'\n') {
-        Some(end) => &told[end + 1..],
-        None => &[],
-    }
-}
-
-/// Ends a job that has told its text to memory and handed its image to a file: the certificate of a job that is done is
-/// written to its own file, both are put onto the disk, then the text is told, and then they take their places. Where
-/// one of these fails, what stood at the places stands, and the status is 4; of an image that is not on the disk,
-/// nothing is told.
+/// Ends a job that has told its text to memory, and handed its image to a file and its certificate to another or none:
+/// both are put onto the disk, then the text is told, and then they take their places. Where one of these fails, what
+/// stood at the places stands, and the status is 4; of an image that is not on the disk, nothing is told.
 ///
 /// The certificate takes its place first. It tells the layout of the image that stood there before, so where the image
 /// can't take its own place then, it is good for the one that stands.
@@ -38,10 +29,6 @@ pub fn settle<T: Write>(
 {
     if out.is_empty() {
         return tell(status, told, text);
-    }
-    if status == 0 {
-        // A failure stays with the file, which then can't be put onto the disk.
-        let _ = certificate.write_all(certificate_in(told));
     }
     if let Err((kind, unwritten)) = flush_both(&mut out, &mut certificate) {
         discard_both(out, certificate);

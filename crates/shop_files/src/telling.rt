@@ -5,7 +5,6 @@ ghost use Rattle.shop_files.specs.Endings.{nothing_found};
 use crate::ending::Unwritten;
 use a2_device::Order;
 use explanations::{Explanation, FINDINGS, REFUSALS, explained};
-use shop_jobs::ImageOrder;
 use shop_replies::most_bytes;
 use shop_words::escaped;
 use std::{fmt, io};
@@ -33,7 +32,7 @@ pub struct Found {
     /// The path of the certificate's file.
     pub certificate: Option<String>,
     /// The order that the job names for its image.
-    pub order: Option<ImageOrder>,
+    pub order: Option<Order>,
     /// How many bytes were read of the image.
     pub bytes: Option<usize>,
     /// Why the image was not opened.
@@ -87,14 +86,14 @@ impl fmt::Display for Grouped {
 }
 
 // How many bytes an image has in an order, or where none is named.
-fn wanted_length(order: Option<ImageOrder>) -> &'static str {
+fn wanted_length(order: Option<Order>) -> &'static str {
     match order {
-        Some(ImageOrder::Dos) => "An image in DOS order has 143,360 bytes.",
-        Some(ImageOrder::Prodos) => {
+        Some(Order::Dos) => "An image in DOS order has 143,360 bytes.",
+        Some(Order::Prodos) => {
             "An image in ProDOS order has 143,360 bytes, or of a ProDOS volume of another size 16 to 65,535 blocks of \
                 512 bytes."
         }
-        Some(ImageOrder::Nibble) => "An image in nibble order has 232,960 bytes.",
+        Some(Order::Nibble) => "An image in nibble order has 232,960 bytes.",
         None => {
             "An image has 143,360 bytes, in nibble order 232,960, or in ProDOS order 16 to 65,535 blocks of 512 bytes."
         }

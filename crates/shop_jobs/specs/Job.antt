@@ -1,26 +1,24 @@
 -- What the workshop is asked for, as contracts see it: with texts for its words.
 use Rattle.std.specs.Prelude.{ℕ, Bool, List, Option, string_bytes, option_map}
-use Rattle.shop_jobs.specs.declared.job.ImageOrder.{ImageOrder}
+use Rattle.a2_device.specs.declared.order.Order.{Order}
 use Rattle.shop_jobs.specs.declared.job.VolumeOptions.{VolumeOptions}
 use Rattle.shop_jobs.specs.declared.job.Edit.{Edit}
 use Rattle.shop_jobs.specs.declared.job.Edit.TheVariants as edits
+use Rattle.shop_jobs.specs.declared.job.SaveAttributes.{SaveAttributes}
 use Rattle.shop_jobs.specs.declared.job.Target.{Target}
 use Rattle.shop_jobs.specs.declared.job.Target.TheVariants as targets
+use Rattle.shop_jobs.specs.declared.job.Look.{Look}
+use Rattle.shop_jobs.specs.declared.job.Look.TheVariants as looks
+use Rattle.shop_jobs.specs.declared.job.Change.{Change}
+use Rattle.shop_jobs.specs.declared.job.Change.TheVariants as changes
+use Rattle.shop_jobs.specs.declared.job.Ask.{Ask}
+use Rattle.shop_jobs.specs.declared.job.Ask.TheVariants as asks
 use Rattle.shop_jobs.specs.declared.job.Job.{Job}
-use Rattle.shop_jobs.specs.declared.job.Job.TheVariants as jobs
 
 abbrev pub Text : Type 0
 Text = List ℕ
 
--- a conversion as contracts see it, with texts for its words
-pub record ConversionView : Type 0 where
-  pub image : Text
-  pub order : ImageOrder
-  pub to : ImageOrder
-  pub out : Text
-  pub volume : ℕ
-
--- where an image goes, as contracts see it
+-- where an image goes
 pub data TargetView : Type 0 where
   ToFile : Text → TargetView
   InPlace : TargetView
@@ -29,14 +27,7 @@ abbrev pub target_view : Target → TargetView
 target_view (targets.File path) = ToFile (string_bytes path)
 target_view targets.InPlace = InPlace
 
--- an optimization as contracts see it, but for its reserved places, whether it reclaims, and the file of its certificate
-pub record OptimizationView : Type 0 where
-  pub image : Text
-  pub volume : VolumeOptions
-  pub target : TargetView
-  pub stop_after : Option ℕ
-
--- what is changed of a file, as contracts see it
+-- what is changed of a file
 pub data EditView : Type 0 where
   Lock : EditView
   Unlock : EditView
@@ -49,55 +40,70 @@ edit_view edits.Unlock = Unlock
 edit_view edits.Delete = Delete
 edit_view (edits.Rename new) = Rename (string_bytes new)
 
--- a new file as contracts see it, but for the volume's reserved places
-pub record SaveView : Type 0 where
-  pub image : Text
-  pub name : Text
-  pub volume : VolumeOptions
+-- what is said of a new file
+pub record AttributesView : Type 0 where
   pub kind : Option Text
   pub aux : ℕ
   pub date : Option Text
-  pub from : Text
-  pub target : TargetView
 
--- a job as contracts see it
-pub data JobView : Type 0 where
-  catalog : Text → VolumeOptions → JobView
-  check : Text → VolumeOptions → Option Text → JobView
-  read : Text → Text → VolumeOptions → Bool → JobView
-  convert : ConversionView → JobView
-  plan : Text → VolumeOptions → Option Text → Bool → Bool → JobView
-  optimize : OptimizationView → Option Text → Bool → Option Text → JobView
-  edit : Text → Text → VolumeOptions → EditView → TargetView → Option Text → JobView
-  save : SaveView → Option Text → JobView
-  verify : Text → VolumeOptions → Text → Option Text → Bool → JobView
-  identify : Text → JobView
+abbrev pub attributes_view : SaveAttributes → AttributesView
+attributes_view a = record { kind = option_map string_bytes a.kind; aux = a.aux; date = option_map string_bytes a.date }
+
+-- what is asked of a volume that is only read: of a file its name, and whether it is read whole; of a plan whether it
+-- reclaims, and whether it is told in words; of a certificate the path of its file, and whether it reclaims
+pub data LookView : Type 0 where
+  Catalog : LookView
+  Check : LookView
+  Read : Text → Bool → LookView
+  Plan : Bool → Bool → LookView
+  Verify : Text → Bool → LookView
+
+abbrev pub look_view : Look → LookView
+look_view looks.Catalog = Catalog
+look_view looks.Check = Check
+look_view (looks.Read name whole) = Read (string_bytes name) whole
+look_view (looks.Plan reclaim in_words) = Plan reclaim in_words
+look_view (looks.Verify from reclaim) = Verify (string_bytes from) reclaim
+
+-- what is changed of a volume: of its order whether lost places are reclaimed, after how many writes to stop, and the
+-- path of the certificate's file; of a file its name and its edit; of a new file its name, what is said of it, and the
+-- path of the file whose bytes are saved
+pub data ChangeView : Type 0 where
+  Optimize : Bool → Option ℕ → Option Text → ChangeView
+  EditOf : Text → EditView → ChangeView
+  Save : Text → AttributesView → Text → ChangeView
+
+abbrev pub change_view : Change → ChangeView
+change_view (changes.Optimize reclaim stop_after cert) = Optimize reclaim stop_after (option_map string_bytes cert)
+change_view (changes.Edit name edit) = EditOf (string_bytes name) (edit_view edit)
+change_view (changes.Save name attributes from) = Save (string_bytes name) (attributes_view attributes) (string_bytes from)
+
+-- a conversion
+pub record ConversionView : Type 0 where
+  pub order : Order
+  pub to : Order
+  pub out : Text
+  pub volume : ℕ
+
+-- what is asked
+pub data AskView : Type 0 where
+  Identify : AskView
+  Convert : ConversionView → AskView
+  LookAt : VolumeOptions → Option Text → LookView → AskView
+  ChangeOf : VolumeOptions → Option Text → ChangeView → TargetView → AskView
+
+abbrev pub ask_view : Ask → AskView
+ask_view asks.Identify = Identify
+ask_view (asks.Convert order to out volume) =
+    Convert (record { order = order; to = to; out = string_bytes out; volume = volume })
+ask_view (asks.Look volume reserve look) = LookAt volume (option_map string_bytes reserve) (look_view look)
+ask_view (asks.Change volume reserve change target) =
+    ChangeOf volume (option_map string_bytes reserve) (change_view change) (target_view target)
+
+-- a job
+pub record JobView : Type 0 where
+  pub image : Text
+  pub ask : AskView
 
 abbrev pub job_view : Job → JobView
-job_view (jobs.Catalog image volume) = catalog (string_bytes image) volume
-job_view (jobs.Check image volume reserve) = check (string_bytes image) volume (option_map string_bytes reserve)
-job_view (jobs.Read image name volume whole) = read (string_bytes image) (string_bytes name) volume whole
-job_view (jobs.Convert image order to out volume) = convert (record {
-  image = string_bytes image;
-  order = order;
-  to = to;
-  out = string_bytes out;
-  volume = volume;
-})
-job_view (jobs.Plan image volume reserve reclaim in_words) = plan (string_bytes image) volume (option_map string_bytes reserve) reclaim in_words
-job_view (jobs.Optimize image volume target reserve reclaim stop_after cert) =
-    optimize (record { image = string_bytes image; volume = volume; target = target_view target; stop_after = stop_after })
-    (option_map string_bytes reserve) reclaim (option_map string_bytes cert)
-job_view (jobs.Edit image name volume change target reserve) = edit (string_bytes image) (string_bytes name) volume (edit_view change) (target_view target) (option_map string_bytes reserve)
-job_view (jobs.Save image name volume attributes from target reserve) = save (record {
-  image = string_bytes image;
-  name = string_bytes name;
-  volume = volume;
-  kind = option_map string_bytes attributes.kind;
-  aux = attributes.aux;
-  date = option_map string_bytes attributes.date;
-  from = string_bytes from;
-  target = target_view target;
-}) (option_map string_bytes reserve)
-job_view (jobs.Verify image volume from reserve reclaim) = verify (string_bytes image) volume (string_bytes from) (option_map string_bytes reserve) reclaim
-job_view (jobs.Identify image) = identify (string_bytes image)
+job_view job = record { image = string_bytes job.image; ask = ask_view job.ask }

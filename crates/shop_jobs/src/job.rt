@@ -1,4 +1,5 @@
 // What the workshop is asked for.
+use a2_device::Order;
 
 /// The file system of a volume, `--fs`.
 #[derive(Clone, Copy, Debug, PartialEq, Eq)]
@@ -9,22 +10,11 @@ pub enum FileSystem {
     Prodos,
 }
 
-/// The order in which an image has its sectors, `--order`.
-#[derive(Clone, Copy, Debug, PartialEq, Eq)]
-pub enum ImageOrder {
-    /// Track by track, and in a track by logical sector.
-    Dos,
-    /// By block.
-    Prodos,
-    /// Track by track, as disk bytes.
-    Nibble,
-}
-
 /// What an image is read as.
 #[derive(Clone, Copy, Debug, PartialEq, Eq)]
 pub struct VolumeOptions {
     pub file_system: FileSystem,
-    pub order: ImageOrder,
+    pub order: Order,
     /// Whether files may stand on tracks 1 and 2, where other disks have DOS.
     pub data_disk: bool,
 }
@@ -62,65 +52,41 @@ pub enum Target {
     InPlace,
 }
 
-/// A command with its words.
+/// What is asked of a volume that is only read.
 #[derive(Debug, PartialEq, Eq, Drop)]
-pub enum Job {
-    /// Lists the files of a volume.
-    Catalog {
-        /// The path of the image's file; `-` is standard input.
-        image: String,
-        volume: VolumeOptions,
-    },
-    /// Tells whether a volume is accepted, or what is wrong with it.
-    Check {
-        /// The path of the image's file; `-` is standard input.
-        image: String,
-        volume: VolumeOptions,
-        /// The places that are kept for the system beside its own, as the words name them.
-        reserve: Option<String>,
-    },
-    /// Reads a file of a volume.
+pub enum Look {
+    /// Its files, listed.
+    Catalog,
+    /// Whether it is accepted, or what is wrong with it.
+    Check,
+    /// The contents of a file.
     Read {
-        /// The path of the image's file; `-` is standard input.
-        image: String,
         /// The name of the file in the volume.
         name: String,
-        volume: VolumeOptions,
         /// Whether all bytes of the file's units are wanted, and not its body alone.
         whole: bool,
     },
-    /// Writes the sectors of an image in another order.
-    Convert {
-        /// The path of the image's file; `-` is standard input.
-        image: String,
-        order: ImageOrder,
-        /// The order that is written.
-        to: ImageOrder,
-        /// The path of the file that is written.
-        out: String,
-        /// The volume number of tracks that are made.
-        volume: u8,
-    },
-    /// Tells the fewest moves that bring the files of a volume into order.
+    /// The fewest moves that bring its files into order.
     Plan {
-        /// The path of the image's file; `-` is standard input.
-        image: String,
-        volume: VolumeOptions,
-        /// The places that are kept for the system beside its own, as the words name them.
-        reserve: Option<String>,
         /// Whether lost places are marked free.
         reclaim: bool,
         /// Whether the moves are told in words, and not as a certificate.
         words: bool,
     },
-    /// Brings the files of a volume into order.
+    /// Whether a certificate shows that no plan is shorter.
+    Verify {
+        /// The path of the certificate's file.
+        from: String,
+        /// Whether lost places are marked free.
+        reclaim: bool,
+    },
+}
+
+/// What is changed of a volume.
+#[derive(Debug, PartialEq, Eq, Drop)]
+pub enum Change {
+    /// Its files are brought into order.
     Optimize {
-        /// The path of the image's file; `-` is standard input.
-        image: String,
-        volume: VolumeOptions,
-        target: Target,
-        /// The places that are kept for the system beside its own, as the words name them.
-        reserve: Option<String>,
         /// Whether lost places are marked free.
         reclaim: bool,
         /// After how many writes to stop; `None` is when all is done.
@@ -128,47 +94,59 @@ pub enum Job {
         /// The path of the file that the certificate is written to.
         cert: Option<String>,
     },
-    /// Changes a file of a volume.
+    /// A file of it is changed.
     Edit {
-        /// The path of the image's file; `-` is standard input.
-        image: String,
         /// The name of the file in the volume.
         name: String,
-        volume: VolumeOptions,
         edit: Edit,
-        target: Target,
-        /// The places that are kept for the system beside its own, as the words name them.
-        reserve: Option<String>,
     },
-    /// Saves a new file to a volume.
+    /// A new file is saved to it.
     Save {
-        /// The path of the image's file; `-` is standard input.
-        image: String,
         /// The name of the file in the volume.
         name: String,
-        volume: VolumeOptions,
         attributes: SaveAttributes,
         /// The path of the file whose bytes are saved.
         from: String,
-        target: Target,
-        /// The places that are kept for the system beside its own, as the words name them.
-        reserve: Option<String>,
     },
-    /// Tells whether a certificate shows that no plan is shorter.
-    Verify {
-        /// The path of the image's file; `-` is standard input.
-        image: String,
+}
+
+/// What is asked, with what is its own of each command.
+#[derive(Debug, PartialEq, Eq, Drop)]
+pub enum Ask {
+    /// In which file systems and orders the image can be read, and which of them is best.
+    Identify,
+    /// The sectors of the image in another order.
+    Convert {
+        /// The order of the image.
+        order: Order,
+        /// The order that is written.
+        to: Order,
+        /// The path of the file that is written.
+        out: String,
+        /// The volume number of tracks that are made.
+        volume: u8,
+    },
+    /// What the image's volume holds.
+    Look {
         volume: VolumeOptions,
-        /// The path of the certificate's file.
-        from: String,
         /// The places that are kept for the system beside its own, as the words name them.
         reserve: Option<String>,
-        /// Whether lost places are marked free.
-        reclaim: bool,
+        look: Look,
     },
-    /// Tells in which file systems and orders an image can be read, and which of them is best.
-    Identify {
-        /// The path of the image's file; `-` is standard input.
-        image: String,
+    /// A change of the image's volume.
+    Change {
+        volume: VolumeOptions,
+        /// The places that are kept for the system beside its own, as the words name them.
+        reserve: Option<String>,
+        change: Change,
+        target: Target,
     },
+}
+
+/// A command with its words.
+#[derive(Debug, PartialEq, Eq, Drop)]
+pub struct Job {
+    /// The path of the image's file; `-` is standard input.
+    pub image: String,
+    pub ask: Ask,
 }

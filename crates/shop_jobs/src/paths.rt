@@ -1,56 +1,56 @@
-// The files and the image order that a job names.
+// The files that a job names, and how it reads its image.
 ghost use Rattle.std.specs.Prelude.{◌≡◌, ◌↔◌, IsTrue, option_map};
-ghost use Rattle.shop_jobs.specs.Job.{job_view, target_view};
+ghost use Rattle.shop_jobs.specs.Job.{ask_view, job_view, target_view};
 ghost use Rattle.shop_jobs.specs.Paths.{
   IsOnStandardInput,
   certificate_of,
   file_of,
   from_of,
-  image_of,
+  is_in_place as goes_in_place,
   named_order_of,
   out_of,
   reserve_of as said_places,
   volume_of as read_as,
 };
 
-use crate::{ImageOrder, Job, Target, VolumeOptions};
+use crate::{Ask, Change, Job, Look, Target, VolumeOptions};
+use a2_device::Order;
 
 /// The word that stands for standard input.
 const STANDARD_INPUT: &str = "-";
-
-/// The path of the image that a job names.
-pub fn image_path(job: &Job) -> &str
-    ensures { result.now ≡ image_of (job_view job.now) }
-{
-    match job {
-        Job::Catalog { image, .. }
-        | Job::Check { image, .. }
-        | Job::Read { image, .. }
-        | Job::Plan { image, .. }
-        | Job::Optimize { image, .. }
-        | Job::Edit { image, .. }
-        | Job::Save { image, .. }
-        | Job::Verify { image, .. }
-        | Job::Convert { image, .. }
-        | Job::Identify { image } => image.as_str(),
-    }
-}
-
-/// The path of the file that a job reads beside its image.
-pub fn from_path(job: &Job) -> Option<&str>
-    ensures { option_map (λ s. s.now) result ≡ from_of (job_view job.now) }
-{
-    match job {
-        Job::Save { from, .. } | Job::Verify { from, .. } => Some(from.as_str()),
-        _ => None,
-    }
-}
 
 /// Whether a job reads its image from standard input.
 pub fn is_on_standard_input(job: &Job) -> bool
     ensures { IsTrue result ↔ IsOnStandardInput (job_view job.now) }
 {
-    image_path(job) == STANDARD_INPUT
+    job.image.as_str() == STANDARD_INPUT
+}
+
+/// Whether a job changes the image in its own file.
+pub fn is_in_place(job: &Job) -> bool
+    ensures { result ≡ goes_in_place (ask_view job.now.ask) }
+{
+    match &job.ask {
+        Ask::Change { target, .. } => matches!(target, Target::InPlace),
+        _ => false,
+    }
+}
+
+/// The path of the file that a job reads beside its image.
+pub fn from_path(job: &Job) -> Option<&str>
+    ensures { option_map (λ s. s.now) result ≡ from_of (ask_view job.now.ask) }
+{
+    match &job.ask {
+        Ask::Look {
+            look: Look::Verify { from, .. },
+            ..
+        }
+        | Ask::Change {
+            change: Change::Save { from, .. },
+            ..
+        } => Some(from.as_str()),
+        _ => None,
+    }
 }
 
 // The path of the file that an image goes to.
@@ -65,70 +65,55 @@ fn file_of(target: &Target) -> Option<&str>
 
 /// The path of the file that a job writes.
 pub fn out_path(job: &Job) -> Option<&str>
-    ensures { option_map (λ s. s.now) result ≡ out_of (job_view job.now) }
+    ensures { option_map (λ s. s.now) result ≡ out_of (ask_view job.now.ask) }
 {
-    match job {
-        Job::Catalog { .. }
-        | Job::Check { .. }
-        | Job::Read { .. }
-        | Job::Plan { .. }
-        | Job::Verify { .. }
-        | Job::Identify { .. } => None,
-        Job::Convert { out, .. } => Some(out.as_str()),
-        Job::Optimize { target, .. } | Job::Edit { target, .. } | Job::Save { target, .. } => {
-            file_of(target)
-        }
+    match &job.ask {
+        Ask::Convert { out, .. } => Some(out.as_str()),
+        Ask::Change { target, .. } => file_of(target),
+        Ask::Identify | Ask::Look { .. } => None,
     }
 }
 
 /// The path of the file that a job writes its certificate to.
 pub fn certificate_path(job: &Job) -> Option<&str>
-    ensures { option_map (λ s. s.now) result ≡ certificate_of (job_view job.now) }
+    ensures { option_map (λ s. s.now) result ≡ certificate_of (ask_view job.now.ask) }
 {
-    match job {
-        Job::Optimize { cert, .. } => cert.as_deref(),
+    match &job.ask {
+        Ask::Change {
+            change: Change::Optimize { cert, .. },
+            ..
+        } => cert.as_deref(),
         _ => None,
     }
 }
 
 /// What a job reads its image as; `None` where it wants no file system.
 pub fn volume_of(job: &Job) -> Option<VolumeOptions>
-    ensures { result ≡ read_as (job_view job.now) }
+    ensures { result ≡ read_as (ask_view job.now.ask) }
 {
-    match job {
-        Job::Catalog { volume, .. }
-        | Job::Check { volume, .. }
-        | Job::Read { volume, .. }
-        | Job::Plan { volume, .. }
-        | Job::Optimize { volume, .. }
-        | Job::Edit { volume, .. }
-        | Job::Save { volume, .. }
-        | Job::Verify { volume, .. } => Some(*volume),
-        Job::Convert { .. } | Job::Identify { .. } => None,
+    match &job.ask {
+        Ask::Look { volume, .. } | Ask::Change { volume, .. } => Some(*volume),
+        Ask::Identify | Ask::Convert { .. } => None,
     }
 }
 
 /// The places that a job reserves.
 pub fn reserve_of(job: &Job) -> Option<&str>
-    ensures { option_map (λ s. s.now) result ≡ said_places (job_view job.now) }
+    ensures { option_map (λ s. s.now) result ≡ said_places (ask_view job.now.ask) }
 {
-    match job {
-        Job::Check { reserve, .. }
-        | Job::Plan { reserve, .. }
-        | Job::Optimize { reserve, .. }
-        | Job::Edit { reserve, .. }
-        | Job::Save { reserve, .. }
-        | Job::Verify { reserve, .. } => reserve.as_deref(),
-        Job::Catalog { .. } | Job::Read { .. } | Job::Convert { .. } | Job::Identify { .. } => None,
+    match &job.ask {
+        Ask::Look { reserve, .. } | Ask::Change { reserve, .. } => reserve.as_deref(),
+        Ask::Identify | Ask::Convert { .. } => None,
     }
 }
 
 /// The order that a job names for its image.
-pub fn image_order(job: &Job) -> Option<ImageOrder>
-    ensures { result ≡ named_order_of (job_view job.now) }
+pub fn image_order(job: &Job) -> Option<Order>
+    ensures { result ≡ named_order_of (ask_view job.now.ask) }
 {
-    match job {
-        Job::Convert { order, .. } => Some(*order),
-        _ => volume_of(job).map(|volume| volume.order),
+    match &job.ask {
+        Ask::Look { volume, .. } | Ask::Change { volume, .. } => Some(volume.order),
+        Ask::Convert { order, .. } => Some(*order),
+        Ask::Identify => None,
     }
 }

@@ -2,3 +2,4 @@ pub mod Disk
 pub mod Reply
 pub mod ConvertReply
 pub mod Volume
+pub mod Reading

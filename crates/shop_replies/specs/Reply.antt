@@ -1,5 +1,5 @@
 -- What a job answers, and how it is told.
-use Rattle.std.specs.Prelude.{◌≡◌, ◌⊎◌, ℕ, List, [], Option, None, IsSome, option_map, unwrap_or, take, codes, string_bytes}
+use Rattle.std.specs.Prelude.{◌≡◌, ◌⊎◌, ℕ, List, [], ◌++◌, Option, Some, None, IsSome, option_map, unwrap_or, take, codes, string_bytes}
 use Rattle.std.specs.Io.KnownBytes.{Appends, Keeps}
 use Rattle.a2_image.specs.declared.error.ImageError.{ImageError}
 use Rattle.a2_image.specs.declared.error.ImageError.TheVariants as images
@@ -51,10 +51,16 @@ abbrev pub told_text : Told → List ℕ
 told_text tells.Ok = codes "OK\n"
 told_text (tells.Text text) = string_bytes text
 told_text (tells.Bytes bytes) = bytes.items
+told_text (tells.Report line certificate) = string_bytes line ++ certificate.items
 told_text (tells.Listing lines) = directory_text (directory_in lines)
 told_text (tells.Plan lines) = plan_text (plan_in lines)
 told_text (tells.Refusal refusal) = refusal_line refusal
 told_text (tells.Failure failure) = failure_line failure
+
+-- the certificate that is told behind the line of a report; none of anything else
+abbrev pub certificate_in : Told → Option (List ℕ)
+certificate_in (tells.Report line certificate) = Some certificate.items
+certificate_in told = None
 
 -- of a reply the status, what is written of it, and what the output file gets
 abbrev pub status_of : Reply → ℕ

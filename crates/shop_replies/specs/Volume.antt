@@ -2,7 +2,6 @@
 use Rattle.std.specs.Prelude.{◌≡◌, ◌<◌, ◌≤◌, ℕ, Bool, List, length, Contains}
 use Rattle.a2_device.specs.declared.order.Order.{Order}
 use Rattle.a2_device.specs.declared.order.Order.TheVariants.{Nibble}
-use Rattle.a2_device.specs.declared.order.Order.TheVariants as orders
 use Rattle.a2_image.specs.declared.error.ImageError.{ImageError}
 use Rattle.a2_image.specs.declared.error.ImageError.TheVariants as images
 use Rattle.a2_device.specs.Order.{IsImageLength}
@@ -19,15 +18,7 @@ use Rattle.dos_format.specs.Dos.{dos_meaning}
 use Rattle.pro_format.specs.Pro.{pro_meaning}
 use Rattle.shop_jobs.specs.declared.job.FileSystem.{FileSystem}
 use Rattle.shop_jobs.specs.declared.job.FileSystem.TheVariants.{Dos, Prodos}
-use Rattle.shop_jobs.specs.declared.job.ImageOrder.{ImageOrder}
-use Rattle.shop_jobs.specs.declared.job.ImageOrder.TheVariants as wanted
 use Rattle.shop_replies.specs.Disk.{disk_bytes}
-
--- the order that the words name
-abbrev pub order_of : ImageOrder → Order
-order_of wanted.Dos = orders.Dos
-order_of wanted.Prodos = orders.Prodos
-order_of wanted.Nibble = orders.Nibble
 
 -- DOS 3.3 has sectors and ProDOS blocks, and so are their places named
 abbrev pub kind_of : FileSystem → UnitKind

@@ -20,7 +20,7 @@ fn converted(image: Vec<u8>, order: Order, to: Order, volume: u8) -> Result<Vec<
 {
     let disk = open_disk(image, order)?;
     let made = disk.convert(to, volume)?;
-    // The bytes of an image hold its sectors in its order.
+    // Called for what its contract says: the bytes of an image hold its sectors in its order.
     let _order = made.order();
     Ok(made.into_bytes())
 }

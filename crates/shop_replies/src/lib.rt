@@ -18,13 +18,15 @@ mod convert;
 mod disk;
 mod opening;
 mod plan_writing;
+mod reading;
 mod refusal;
 mod reply;
 mod writing;
 
 pub use convert::convert_reply;
 pub use disk::{most_bytes, open_disk};
-pub use opening::{form_of, open_volume, order_of};
+pub use opening::{form_of, open_volume};
+pub use reading::read_front;
 pub use refusal::{Failure, Refusal};
 pub use reply::{FAILED, Reply, Status, Told};
 pub use writing::written;

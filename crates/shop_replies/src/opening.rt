@@ -2,24 +2,13 @@
 ghost use Rattle.std.specs.Prelude.{◌≡◌, IfErr, IfOk, length};
 ghost use Rattle.a2_image.specs.Image.{IsOfDisk};
 ghost use Rattle.shop_jobs.specs.declared.job.FileSystem.TheVariants.{Dos as OfDos};
-ghost use Rattle.shop_replies.specs.Volume.{IsImageOf, RefusesBytes, TakesBytes, form_of as form_by, order_of as named};
+ghost use Rattle.shop_replies.specs.Volume.{IsImageOf, RefusesBytes, TakesBytes, form_of as form_by};
 
 use crate::open_disk;
 use a2_device::Order;
 use a2_image::{Image, ImageError};
 use reserved_places::PlaceForm;
-use shop_jobs::{FileSystem, ImageOrder};
-
-/// The order that the words name.
-pub fn order_of(order: ImageOrder) -> Order
-    ensures { result ≡ named order }
-{
-    match order {
-        ImageOrder::Dos => Order::Dos,
-        ImageOrder::Prodos => Order::Prodos,
-        ImageOrder::Nibble => Order::Nibble,
-    }
-}
+use shop_jobs::FileSystem;
 
 /// How the places of a file system are named.
 pub fn form_of(file_system: FileSystem) -> PlaceForm

@@ -1,5 +1,5 @@
 // What a job answers: a status, what is told, and an image or none.
-ghost use Rattle.std.specs.Prelude.{◌≡◌, ◌⊎◌, IsTrue, None, Some};
+ghost use Rattle.std.specs.Prelude.{◌≡◌, ◌⊎◌, IsTrue, None, Some, option_map};
 ghost use Rattle.std.specs.Io.KnownBytes.{Appends};
 ghost use Rattle.shop_replies.specs.Reply.{
   AppendsFront,
@@ -7,6 +7,7 @@ ghost use Rattle.shop_replies.specs.Reply.{
   IsDelivered,
   IsMade,
   IsWritten,
+  certificate_in,
   failed,
   held,
   refused,
@@ -18,7 +19,7 @@ ghost use Rattle.shop_replies.specs.Reply.{
 
 use crate::plan_writing::write_plan;
 use crate::refusal::{Failure, Refusal};
-use crate::writing::{write_lines, write_whole, written};
+use crate::writing::{write_both, write_lines, write_whole, written};
 use file_listings::{ProLines, ProSteps};
 use std::io::Write;
 
@@ -44,6 +45,8 @@ pub enum Told {
     Text(String),
     /// Bytes, which are told as they are.
     Bytes(Vec<u8>),
+    /// What was done to a volume: a line, with its end, and the certificate of the plan behind it.
+    Report { line: String, certificate: Vec<u8> },
     /// The lines of a listing, which are made as they are told.
     Listing(ProLines),
     /// The steps of a plan in words, which are made as they are told.
@@ -92,6 +95,9 @@ impl Told {
             Told::Ok => write_whole(b"OK\n", text),
             Told::Text(told) => write_whole(told.as_bytes(), text),
             Told::Bytes(bytes) => write_whole(bytes.as_slice(), text),
+            Told::Report { line, certificate } => {
+                write_both(line.as_bytes(), certificate.as_slice(), text)
+            }
             Told::Listing(lines) => write_lines(lines, text),
             Told::Plan(lines) => write_plan(lines, text),
             Told::Refusal(refusal) => write_whole(refusal.line(), text),
@@ -187,13 +193,13 @@ impl Reply {
         }
     }
 
-    /// What was done to a volume, and the image with it.
-    pub fn optimized(report: Vec<u8>, image: Vec<u8>) -> Reply
-        ensures { result ≡ record { status = Status.Done; told = Told.Bytes report; image = Some image } }
+    /// What was done to a volume, a line with its end and the certificate of the plan, and the image with it.
+    pub fn optimized(line: String, certificate: Vec<u8>, image: Vec<u8>) -> Reply
+        ensures { result ≡ record { status = Status.Done; told = Told.Report line certificate; image = Some image } }
     {
         Reply {
             status: Status::Done,
-            told: Told::Bytes(report),
+            told: Told::Report { line, certificate },
             image: Some(image),
         }
     }
@@ -206,6 +212,16 @@ impl Reply {
             status: Status::Failed,
             told: Told::Failure(Failure::Device),
             image: Some(image),
+        }
+    }
+
+    /// The certificate that is told with the report of an optimization; `None` of any other reply.
+    pub fn certificate(&self) -> Option<&[u8]>
+        ensures { option_map (λ s. s.now) result ≡ certificate_in self.now.told }
+    {
+        match &self.told {
+            Told::Report { certificate, .. } => Some(certificate.as_slice()),
+            _ => None,
         }
     }
 

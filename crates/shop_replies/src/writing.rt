@@ -1,5 +1,5 @@
 // Bytes and listings, written to writers that may fail.
-ghost use Rattle.std.specs.Prelude.{◌<◌, ◌≡◌, IsTrue, flat_map};
+ghost use Rattle.std.specs.Prelude.{◌<◌, ◌≡◌, ◌++◌, IsTrue, flat_map};
 ghost use Rattle.std.specs.Io.KnownBytes.{Appends};
 ghost use Rattle.vol_format.specs.Directory.{entries, entry_of};
 ghost use Rattle.file_listings.specs.ProLines.{directory_in};
@@ -41,6 +41,15 @@ pub(crate) fn write_whole<W: Write>(bytes: &[u8], writer: &mut W) -> bool
         }
     }
     false
+}
+
+// Writes bytes and others behind them to the last, or as many as the writer takes, and answers whether it took all.
+pub(crate) fn write_both<W: Write>(first: &[u8], other: &[u8], writer: &mut W) -> bool
+    ensures whole { IsTrue result
+        → Appends (W.contents writer.old) (W.contents writer.new) (first.now ++ other.now) }
+    ensures front { AppendsFront (W.contents writer.old) (W.contents writer.new) (first.now ++ other.now) }
+{
+    write_whole(first, writer) && write_whole(other, writer)
 }
 
 // Writes the line of an entry of a listing, or as much of it as the writer takes, and answers whether it took all.

@@ -6,13 +6,16 @@ use Rattle.clap.specs.Walk.{Row}
 use Rattle.shop_words.specs.Table.{Text, FormView}
 use Rattle.shop_words.specs.Grammar.{shop}
 use Rattle.shop_words.specs.Plain.{Use, IsLine, IsPlain}
-use Rattle.shop_jobs.specs.Job.{catalog}
+use Rattle.shop_jobs.specs.Job.{AskView, Catalog, LookAt}
 use Rattle.shop_words.specs.Job.{asked_job, IsTaken, line_job, meant_words, standard_words}
 use Rattle.shop_jobs.specs.declared.job.FileSystem.TheVariants as file_systems
-use Rattle.shop_jobs.specs.declared.job.ImageOrder.TheVariants as orders
+use Rattle.a2_device.specs.declared.order.Order.TheVariants as orders
 use Rattle.shop_words.proofs.PlainTable.{found_job-plain, is_some-line_job, takes-plain}
 
-pub asked_job-none : asked_job [] ≡ Some (catalog (codes "-") (record { file_system = file_systems.Dos; order = orders.Dos; data_disk = false }))
+abbrev pub standard_ask : AskView
+standard_ask = LookAt (record { file_system = file_systems.Dos; order = orders.Dos; data_disk = false }) None Catalog
+
+pub asked_job-none : asked_job [] ≡ Some (record { image = codes "-"; ask = standard_ask })
 unfolding shop clap_on_literals
 asked_job-none = refl
 

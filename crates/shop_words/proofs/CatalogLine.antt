@@ -1,13 +1,12 @@
 -- The plain lists of `catalog`.
-use Rattle.std.proofs.Common.{◌≡◌, refl, true, List, [], ◌∷◌, Option, Some, None, codes, is_some, option_map, arith}
+use Rattle.std.proofs.Common.{◌≡◌, refl, true, List, [], ◌∷◌, Some, None, codes, is_some, arith}
 use Rattle.clap.proofs.OnLiterals.{clap_on_literals}
 use Rattle.shop_words.specs.Table.{Text, catalog_form, file_system, order, data_disk}
 use Rattle.shop_words.specs.Plain.{Use, IsPlainLine}
-use Rattle.shop_jobs.specs.Job.{catalog}
+use Rattle.shop_jobs.specs.Job.{Catalog}
 use Rattle.shop_words.specs.Job.{line_job, line_said, volume_by}
-use Rattle.shop_jobs.specs.declared.job.VolumeOptions.{VolumeOptions}
 use Rattle.shop_words.proofs.PlainForms.{IsKnown, Knows, shape_named}
-use Rattle.shop_words.proofs.PlainJobs.{HasPlainDefaults, HasVolume, volume_by-line}
+use Rattle.shop_words.proofs.PlainJobs.{HasPlainDefaults, HasVolume, look_there, volume_by-line}
 
 pub catalog_known : IsKnown catalog_form (shape_named (codes "catalog"))
 unfolding clap_on_literals
@@ -39,13 +38,9 @@ catalog_volume = record {
   order_values = refl;
 }
 
-with_image : (image : Text) (volume : Option VolumeOptions) → is_some volume ≡ true → is_some (option_map (catalog image) volume) ≡ true
-with_image image None has = cc
-with_image image (Some v) has = refl
-
 pub is_some-line_job-catalog : (positionals : List Text) (uses : List Use) → IsPlainLine catalog_form positionals uses → is_some (line_job catalog_form positionals uses) ≡ true
 is_some-line_job-catalog [] uses plain = let same = plain.as_many in absurd (omega (arith, same))
 is_some-line_job-catalog (image ∷ []) uses plain =
     let said = line_said catalog_form (image ∷ []) uses in
-    with_image image (volume_by said) (volume_by-line catalog_form (image ∷ []) uses said catalog_volume plain refl refl)
+    look_there image (Some Catalog) (volume_by said) None refl (volume_by-line catalog_form (image ∷ []) uses said catalog_volume plain refl refl)
 is_some-line_job-catalog (a ∷ b ∷ rest) uses plain = let same = plain.as_many in absurd (omega (arith, same))

@@ -1,13 +1,12 @@
 -- The plain lists of `check`.
-use Rattle.std.proofs.Common.{◌≡◌, refl, true, List, [], ◌∷◌, Option, Some, None, codes, is_some, option_map, arith}
+use Rattle.std.proofs.Common.{◌≡◌, refl, true, List, [], ◌∷◌, Some, codes, is_some, arith}
 use Rattle.clap.proofs.OnLiterals.{clap_on_literals}
 use Rattle.shop_words.specs.Table.{Text, check_form, file_system, order, data_disk, reserve}
 use Rattle.shop_words.specs.Plain.{Use, IsPlainLine}
-use Rattle.shop_jobs.specs.Job.{check}
+use Rattle.shop_jobs.specs.Job.{Check}
 use Rattle.shop_words.specs.Job.{line_job, line_said, volume_by}
-use Rattle.shop_jobs.specs.declared.job.VolumeOptions.{VolumeOptions}
 use Rattle.shop_words.proofs.PlainForms.{IsKnown, Knows, shape_named}
-use Rattle.shop_words.proofs.PlainJobs.{HasPlainDefaults, HasVolume, volume_by-line}
+use Rattle.shop_words.proofs.PlainJobs.{HasPlainDefaults, HasVolume, look_there, volume_by-line}
 
 pub check_known : IsKnown check_form (shape_named (codes "check"))
 unfolding clap_on_literals
@@ -40,14 +39,9 @@ check_volume = record {
   order_values = refl;
 }
 
-with_image : (image : Text) (volume : Option VolumeOptions) (places : Option Text) → is_some volume ≡ true
-    → is_some (option_map (λ v. check image v places) volume) ≡ true
-with_image image None places has = cc
-with_image image (Some v) places has = refl
-
 pub is_some-line_job-check : (positionals : List Text) (uses : List Use) → IsPlainLine check_form positionals uses → is_some (line_job check_form positionals uses) ≡ true
 is_some-line_job-check [] uses plain = let same = plain.as_many in absurd (omega (arith, same))
 is_some-line_job-check (image ∷ []) uses plain =
     let said = line_said check_form (image ∷ []) uses in
-    with_image image (volume_by said) (said (codes "reserve")) (volume_by-line check_form (image ∷ []) uses said check_volume plain refl refl)
+    look_there image (Some Check) (volume_by said) (said (codes "reserve")) refl (volume_by-line check_form (image ∷ []) uses said check_volume plain refl refl)
 is_some-line_job-check (a ∷ b ∷ rest) uses plain = let same = plain.as_many in absurd (omega (arith, same))

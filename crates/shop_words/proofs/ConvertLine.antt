@@ -1,12 +1,11 @@
 -- The plain lists of `convert`.
-use Rattle.std.proofs.Common.{◌≡◌, ℕ, refl, true, List, [], ◌∷◌, Option, Some, None, codes, is_some, option_map, arith}
+use Rattle.std.proofs.Common.{◌≡◌, ℕ, refl, true, List, [], ◌∷◌, Option, Some, None, codes, is_some, arith}
 use Rattle.std.specs.List.{list_all}
 use Rattle.clap.proofs.OnLiterals.{clap_on_literals}
 use Rattle.shop_words.specs.Table.{Text, convert_form, order, to, out, volume, data_disk}
 use Rattle.shop_words.specs.Plain.{Use, IsPlainLine, is_number}
-use Rattle.shop_jobs.specs.Job.{convert}
-use Rattle.shop_words.specs.Job.{conversion_of, line_job, order_named, value_of, volume_number}
-use Rattle.shop_jobs.specs.declared.job.ImageOrder.{ImageOrder}
+use Rattle.shop_words.specs.Job.{conversion_of, job_of, line_job, order_named, value_of, volume_number}
+use Rattle.a2_device.specs.declared.order.Order.{Order}
 use Rattle.shop_words.proofs.PlainForms.{IsKnown, Knows, shape_named}
 use Rattle.shop_words.proofs.PlainJobs.{HasPlainDefaults, names_order}
 use Rattle.shop_words.proofs.PlainUsed.{named_only, needed_said, number_ensures, takes_number, takes_words, value_passes, words_ensure}
@@ -35,8 +34,8 @@ convert_known =
 pub convert_defaults : HasPlainDefaults convert_form
 convert_defaults = record { name = refl; options = refl; flags = refl }
 
-conversion_there : (image file : Text) (from target : Option ImageOrder) (number : Option ℕ) → is_some from ≡ true → is_some target ≡ true → is_some number ≡ true
-    → is_some (option_map convert (conversion_of (Some image) from target (Some file) number)) ≡ true
+conversion_there : (image file : Text) (from target : Option Order) (number : Option ℕ) → is_some from ≡ true → is_some target ≡ true → is_some number ≡ true
+    → is_some (job_of (Some image) (conversion_of from target (Some file) number)) ≡ true
 conversion_there image file None target number a b c = cc
 conversion_there image file (Some x) None number a b c = cc
 conversion_there image file (Some x) (Some y) None a b c = cc

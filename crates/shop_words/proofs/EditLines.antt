@@ -1,16 +1,15 @@
 -- The plain lists of the commands that change a file.
-use Rattle.std.proofs.Common.{◌≡◌, ◌∙◌, ap, refl, true, List, [], ◌∷◌, Option, Some, None, codes, find, is_some, arith}
+use Rattle.std.proofs.Common.{◌≡◌, ◌∙◌, ap, refl, true, List, [], ◌∷◌, Option, Some, codes, find, is_some, arith}
 use Rattle.clap.proofs.OnLiterals.{clap_on_literals}
 use Rattle.clap.specs.Simple.{Shape, built, label_of}
 use Rattle.clap.specs.Takes.{turn_passes}
 use Rattle.clap.specs.Walk.{answers_to, walk_from, walked, nothing_held}
 use Rattle.shop_words.specs.Table.{Text, edit_form, lock_form, unlock_form, delete_form, rename_form, file_system, order, out_file, in_place, data_disk, reserve}
 use Rattle.shop_words.specs.Plain.{Use, IsPlainLine}
-use Rattle.shop_jobs.specs.Job.{EditView, Rename, JobView, TargetView}
-use Rattle.shop_words.specs.Job.{Said, change_of, edit_by, job_by, line_job, line_said, target_by, volume_by}
-use Rattle.shop_jobs.specs.declared.job.VolumeOptions.{VolumeOptions}
+use Rattle.shop_jobs.specs.Job.{AskView, EditOf, EditView, Rename}
+use Rattle.shop_words.specs.Job.{Said, ask_by, change_by, edit_by, job_of, line_job, line_said, target_by, volume_by}
 use Rattle.shop_words.proofs.PlainForms.{IsKnown, Knows, shape_named, stopped_at, top_names, top_rules, whole}
-use Rattle.shop_words.proofs.PlainJobs.{HasPlainDefaults, HasVolume, volume_by-line}
+use Rattle.shop_words.proofs.PlainJobs.{HasPlainDefaults, HasVolume, change_there, volume_by-line}
 use Rattle.shop_words.proofs.PlainTarget.{HasTarget, target_by-line}
 
 -- what is built of such a command: the name alone is its own
@@ -93,12 +92,6 @@ rename_defaults = record { name = refl; options = refl; flags = refl }
 
 -- ---- the jobs
 
-change_there : (change : EditView) (image name : Text) (volume : Option VolumeOptions) (target : Option TargetView) (places : Option Text) → is_some volume ≡ true → is_some target ≡ true
-    → is_some (change_of change (Some image) (Some name) volume target places) ≡ true
-change_there change image name None target places a b = cc
-change_there change image name (Some v) None places a b = cc
-change_there change image name (Some v) (Some t) places a b = refl
-
 edit_volume : (command : Text) → HasVolume (edit_form command)
 edit_volume command = record {
   fs = record { at = (2, omega arith, refl); is = refl };
@@ -111,19 +104,19 @@ edit_target : (command : Text) → HasTarget (edit_form command)
 edit_target command = record { at = (5, omega arith, refl); flags = refl }
 
 -- a command whose job is an edit
-pub is_some-line_job-edit : (command : Text) (change : EditView) → ((said : Said) → job_by command said ≡ edit_by change said) → (positionals : List Text) (uses : List Use)
+pub is_some-line_job-edit : (command : Text) (edit : EditView) → ((said : Said) → ask_by command said ≡ change_by (edit_by edit said) said) → (positionals : List Text) (uses : List Use)
     → IsPlainLine (edit_form command) positionals uses → is_some (line_job (edit_form command) positionals uses) ≡ true
-is_some-line_job-edit command change is [] uses plain = let same = plain.as_many in absurd (omega (arith, same))
-is_some-line_job-edit command change is (image ∷ []) uses plain = let same = plain.as_many in absurd (omega (arith, same))
-is_some-line_job-edit command change is (image ∷ name ∷ []) uses plain =
+is_some-line_job-edit command edit is [] uses plain = let same = plain.as_many in absurd (omega (arith, same))
+is_some-line_job-edit command edit is (image ∷ []) uses plain = let same = plain.as_many in absurd (omega (arith, same))
+is_some-line_job-edit command edit is (image ∷ name ∷ []) uses plain =
     let f = edit_form command in
     let said = line_said f (image ∷ name ∷ []) uses in
-    let there : is_some (edit_by change said) ≡ true =
-    change_there change image name (volume_by said) (target_by said) (said (codes "reserve"))
+    let there : is_some (job_of (Some image) (change_by (edit_by edit said) said)) ≡ true =
+    change_there image (Some (EditOf name edit)) (volume_by said) (target_by said) (said (codes "reserve")) refl
     (volume_by-line f (image ∷ name ∷ []) uses said (edit_volume command) plain refl refl)
     (target_by-line f (image ∷ name ∷ []) uses said (edit_target command) plain refl refl) in
-    ap (λ (job : Option JobView). is_some job) (is said) ∙ there
-is_some-line_job-edit command change is (a ∷ b ∷ c ∷ rest) uses plain = let same = plain.as_many in absurd (omega (arith, same))
+    ap (λ (ask : Option AskView). is_some (job_of (Some image) ask)) (is said) ∙ there
+is_some-line_job-edit command edit is (a ∷ b ∷ c ∷ rest) uses plain = let same = plain.as_many in absurd (omega (arith, same))
 
 rename_target : HasTarget rename_form
 rename_target = record { at = (6, omega arith, refl); flags = refl }
@@ -142,7 +135,7 @@ is_some-line_job-rename (image ∷ []) uses plain = let same = plain.as_many in 
 is_some-line_job-rename (image ∷ name ∷ []) uses plain = let same = plain.as_many in absurd (omega (arith, same))
 is_some-line_job-rename (image ∷ name ∷ new ∷ []) uses plain =
     let said = line_said rename_form (image ∷ name ∷ new ∷ []) uses in
-    change_there (Rename new) image name (volume_by said) (target_by said) (said (codes "reserve"))
+    change_there image (Some (EditOf name (Rename new))) (volume_by said) (target_by said) (said (codes "reserve")) refl
     (volume_by-line rename_form (image ∷ name ∷ new ∷ []) uses said rename_volume plain refl refl)
     (target_by-line rename_form (image ∷ name ∷ new ∷ []) uses said rename_target plain refl refl)
 is_some-line_job-rename (a ∷ b ∷ c ∷ d ∷ rest) uses plain = let same = plain.as_many in absurd (omega (arith, same))

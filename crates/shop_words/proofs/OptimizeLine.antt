@@ -1,13 +1,11 @@
 -- The plain lists of `optimize`.
-use Rattle.std.proofs.Common.{◌≡◌, ℕ, refl, true, List, [], ◌∷◌, Option, Some, None, codes, is_some, option_map, arith}
+use Rattle.std.proofs.Common.{◌≡◌, refl, true, List, [], ◌∷◌, Option, Some, None, codes, is_some, arith}
 use Rattle.clap.proofs.OnLiterals.{clap_on_literals}
 use Rattle.shop_words.specs.Table.{Text, optimize_form, file_system, order, out_file, in_place, data_disk, reserve, reclaim, stop_after, cert, most_writes}
 use Rattle.shop_words.specs.Plain.{Use, IsPlainLine, is_number}
-use Rattle.shop_jobs.specs.Job.{OptimizationView, JobView, TargetView, optimize}
-use Rattle.shop_words.specs.Job.{optimization_of, is_on, limit_named, line_job, line_said, target_by, value_of, volume_by}
-use Rattle.shop_jobs.specs.declared.job.VolumeOptions.{VolumeOptions}
+use Rattle.shop_words.specs.Job.{limit_named, line_job, line_said, optimize_by, target_by, value_of, volume_by}
 use Rattle.shop_words.proofs.PlainForms.{IsKnown, Knows, shape_named}
-use Rattle.shop_words.proofs.PlainJobs.{HasPlainDefaults, HasVolume, volume_by-line}
+use Rattle.shop_words.proofs.PlainJobs.{HasPlainDefaults, HasVolume, change_there, mapped_there, volume_by-line}
 use Rattle.shop_words.proofs.PlainTarget.{HasTarget, target_by-line}
 use Rattle.shop_words.proofs.PlainUsed.{number_ensures, takes_number, value_passes}
 
@@ -50,13 +48,6 @@ optimize_volume = record {
 optimize_target : HasTarget optimize_form
 optimize_target = record { at = (4, omega arith, refl); flags = refl }
 
-optimization_there : (image : Text) (volume : Option VolumeOptions) (target : Option TargetView) (limit : Option (Option ℕ)) (made : OptimizationView → JobView) → is_some volume ≡ true → is_some target ≡ true → is_some limit ≡ true
-    → is_some (option_map made (optimization_of (Some image) volume target limit)) ≡ true
-optimization_there image None target limit made a b c = cc
-optimization_there image (Some v) None limit made a b c = cc
-optimization_there image (Some v) (Some t) None made a b c = cc
-optimization_there image (Some v) (Some t) (Some l) made a b c = refl
-
 limit_there : (said : Option Text) → ((v : Text) → said ≡ Some v → is_number most_writes v ≡ true) → is_some (limit_named said) ≡ true
 limit_there None is = refl
 limit_there (Some v) is = rw (is v refl) refl
@@ -67,8 +58,8 @@ is_some-line_job-optimize (image ∷ []) uses plain =
     let said = line_said optimize_form (image ∷ []) uses in
     let limit : (v : Text) → value_of (codes "stop-after") uses ≡ Some v → is_number most_writes v ≡ true =
     value_passes optimize_form.parameters (codes "stop-after") (takes_number most_writes) (is_number most_writes) uses refl (number_ensures most_writes) refl plain.known in
-    optimization_there image (volume_by said) (target_by said) (limit_named (value_of (codes "stop-after") uses))
-    (λ o. optimize o (said (codes "reserve")) (is_on (said (codes "reclaim"))) (said (codes "cert")))
+    change_there image (optimize_by said) (volume_by said) (target_by said) (said (codes "reserve"))
+    (mapped_there _ (limit_named (value_of (codes "stop-after") uses)) (limit_there (value_of (codes "stop-after") uses) limit))
     (volume_by-line optimize_form (image ∷ []) uses said optimize_volume plain refl refl)
-    (target_by-line optimize_form (image ∷ []) uses said optimize_target plain refl refl) (limit_there (value_of (codes "stop-after") uses) limit)
+    (target_by-line optimize_form (image ∷ []) uses said optimize_target plain refl refl)
 is_some-line_job-optimize (a ∷ b ∷ rest) uses plain = let same = plain.as_many in absurd (omega (arith, same))

@@ -7,9 +7,10 @@ use Rattle.std.specs.Str.{bytes_eq}
 use Rattle.clap.specs.Walk.{first_of}
 use Rattle.shop_words.specs.Table.{Text, FormView, file_system, order}
 use Rattle.shop_words.specs.Plain.{Use, IsPlainLine, positional_names}
-use Rattle.shop_words.specs.Job.{Said, file_system_named, order_named, is_on, job_by, line_job, line_said, value_of, volume_by}
+use Rattle.shop_jobs.specs.Job.{ChangeView, LookView, TargetView}
+use Rattle.shop_words.specs.Job.{Said, change_of, file_system_named, order_named, is_on, job_by, job_of, line_job, line_said, look_of, value_of, volume_by}
 use Rattle.shop_jobs.specs.declared.job.FileSystem.{FileSystem}
-use Rattle.shop_jobs.specs.declared.job.ImageOrder.{ImageOrder}
+use Rattle.a2_device.specs.declared.order.Order.{Order}
 use Rattle.shop_jobs.specs.declared.job.VolumeOptions.{VolumeOptions}
 use Rattle.shop_words.proofs.PlainForms.{shape_named}
 use Rattle.shop_words.proofs.PlainTaken.{finished_rows}
@@ -105,7 +106,7 @@ names_file_system word = is_some (file_system_named word)
 abbrev pub names_order : Text → Bool
 names_order word = is_some (order_named word)
 
-both_named : (a : Option FileSystem) (b : Option ImageOrder) → is_some a ≡ true → is_some b ≡ true → (c : FileSystem → ImageOrder → VolumeOptions)
+both_named : (a : Option FileSystem) (b : Option Order) → is_some a ≡ true → is_some b ≡ true → (c : FileSystem → Order → VolumeOptions)
     → is_some (option_and_then (λ x. option_map (c x) b) a) ≡ true
 both_named None b p q c = cc
 both_named (Some x) None p q c = cc
@@ -126,3 +127,23 @@ volume_by-line f positionals uses said has plain fs_said order_said =
     let fs_named = value_passes f.parameters (codes "fs") (takes_words names_file_system) names_file_system uses refl (words_ensure names_file_system) has.fs_values plain.known fs.0 fs.1 in
     let order_named' = value_passes f.parameters (codes "order") (takes_words names_order) names_order uses refl (words_ensure names_order) has.order_values plain.known in_order.0 in_order.1 in
     rw (fs_said ∙ fs.1, order_said ∙ in_order.1) (both_named (file_system_named fs.0) (order_named in_order.0) fs_named order_named' _)
+
+-- ---- a job is there where each part of it is
+
+pub mapped_there : {X Y : Type 0} (f : X → Y) (o : Option X) → is_some o ≡ true → is_some (option_map f o) ≡ true
+mapped_there f None p = cc
+mapped_there f (Some x) p = refl
+
+pub look_there : (image : Text) (look : Option LookView) (volume : Option VolumeOptions) (reserve : Option Text)
+    → is_some look ≡ true → is_some volume ≡ true → is_some (job_of (Some image) (look_of look volume reserve)) ≡ true
+look_there image None volume reserve p q = cc
+look_there image (Some x) None reserve p q = cc
+look_there image (Some x) (Some y) reserve p q = refl
+
+pub change_there : (image : Text) (change : Option ChangeView) (volume : Option VolumeOptions) (target : Option TargetView)
+    (reserve : Option Text) → is_some change ≡ true → is_some volume ≡ true → is_some target ≡ true
+    → is_some (job_of (Some image) (change_of change volume target reserve)) ≡ true
+change_there image None volume target reserve p q r = cc
+change_there image (Some x) None target reserve p q r = cc
+change_there image (Some x) (Some y) None reserve p q r = cc
+change_there image (Some x) (Some y) (Some z) reserve p q r = refl

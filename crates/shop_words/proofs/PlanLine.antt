@@ -1,13 +1,11 @@
 -- The plain lists of `plan`.
-use Rattle.std.proofs.Common.{◌≡◌, refl, true, Bool, List, [], ◌∷◌, Option, Some, None, codes, is_some, option_map, arith}
+use Rattle.std.proofs.Common.{◌≡◌, refl, true, List, [], ◌∷◌, Some, codes, is_some, arith}
 use Rattle.clap.proofs.OnLiterals.{clap_on_literals}
 use Rattle.shop_words.specs.Table.{Text, plan_form, file_system, order, data_disk, reserve, reclaim, in_words}
 use Rattle.shop_words.specs.Plain.{Use, IsPlainLine}
-use Rattle.shop_jobs.specs.Job.{plan}
-use Rattle.shop_words.specs.Job.{is_on, line_job, line_said, volume_by}
-use Rattle.shop_jobs.specs.declared.job.VolumeOptions.{VolumeOptions}
+use Rattle.shop_words.specs.Job.{line_job, line_said, plan_by, volume_by}
 use Rattle.shop_words.proofs.PlainForms.{IsKnown, Knows, shape_named}
-use Rattle.shop_words.proofs.PlainJobs.{HasPlainDefaults, HasVolume, volume_by-line}
+use Rattle.shop_words.proofs.PlainJobs.{HasPlainDefaults, HasVolume, look_there, volume_by-line}
 
 pub plan_known : IsKnown plan_form (shape_named (codes "plan"))
 unfolding clap_on_literals
@@ -42,15 +40,10 @@ plan_volume = record {
   order_values = refl;
 }
 
-with_image : (image : Text) (volume : Option VolumeOptions) (places : Option Text) (all told : Bool) → is_some volume ≡ true
-    → is_some (option_map (λ v. plan image v places all told) volume) ≡ true
-with_image image None places all told has = cc
-with_image image (Some v) places all told has = refl
-
 pub is_some-line_job-plan : (positionals : List Text) (uses : List Use) → IsPlainLine plan_form positionals uses → is_some (line_job plan_form positionals uses) ≡ true
 is_some-line_job-plan [] uses plain = let same = plain.as_many in absurd (omega (arith, same))
 is_some-line_job-plan (image ∷ []) uses plain =
     let said = line_said plan_form (image ∷ []) uses in
-    with_image image (volume_by said) (said (codes "reserve")) (is_on (said (codes "reclaim"))) (is_on (said (codes "words")))
+    look_there image (Some (plan_by said)) (volume_by said) (said (codes "reserve")) refl
     (volume_by-line plan_form (image ∷ []) uses said plan_volume plain refl refl)
 is_some-line_job-plan (a ∷ b ∷ rest) uses plain = let same = plain.as_many in absurd (omega (arith, same))

@@ -1,13 +1,11 @@
 -- The plain lists of `read`.
-use Rattle.std.proofs.Common.{◌≡◌, refl, true, Bool, List, [], ◌∷◌, Option, Some, None, codes, is_some, option_map, arith}
+use Rattle.std.proofs.Common.{◌≡◌, refl, true, List, [], ◌∷◌, None, codes, is_some, arith}
 use Rattle.clap.proofs.OnLiterals.{clap_on_literals}
 use Rattle.shop_words.specs.Table.{Text, read_form, file_system, order, whole, data_disk}
 use Rattle.shop_words.specs.Plain.{Use, IsPlainLine}
-use Rattle.shop_jobs.specs.Job.{read}
-use Rattle.shop_words.specs.Job.{is_on, line_job, line_said, volume_by}
-use Rattle.shop_jobs.specs.declared.job.VolumeOptions.{VolumeOptions}
+use Rattle.shop_words.specs.Job.{line_job, line_said, read_by, volume_by}
 use Rattle.shop_words.proofs.PlainForms.{IsKnown, Knows, shape_named}
-use Rattle.shop_words.proofs.PlainJobs.{HasPlainDefaults, HasVolume, volume_by-line}
+use Rattle.shop_words.proofs.PlainJobs.{HasPlainDefaults, HasVolume, look_there, volume_by-line}
 
 pub read_known : IsKnown read_form (shape_named (codes "read"))
 unfolding clap_on_literals
@@ -40,15 +38,10 @@ read_volume = record {
   order_values = refl;
 }
 
-with_names : (image name : Text) (volume : Option VolumeOptions) (all : Bool) → is_some volume ≡ true
-    → is_some (option_map (λ v. read image name v all) volume) ≡ true
-with_names image name None all has = cc
-with_names image name (Some v) all has = refl
-
 pub is_some-line_job-read : (positionals : List Text) (uses : List Use) → IsPlainLine read_form positionals uses → is_some (line_job read_form positionals uses) ≡ true
 is_some-line_job-read [] uses plain = let same = plain.as_many in absurd (omega (arith, same))
 is_some-line_job-read (image ∷ []) uses plain = let same = plain.as_many in absurd (omega (arith, same))
 is_some-line_job-read (image ∷ name ∷ []) uses plain =
     let said = line_said read_form (image ∷ name ∷ []) uses in
-    with_names image name (volume_by said) (is_on (said (codes "whole"))) (volume_by-line read_form (image ∷ name ∷ []) uses said read_volume plain refl refl)
+    look_there image (read_by said) (volume_by said) None refl (volume_by-line read_form (image ∷ name ∷ []) uses said read_volume plain refl refl)
 is_some-line_job-read (a ∷ b ∷ c ∷ rest) uses plain = let same = plain.as_many in absurd (omega (arith, same))

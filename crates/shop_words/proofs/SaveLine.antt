@@ -1,13 +1,12 @@
 -- The plain lists of `save`.
-use Rattle.std.proofs.Common.{◌≡◌, ℕ, refl, true, List, [], ◌∷◌, Option, Some, None, codes, is_some, option_map, arith}
+use Rattle.std.proofs.Common.{◌≡◌, refl, true, List, [], ◌∷◌, Option, Some, None, codes, is_some, option_map, arith}
 use Rattle.clap.proofs.OnLiterals.{clap_on_literals}
 use Rattle.shop_words.specs.Table.{Text, save_form, file_system, order, from, out_file, in_place, type_of_file, aux, date, data_disk, reserve}
 use Rattle.shop_words.specs.Plain.{Use, IsPlainLine, is_number}
-use Rattle.shop_jobs.specs.Job.{SaveView, JobView, TargetView, save}
-use Rattle.shop_words.specs.Job.{saving_of, aux_named, line_job, line_said, target_by, value_of, volume_by}
-use Rattle.shop_jobs.specs.declared.job.VolumeOptions.{VolumeOptions}
+use Rattle.shop_jobs.specs.Job.{AttributesView}
+use Rattle.shop_words.specs.Job.{attributes_by, aux_named, line_job, line_said, save_by, save_of, target_by, value_of, volume_by}
 use Rattle.shop_words.proofs.PlainForms.{IsKnown, Knows, shape_named}
-use Rattle.shop_words.proofs.PlainJobs.{HasPlainDefaults, HasVolume, volume_by-line}
+use Rattle.shop_words.proofs.PlainJobs.{HasPlainDefaults, HasVolume, change_there, mapped_there, volume_by-line}
 use Rattle.shop_words.proofs.PlainTarget.{HasTarget, target_by-line}
 use Rattle.shop_words.proofs.PlainUsed.{needed_said, number_ensures, takes_number, value_passes}
 
@@ -51,12 +50,10 @@ save_volume = record {
 save_target : HasTarget save_form
 save_target = record { at = (6, omega arith, refl); flags = refl }
 
-saving_there : (image name content : Text) (target : Option TargetView) (volume : Option VolumeOptions) (kind : Option Text) (number : Option ℕ) (moment : Option Text) (made : SaveView → JobView)
-    → is_some target ≡ true → is_some volume ≡ true → is_some number ≡ true → is_some (option_map made (saving_of (Some image) (Some name) volume kind number moment (Some content) target)) ≡ true
-saving_there image name content None volume kind number moment made a b c = cc
-saving_there image name content (Some t) None kind number moment made a b c = cc
-saving_there image name content (Some t) (Some v) kind None moment made a b c = cc
-saving_there image name content (Some t) (Some v) kind (Some n) moment made a b c = refl
+save_there : (name content : Text) (attributes : Option AttributesView) → is_some attributes ≡ true
+    → is_some (save_of (Some name) attributes (Some content)) ≡ true
+save_there name content None p = cc
+save_there name content (Some a) p = refl
 
 aux_there : (said : Option Text) → ((v : Text) → said ≡ Some v → is_number 65535 v ≡ true) → is_some (aux_named said) ≡ true
 aux_there None is = refl
@@ -70,8 +67,9 @@ is_some-line_job-save (image ∷ name ∷ []) uses plain =
     let content = needed_said save_form (image ∷ name ∷ []) uses from (record { at = (4, omega arith, refl); is = refl }) plain in
     let number : (v : Text) → value_of (codes "aux") uses ≡ Some v → is_number 65535 v ≡ true =
     value_passes save_form.parameters (codes "aux") (takes_number 65535) (is_number 65535) uses refl (number_ensures 65535) refl plain.known in
-    rw content.1 (saving_there image name content.0 (target_by said) (volume_by said) (said (codes "type")) (aux_named (value_of (codes "aux") uses)) (said (codes "date"))
-    (λ s. save s (said (codes "reserve")))
+    let attributes = mapped_there (λ n. attributes_by n said) (aux_named (value_of (codes "aux") uses)) (aux_there (value_of (codes "aux") uses) number) in
+    let saved : is_some (save_by said) ≡ true = rw content.1 (save_there name content.0 (option_map (λ n. attributes_by n said) (aux_named (value_of (codes "aux") uses))) attributes) in
+    change_there image (save_by said) (volume_by said) (target_by said) (said (codes "reserve")) saved
+    (volume_by-line save_form (image ∷ name ∷ []) uses said save_volume plain refl refl)
     (target_by-line save_form (image ∷ name ∷ []) uses said save_target plain refl refl)
-    (volume_by-line save_form (image ∷ name ∷ []) uses said save_volume plain refl refl) (aux_there (value_of (codes "aux") uses) number))
 is_some-line_job-save (a ∷ b ∷ c ∷ rest) uses plain = let same = plain.as_many in absurd (omega (arith, same))

@@ -1,13 +1,11 @@
 -- The plain lists of `verify`.
-use Rattle.std.proofs.Common.{◌≡◌, refl, true, Bool, List, [], ◌∷◌, Option, Some, None, codes, is_some, option_map, arith}
+use Rattle.std.proofs.Common.{◌≡◌, refl, true, List, [], ◌∷◌, codes, is_some, arith}
 use Rattle.clap.proofs.OnLiterals.{clap_on_literals}
 use Rattle.shop_words.specs.Table.{Text, verify_form, file_system, order, from, data_disk, reserve, reclaim}
 use Rattle.shop_words.specs.Plain.{Use, IsPlainLine}
-use Rattle.shop_jobs.specs.Job.{verify}
-use Rattle.shop_words.specs.Job.{is_on, line_job, line_said, volume_by}
-use Rattle.shop_jobs.specs.declared.job.VolumeOptions.{VolumeOptions}
+use Rattle.shop_words.specs.Job.{line_job, line_said, verify_by, volume_by}
 use Rattle.shop_words.proofs.PlainForms.{IsKnown, Knows, shape_named}
-use Rattle.shop_words.proofs.PlainJobs.{HasPlainDefaults, HasVolume, volume_by-line}
+use Rattle.shop_words.proofs.PlainJobs.{HasPlainDefaults, HasVolume, look_there, volume_by-line}
 use Rattle.shop_words.proofs.PlainUsed.{needed_said}
 
 pub verify_known : IsKnown verify_form (shape_named (codes "verify"))
@@ -43,16 +41,11 @@ verify_volume = record {
   order_values = refl;
 }
 
-with_words : (image file : Text) (volume : Option VolumeOptions) (places : Option Text) (all : Bool) → is_some volume ≡ true
-    → is_some (option_map (λ v. verify image v file places all) volume) ≡ true
-with_words image file None places all has = cc
-with_words image file (Some v) places all has = refl
-
 pub is_some-line_job-verify : (positionals : List Text) (uses : List Use) → IsPlainLine verify_form positionals uses → is_some (line_job verify_form positionals uses) ≡ true
 is_some-line_job-verify [] uses plain = let same = plain.as_many in absurd (omega (arith, same))
 is_some-line_job-verify (image ∷ []) uses plain =
     let said = line_said verify_form (image ∷ []) uses in
     let file = needed_said verify_form (image ∷ []) uses from (record { at = (3, omega arith, refl); is = refl }) plain in
-    rw file.1 (with_words image file.0 (volume_by said) (said (codes "reserve")) (is_on (said (codes "reclaim")))
-    (volume_by-line verify_form (image ∷ []) uses said verify_volume plain refl refl))
+    look_there image (verify_by said) (volume_by said) (said (codes "reserve")) (rw file.1 refl)
+    (volume_by-line verify_form (image ∷ []) uses said verify_volume plain refl refl)
 is_some-line_job-verify (a ∷ b ∷ rest) uses plain = let same = plain.as_many in absurd (omega (arith, same))

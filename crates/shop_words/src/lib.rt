@@ -2,7 +2,7 @@
 //!
 //! A command has a *form*: its name, and its parameters in order (`Form`). The forms stand in one table, from which
 //! `clap`'s commands are built, so a new command is a new row, a new case of what is asked (`shop_jobs`) and its arm in
-//! `command_job`. A *plain list* is no word at all, or printed from a form: the command's name, its positional words,
+//! `ask_in`. A *plain list* is no word at all, or printed from a form: the command's name, its positional words,
 //! then its flags and options in any order, each option as `--name` and its value apart; a command that may change its
 //! image in place says exactly one of `--out` and `--in-place`. With no word the job is that of `catalog --fs dos
 //! --order dos -`.
@@ -22,20 +22,21 @@
 //! else is wrong (`specs/Fault.antt`); a list without the program's own words is left as it is.
 #![tactic(auto)]
 
+mod asking;
 mod auto;
-mod editing;
+mod changing;
+mod converting;
 mod escaping;
 mod explain;
 mod fault;
 mod grammar;
 mod help;
+mod looking;
 mod notes;
-mod optimizing;
 mod reading;
 mod refusal;
 mod saving;
 mod table;
-mod target;
 mod version;
 mod words;
 

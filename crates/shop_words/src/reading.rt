@@ -1,4 +1,4 @@
-//! The job that clap's matches say.
+//! What the words say under the parameters' names, as clap's matches have it.
 ghost use Rattle.std.specs.Prelude.{
   ◌≡◌,
   ◌≤◌,
@@ -8,6 +8,7 @@ ghost use Rattle.std.specs.Prelude.{
   IfSome,
   nat_le,
   None,
+  option_and_then,
   option_map,
   Some,
   string_bytes,
@@ -15,17 +16,21 @@ ghost use Rattle.std.specs.Prelude.{
 ghost use Rattle.std.specs.Char.{is_ascii_digit};
 ghost use Rattle.std.specs.List.{list_all};
 ghost use Rattle.clap.specs.Matches.{found_of};
-ghost use Rattle.clap.specs.Simple.{subcommand_rows_of};
 ghost use Rattle.clap.specs.Walk.{first_of, rows_of};
-ghost use Rattle.shop_words.specs.Job.{conversion_by, conversion_view, file_system_named, found_job, is_on};
-ghost use Rattle.shop_jobs.specs.Job.{job_view};
-ghost use Rattle.shop_words.specs.Job.{job_by, number_named, order_named, volume_by, volume_number};
+ghost use Rattle.shop_jobs.specs.Job.{target_view};
+ghost use Rattle.shop_words.specs.Job.{
+  file_system_named,
+  is_on,
+  number_named,
+  order_named,
+  rows_say,
+  target_by,
+  volume_by,
+};
 
-use crate::editing::{edit_in, rename_in};
-use crate::optimizing::optimize_in;
-use crate::saving::save_in;
+use a2_device::Order;
 use clap::ArgMatches;
-use shop_jobs::{Edit, FileSystem, ImageOrder, Job, VolumeOptions};
+use shop_jobs::{FileSystem, Target, VolumeOptions};
 use std::alloc::{AllocError, Global};
 
 /// What the words say under a parameter's name.
@@ -33,6 +38,31 @@ pub fn said<'a>(matches: &ArgMatches<'a>, name: &str) -> Option<&'a str>
     ensures { option_map (λ s. s.now) result ≡ first_of name.now (rows_of (found_of matches.now)) }
 {
     matches.get_str(name)
+}
+
+/// The same as a text of its own.
+pub fn text_said(
+    alloc: Global,
+    matches: &ArgMatches<'_>,
+    name: &str,
+) -> Result<Option<String>, AllocError>
+    ensures { IfOk result (λ text. option_map string_bytes text
+        ≡ first_of name.now (rows_of (found_of matches.now))) }
+{
+    match said(matches, name) {
+        Some(text) => Ok(Some(text.to_string(alloc)?)),
+        None => Ok(None),
+    }
+}
+
+/// Whether the words turn a flag on.
+pub fn has_flag(matches: &ArgMatches<'_>, name: &str) -> bool
+    ensures { result ≡ is_on (first_of name.now (rows_of (found_of matches.now))) }
+{
+    match said(matches, name) {
+        Some(text) => text == "true",
+        None => false,
+    }
 }
 
 fn file_system_named(word: &str) -> Option<FileSystem>
@@ -45,15 +75,22 @@ fn file_system_named(word: &str) -> Option<FileSystem>
     }
 }
 
-fn order_named(word: &str) -> Option<ImageOrder>
+fn order_named(word: &str) -> Option<Order>
     ensures { result ≡ order_named word.now }
 {
     match word {
-        "dos" => Some(ImageOrder::Dos),
-        "prodos" => Some(ImageOrder::Prodos),
-        "nibble" => Some(ImageOrder::Nibble),
+        "dos" => Some(Order::Dos),
+        "prodos" => Some(Order::Prodos),
+        "nibble" => Some(Order::Nibble),
         _ => None,
     }
+}
+
+/// The order that the words say under a parameter's name.
+pub fn order_in(matches: &ArgMatches<'_>, name: &str) -> Option<Order>
+    ensures { result ≡ option_and_then order_named (first_of name.now (rows_of (found_of matches.now))) }
+{
+    order_named(said(matches, name)?)
 }
 
 /// The number that a word of decimal digits writes, up to the greatest.
@@ -87,32 +124,12 @@ fn up_to(number: u64, greatest: u64) -> Option<u64>
     }
 }
 
-/// The volume number where `--volume` is left out.
-const STANDARD_VOLUME: u8 = 254;
-
-fn volume_number(matches: &ArgMatches<'_>) -> Option<u8>
-    ensures { result ≡ volume_number (first_of (codes "volume") (rows_of (found_of matches.now))) }
-{
-    match said(matches, "volume") {
-        Some(word) => Some(number_named(word, 255)? as u8),
-        None => Some(STANDARD_VOLUME),
-    }
-}
-
-pub fn has_flag(matches: &ArgMatches<'_>, name: &str) -> bool
-    ensures { result ≡ is_on (first_of name.now (rows_of (found_of matches.now))) }
-{
-    match said(matches, name) {
-        Some(text) => text == "true",
-        None => false,
-    }
-}
-
+/// What the image is read as.
 pub fn volume_in(matches: &ArgMatches<'_>) -> Option<VolumeOptions>
-    ensures { result ≡ volume_by (λ name. first_of name (rows_of (found_of matches.now))) }
+    ensures { result ≡ volume_by (rows_say (rows_of (found_of matches.now))) }
 {
     let file_system = file_system_named(said(matches, "fs")?)?;
-    let order = order_named(said(matches, "order")?)?;
+    let order = order_in(matches, "order")?;
     Some(VolumeOptions {
         file_system,
         order,
@@ -120,195 +137,14 @@ pub fn volume_in(matches: &ArgMatches<'_>) -> Option<VolumeOptions>
     })
 }
 
-fn catalog_in(alloc: Global, matches: &ArgMatches<'_>) -> Result<Option<Job>, AllocError>
-    ensures { IfOk result (λ job. option_map job_view job
-        ≡ job_by (codes "catalog") (λ name. first_of name (rows_of (found_of matches.now)))) }
+/// Where the image goes, where the words say it once.
+pub fn target_in(alloc: Global, matches: &ArgMatches<'_>) -> Result<Option<Target>, AllocError>
+    ensures { IfOk result (λ target. option_map target_view target
+        ≡ target_by (rows_say (rows_of (found_of matches.now)))) }
 {
-    let Some(image) = said(matches, "image") else {
-        return Ok(None);
-    };
-    let Some(volume) = volume_in(matches) else {
-        return Ok(None);
-    };
-    Ok(Some(Job::Catalog {
-        image: image.to_string(alloc)?,
-        volume,
-    }))
-}
-
-/// A word as a text of its own, where it is there.
-pub fn text_of(alloc: Global, word: Option<&str>) -> Result<Option<String>, AllocError>
-    ensures { IfOk result (λ text. option_map string_bytes text ≡ option_map (λ s. s.now) word.entry) }
-{
-    match word {
-        Some(text) => Ok(Some(text.to_string(alloc)?)),
-        None => Ok(None),
-    }
-}
-
-/// What the words say under a parameter's name, as a text of its own.
-pub fn text_said(
-    alloc: Global,
-    matches: &ArgMatches<'_>,
-    name: &str,
-) -> Result<Option<String>, AllocError>
-    ensures { IfOk result (λ text. option_map string_bytes text
-        ≡ first_of name.now (rows_of (found_of matches.now))) }
-{
-    text_of(alloc, said(matches, name))
-}
-
-fn check_in(alloc: Global, matches: &ArgMatches<'_>) -> Result<Option<Job>, AllocError>
-    ensures { IfOk result (λ job. option_map job_view job
-        ≡ job_by (codes "check") (λ name. first_of name (rows_of (found_of matches.now)))) }
-{
-    let (Some(image), Some(volume)) = (said(matches, "image"), volume_in(matches)) else {
-        return Ok(None);
-    };
-    Ok(Some(Job::Check {
-        image: image.to_string(alloc)?,
-        volume,
-        reserve: text_said(alloc, matches, "reserve")?,
-    }))
-}
-
-fn read_in(alloc: Global, matches: &ArgMatches<'_>) -> Result<Option<Job>, AllocError>
-    ensures { IfOk result (λ job. option_map job_view job
-        ≡ job_by (codes "read") (λ name. first_of name (rows_of (found_of matches.now)))) }
-{
-    let (Some(image), Some(name)) = (said(matches, "image"), said(matches, "name")) else {
-        return Ok(None);
-    };
-    let Some(volume) = volume_in(matches) else {
-        return Ok(None);
-    };
-    Ok(Some(Job::Read {
-        image: image.to_string(alloc)?,
-        name: name.to_string(alloc)?,
-        volume,
-        whole: has_flag(matches, "whole"),
-    }))
-}
-
-/// The words of a conversion.
-#[derive(Clone, Copy)]
-struct Conversion<'a> {
-    image: &'a str,
-    order: ImageOrder,
-    to: ImageOrder,
-    out: &'a str,
-    volume: u8,
-}
-
-fn conversion_in<'a>(matches: &ArgMatches<'a>) -> Option<Conversion<'a>>
-    ensures { option_map conversion_view result
-        ≡ conversion_by (λ name. first_of name (rows_of (found_of matches.now))) }
-{
-    Some(Conversion {
-        image: said(matches, "image")?,
-        order: order_named(said(matches, "order")?)?,
-        to: order_named(said(matches, "to")?)?,
-        out: said(matches, "out")?,
-        volume: volume_number(matches)?,
-    })
-}
-
-fn convert_in(alloc: Global, matches: &ArgMatches<'_>) -> Result<Option<Job>, AllocError>
-    ensures { IfOk result (λ job. option_map job_view job
-        ≡ job_by (codes "convert") (λ name. first_of name (rows_of (found_of matches.now)))) }
-{
-    let Some(words) = conversion_in(matches) else {
-        return Ok(None);
-    };
-    Ok(Some(Job::Convert {
-        image: words.image.to_string(alloc)?,
-        order: words.order,
-        to: words.to,
-        out: words.out.to_string(alloc)?,
-        volume: words.volume,
-    }))
-}
-
-fn plan_in(alloc: Global, matches: &ArgMatches<'_>) -> Result<Option<Job>, AllocError>
-    ensures { IfOk result (λ job. option_map job_view job
-        ≡ job_by (codes "plan") (λ name. first_of name (rows_of (found_of matches.now)))) }
-{
-    let (Some(image), Some(volume)) = (said(matches, "image"), volume_in(matches)) else {
-        return Ok(None);
-    };
-    Ok(Some(Job::Plan {
-        image: image.to_string(alloc)?,
-        volume,
-        reserve: text_said(alloc, matches, "reserve")?,
-        reclaim: has_flag(matches, "reclaim"),
-        words: has_flag(matches, "words"),
-    }))
-}
-
-fn verify_in(alloc: Global, matches: &ArgMatches<'_>) -> Result<Option<Job>, AllocError>
-    ensures { IfOk result (λ job. option_map job_view job
-        ≡ job_by (codes "verify") (λ name. first_of name (rows_of (found_of matches.now)))) }
-{
-    let (Some(image), Some(from)) = (said(matches, "image"), said(matches, "from")) else {
-        return Ok(None);
-    };
-    let Some(volume) = volume_in(matches) else {
-        return Ok(None);
-    };
-    Ok(Some(Job::Verify {
-        image: image.to_string(alloc)?,
-        volume,
-        from: from.to_string(alloc)?,
-        reserve: text_said(alloc, matches, "reserve")?,
-        reclaim: has_flag(matches, "reclaim"),
-    }))
-}
-
-fn identify_in(alloc: Global, matches: &ArgMatches<'_>) -> Result<Option<Job>, AllocError>
-    ensures { IfOk result (λ job. option_map job_view job
-        ≡ job_by (codes "identify") (λ name. first_of name (rows_of (found_of matches.now)))) }
-{
-    let Some(image) = said(matches, "image") else {
-        return Ok(None);
-    };
-    Ok(Some(Job::Identify {
-        image: image.to_string(alloc)?,
-    }))
-}
-
-fn command_job(
-    alloc: Global,
-    command: &str,
-    matches: &ArgMatches<'_>,
-) -> Result<Option<Job>, AllocError>
-    ensures { IfOk result (λ job. option_map job_view job
-        ≡ job_by command.now (λ name. first_of name (rows_of (found_of matches.now)))) }
-{
-    match command {
-        "catalog" => catalog_in(alloc, matches),
-        "check" => check_in(alloc, matches),
-        "read" => read_in(alloc, matches),
-        "convert" => convert_in(alloc, matches),
-        "plan" => plan_in(alloc, matches),
-        "optimize" => optimize_in(alloc, matches),
-        "lock" => edit_in(alloc, matches, Edit::Lock),
-        "unlock" => edit_in(alloc, matches, Edit::Unlock),
-        "delete" => edit_in(alloc, matches, Edit::Delete),
-        "rename" => rename_in(alloc, matches),
-        "save" => save_in(alloc, matches),
-        "verify" => verify_in(alloc, matches),
-        "identify" => identify_in(alloc, matches),
+    match (said(matches, "out"), has_flag(matches, "in-place")) {
+        (Some(file), false) => Ok(Some(Target::File(file.to_string(alloc)?))),
+        (None, true) => Ok(Some(Target::InPlace)),
         _ => Ok(None),
-    }
-}
-
-/// The job; `None` where the words are not those of their command.
-pub fn job_in(alloc: Global, matches: &ArgMatches<'_>) -> Result<Option<Job>, AllocError>
-    ensures { IfOk result (λ job. option_map job_view job
-        ≡ found_job (subcommand_rows_of matches.now)) }
-{
-    match matches.subcommand() {
-        Some((command, inner)) => command_job(alloc, command, inner),
-        None => Ok(None),
     }
 }

@@ -1,28 +1,14 @@
-//! The words of `save`.
+//! What is asked by `save`.
 ghost use Rattle.std.specs.Prelude.{◌≡◌, codes, IfOk, option_map};
 ghost use Rattle.clap.specs.Matches.{found_of};
-ghost use Rattle.clap.specs.Walk.{first_of, rows_of};
-ghost use Rattle.shop_jobs.specs.Job.{job_view};
-ghost use Rattle.shop_words.specs.Job.{aux_named, job_by, saving_by, saving_view};
+ghost use Rattle.clap.specs.Walk.{rows_of};
+ghost use Rattle.shop_jobs.specs.Job.{ask_view, attributes_view};
+ghost use Rattle.shop_words.specs.Job.{ask_by, attributes_by, aux_named, rows_say};
 
-use crate::reading::{number_named, said, text_of, text_said, volume_in};
-use crate::target::{TargetWords, target_in, target_of};
+use crate::reading::{number_named, said, target_in, text_said, volume_in};
 use clap::ArgMatches;
-use shop_jobs::{Job, SaveAttributes, VolumeOptions};
+use shop_jobs::{Ask, Change, SaveAttributes};
 use std::alloc::{AllocError, Global};
-
-/// The words of a new file.
-#[derive(Clone, Copy)]
-struct Saving<'a> {
-    image: &'a str,
-    name: &'a str,
-    volume: VolumeOptions,
-    kind: Option<&'a str>,
-    aux: u16,
-    date: Option<&'a str>,
-    from: &'a str,
-    target: TargetWords<'a>,
-}
 
 // The auxiliary type, 0 where none is said.
 fn aux_named(word: Option<&str>) -> Option<u16>
@@ -34,39 +20,43 @@ fn aux_named(word: Option<&str>) -> Option<u16>
     }
 }
 
-fn saving_in<'a>(matches: &ArgMatches<'a>) -> Option<Saving<'a>>
-    ensures { option_map saving_view result ≡ saving_by (λ name. first_of name (rows_of (found_of matches.now))) }
+// What the words say of a new file with this auxiliary type.
+fn attributes_in(
+    alloc: Global,
+    matches: &ArgMatches<'_>,
+    aux: u16,
+) -> Result<SaveAttributes, AllocError>
+    ensures { IfOk result (λ attributes. attributes_view attributes
+        ≡ attributes_by aux (rows_say (rows_of (found_of matches.now)))) }
 {
-    Some(Saving {
-        image: said(matches, "image")?,
-        name: said(matches, "name")?,
-        volume: volume_in(matches)?,
-        kind: said(matches, "type"),
-        aux: aux_named(said(matches, "aux"))?,
-        date: said(matches, "date"),
-        from: said(matches, "from")?,
-        target: target_in(matches)?,
+    Ok(SaveAttributes {
+        kind: text_said(alloc, matches, "type")?,
+        aux,
+        date: text_said(alloc, matches, "date")?,
     })
 }
 
-pub fn save_in(alloc: Global, matches: &ArgMatches<'_>) -> Result<Option<Job>, AllocError>
-    ensures { IfOk result (λ job. option_map job_view job
-        ≡ job_by (codes "save") (λ name. first_of name (rows_of (found_of matches.now)))) }
+pub fn save_in(alloc: Global, matches: &ArgMatches<'_>) -> Result<Option<Ask>, AllocError>
+    ensures { IfOk result (λ ask. option_map ask_view ask
+        ≡ ask_by (codes "save") (rows_say (rows_of (found_of matches.now)))) }
 {
-    let Some(words) = saving_in(matches) else {
+    let (Some(name), Some(aux)) = (said(matches, "name"), aux_named(said(matches, "aux"))) else {
         return Ok(None);
     };
-    Ok(Some(Job::Save {
-        image: words.image.to_string(alloc)?,
-        name: words.name.to_string(alloc)?,
-        volume: words.volume,
-        attributes: SaveAttributes {
-            kind: text_of(alloc, words.kind)?,
-            aux: words.aux,
-            date: text_of(alloc, words.date)?,
-        },
-        from: words.from.to_string(alloc)?,
-        target: target_of(alloc, words.target)?,
+    let (Some(from), Some(volume)) = (said(matches, "from"), volume_in(matches)) else {
+        return Ok(None);
+    };
+    let Some(target) = target_in(alloc, matches)? else {
+        return Ok(None);
+    };
+    Ok(Some(Ask::Change {
+        volume,
         reserve: text_said(alloc, matches, "reserve")?,
+        change: Change::Save {
+            name: name.to_string(alloc)?,
+            attributes: attributes_in(alloc, matches, aux)?,
+            from: from.to_string(alloc)?,
+        },
+        target,
     }))
 }

@@ -10,23 +10,28 @@ ghost use Rattle.shop_jobs.specs.Job.{job_view};
 ghost use Rattle.shop_words.specs.Job.{asked_job, found_job, IsTaken, line_job};
 ghost use Rattle.shop_words.specs.Plain.{IsLine, IsPlain, Use};
 
+use crate::asking::job_in;
 use crate::fault::WordsFault;
 use crate::grammar::program;
-use crate::reading::job_in;
 use crate::refusal::{misfit_text, refusal};
-use shop_jobs::{FileSystem, ImageOrder, Job, VolumeOptions};
+use a2_device::Order;
+use shop_jobs::{Ask, FileSystem, Job, Look, VolumeOptions};
 use std::alloc::{AllocError, Global};
 
 /// The job of `catalog --fs dos --order dos -`.
 fn standard_job(alloc: Global) -> Result<Job, AllocError>
     ensures { IfOk result (λ job. asked_job [] ≡ Some (job_view job)) }
 {
-    Ok(Job::Catalog {
+    Ok(Job {
         image: "-".to_string(alloc)?,
-        volume: VolumeOptions {
-            file_system: FileSystem::Dos,
-            order: ImageOrder::Dos,
-            data_disk: false,
+        ask: Ask::Look {
+            volume: VolumeOptions {
+                file_system: FileSystem::Dos,
+                order: Order::Dos,
+                data_disk: false,
+            },
+            reserve: None,
+            look: Look::Catalog,
         },
     })
 }

@@ -15,6 +15,21 @@ fn a_made_image_is_handed_out(rt: HostRuntime) -> Result<(), Fail> {
 }
 
 #[test]
+fn a_report_hands_its_certificate_on(rt: HostRuntime) -> Result<(), Fail> {
+    let line = "a line\n".to_string(rt.alloc())?;
+    let certificate = Vec::from_slice(rt.alloc(), b"A2CERT 1\n")?;
+    let reply = Reply::optimized(line, certificate, vec![in rt.alloc(); 7; 3]?);
+    let Some(handed) = reply.certificate() else {
+        return Err("no certificate".into());
+    };
+    assert!(rt; handed == b"A2CERT 1\n".as_slice());
+    let answer = Answer::of(rt.alloc(), reply);
+    assert!(rt; answer.status == 0 && answer.text.as_slice() == b"a line\nA2CERT 1\n".as_slice());
+    assert!(rt; answer.out.as_slice() == [7, 7, 7].as_slice());
+    Ok(())
+}
+
+#[test]
 fn a_refusal_is_told(rt: HostRuntime) {
     let mut text = Vec::new(rt.alloc());
     assert_eq!(rt; Reply::from(ImageError::NoSector).tell(&mut text), 3);

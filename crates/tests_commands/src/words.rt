@@ -1,6 +1,7 @@
 // The words of commands: `parse_words`.
 use crate::answer::words_of;
-use shop_jobs::{FileSystem, ImageOrder, Job, VolumeOptions};
+use a2_device::Order;
+use shop_jobs::{Ask, FileSystem, Job, Look, VolumeOptions};
 use shop_words::{WordsFault, parse_words};
 use std::alloc::Global;
 use std::process::Abort;
@@ -16,9 +17,16 @@ fn parse(alloc: Global, line: &str) -> Result<Job, WordsFault> {
     parse_words(alloc, words_of(alloc, line)?.as_slice())
 }
 
-/// The words of a line are those of this job.
-fn asks(rt: &impl Abort, alloc: Global, line: &str, job: Job) -> Result<(), WordsFault> {
-    assert_eq!(rt; parse(alloc, line)?, job, "for {line}");
+/// The words of a line ask this of an image.
+fn asks(
+    rt: &impl Abort,
+    alloc: Global,
+    line: &str,
+    image: &str,
+    ask: Ask,
+) -> Result<(), WordsFault> {
+    let image = image.to_string(alloc)?;
+    assert_eq!(rt; parse(alloc, line)?, Job { image, ask }, "for {line}");
     Ok(())
 }
 
@@ -54,7 +62,7 @@ fn lists(
     alloc: Global,
     line: &str,
     image: &str,
-    order: ImageOrder,
+    order: Order,
     data_disk: bool,
 ) -> Result<(), WordsFault> {
     let volume = VolumeOptions {
@@ -62,13 +70,17 @@ fn lists(
         order,
         data_disk,
     };
-    let image = image.to_string(alloc)?;
-    asks(rt, alloc, line, Job::Catalog { image, volume })
+    let listing = Ask::Look {
+        volume,
+        reserve: None,
+        look: Look::Catalog,
+    };
+    asks(rt, alloc, line, image, listing)
 }
 
 #[test]
 fn no_words_list_standard_input(rt: HostRuntime) -> Result<(), Fail> {
-    lists(&rt, rt.alloc(), "", "-", ImageOrder::Dos, false)?;
+    lists(&rt, rt.alloc(), "", "-", Order::Dos, false)?;
     Ok(())
 }
 
@@ -78,7 +90,7 @@ fn standard_input_may_be_named(rt: HostRuntime) -> Result<(), Fail> {
         "catalog - --fs dos --order dos",
         "catalog --fs dos --order dos -",
     ] {
-        lists(&rt, rt.alloc(), line, "-", ImageOrder::Dos, false)?;
+        lists(&rt, rt.alloc(), line, "-", Order::Dos, false)?;
     }
     Ok(())
 }
@@ -90,7 +102,7 @@ fn options_stand_in_any_order(rt: HostRuntime) -> Result<(), Fail> {
         ("catalog a.dsk --fs dos --data-disk --order dos", true),
         ("catalog --fs=dos --order=dos a.dsk", false),
     ] {
-        lists(&rt, rt.alloc(), line, "a.dsk", ImageOrder::Dos, data_disk)?;
+        lists(&rt, rt.alloc(), line, "a.dsk", Order::Dos, data_disk)?;
     }
     Ok(())
 }
@@ -98,9 +110,9 @@ fn options_stand_in_any_order(rt: HostRuntime) -> Result<(), Fail> {
 #[test]
 fn an_image_may_be_in_each_order(rt: HostRuntime) -> Result<(), Fail> {
     for (line, order) in [
-        ("catalog a.dsk --fs dos --order dos", ImageOrder::Dos),
-        ("catalog a.dsk --fs dos --order prodos", ImageOrder::Prodos),
-        ("catalog a.dsk --fs dos --order nibble", ImageOrder::Nibble),
+        ("catalog a.dsk --fs dos --order dos", Order::Dos),
+        ("catalog a.dsk --fs dos --order prodos", Order::Prodos),
+        ("catalog a.dsk --fs dos --order nibble", Order::Nibble),
     ] {
         lists(&rt, rt.alloc(), line, "a.dsk", order, false)?;
     }
@@ -115,16 +127,16 @@ fn checks(
     line: &str,
     reserve: Option<String>,
 ) -> Result<(), WordsFault> {
-    let job = Job::Check {
-        image: "a.dsk".to_string(alloc)?,
+    let check = Ask::Look {
         volume: VolumeOptions {
             file_system: FileSystem::Dos,
-            order: ImageOrder::Prodos,
+            order: Order::Prodos,
             data_disk: false,
         },
         reserve,
+        look: Look::Check,
     };
-    asks(rt, alloc, line, job)
+    asks(rt, alloc, line, "a.dsk", check)
 }
 
 #[test]

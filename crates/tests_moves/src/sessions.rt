@@ -1,7 +1,7 @@
 //! Sessions step by step, also where a read or a write of the device fails.
 ghost use Rattle.std.specs.Prelude.{ℕ};
 ghost use Rattle.vol_mover.specs.Tasks.{Course};
-ghost use Rattle.vol_mover.specs.Present.{IsSession};
+ghost use Rattle.vol_mover.specs.Present.{IsSession, HasCourse};
 ghost use Rattle.vol_mover.specs.Shown.{present};
 
 use crate::volumes::{KEEP, dos33, stands};
@@ -71,10 +71,8 @@ fn two_steps<F: WritableFormat>(mut session: Session<FaultDevice<ImageDevice>, F
 
 // Makes so many writes, and tells whether each was made.
 fn makes<D: Device, F: WritableFormat>(session: &mut Session<D, F>, writes: u64) -> bool
-    requires { (course : Course)
-        × IsSession (F.meaning session.old.format.now) (present D.state F.directory session.old) course }
-    ensures { (course : Course)
-        × IsSession (F.meaning session.new.format.now) (present D.state F.directory session.new) course }
+    requires { HasCourse (F.meaning session.old.format.now) (present D.state F.directory session.old) }
+    ensures { HasCourse (F.meaning session.new.format.now) (present D.state F.directory session.new) }
 {
     for _ in 0..writes {
         if session.step().is_err() {

@@ -1,7 +1,7 @@
 -- What a device goes through, put together; and that a device of which nothing can fail makes no step fail.
-use Rattle.std.specs.Prelude.{◌≡◌, ◌≤◌, ◌<◌, ℕ, ◌+◌, ◌-◌, Bool, true, false, List, [], ◌∷◌, length, Option, Some, None, Contains, Result, Ok, Err, IsTrue}
+use Rattle.std.specs.Prelude.{◌≡◌, ◌<◌, ℕ, ◌+◌, Bool, true, false, List, [], ◌∷◌, Option, Some, None, Contains, IsTrue}
 use Rattle.std.proofs.Common.{refl, sym, ◌∙◌, ap, subst, arith, inl, inr}
-use Rattle.a2_device.specs.Device.{DeviceState, IsSameDevice, OnlyReads, FailsRead, UsesRead, UsesWrite, written, one_fewer, last_count}
+use Rattle.a2_device.specs.Device.{DeviceState, IsSameDevice, OnlyReads, FailsRead, UsesRead, UsesWrite, written, one_fewer}
 use Rattle.vol_mover.specs.Failing.{CannotFail, WorksOn, fewer}
 use Rattle.vol_mover.specs.Steps.{RefusesWrite}
 use Rattle.vol_mover.proofs.Stepping.{same_device, same_then}

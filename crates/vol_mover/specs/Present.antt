@@ -56,3 +56,7 @@ pub record IsSession (format : Meaning) (present : Present) (course : Course) : 
   pub agenda : IsAgenda present.opening present.lost_at_first course present.tasks
   pub plan : IsShortest present.at present.places (moves_of present.tasks)
   pub is_open : IsTrue present.device.honest → present.closed ≡ false → IsOpen format present.opening present.device.store present.parts course
+
+-- of some course this is a session
+abbrev pub HasCourse : Meaning → Present → Type 0
+HasCourse format present = (course : Course) × IsSession format present course

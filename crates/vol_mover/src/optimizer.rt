@@ -3,7 +3,7 @@ ghost use Rattle.std.specs.Prelude.{◌≡◌, ◌<◌, ℕ, Err, IsTrue, IfOk, 
 ghost use Rattle.vol_mover.specs.Tasks.{Course};
 ghost use Rattle.vol_mover.specs.Failing.{CannotFail};
 ghost use Rattle.vol_mover.specs.Optimizing.{HasWorked, StopsWork, IsNoFailure, IsRefused};
-ghost use Rattle.vol_mover.specs.Present.{IsSession};
+ghost use Rattle.vol_mover.specs.Present.{HasCourse};
 ghost use Rattle.vol_mover.specs.Report.{IsReported};
 ghost use Rattle.vol_mover.specs.Shown.{present};
 ghost use Rattle.vol_format.specs.Fits.{Fits};
@@ -23,8 +23,7 @@ fn work<D: Device, F: WritableFormat, A: Allocator>(
     cert: Vec<u8, A>,
     limit: u64,
 ) -> Result<(D, Report<A>), (OptError<A>, D)>
-    requires session { (course : Course)
-        × IsSession (F.meaning session.format.now) (present D.state F.directory session) course }
+    requires session { HasCourse (F.meaning session.format.now) (present D.state F.directory session) }
     requires rings { length plan.now.rings.items < 4294967296 }
     requires misplaced { length plan.now.misplaced.items < 4294967296 }
     ensures worked { IfOk result (λ done. HasWorked (F.meaning session.entry.format.now) limit

@@ -1,7 +1,7 @@
 // Steps one after the other.
 ghost use Rattle.std.specs.Prelude.{◌≡◌, ℕ};
 ghost use Rattle.vol_mover.specs.Tasks.{Course};
-ghost use Rattle.vol_mover.specs.Present.{IsSession};
+ghost use Rattle.vol_mover.specs.Present.{HasCourse};
 ghost use Rattle.vol_mover.specs.Runs.{RunsTo};
 ghost use Rattle.vol_mover.specs.Shown.{present};
 
@@ -13,8 +13,7 @@ use vol_format::WritableFormat;
 impl<'a, D: Device, F: WritableFormat, A: Allocator> Session<'a, D, F, A> {
     // Makes so many writes, or all that are left.
     pub(crate) fn run(&mut self, limit: u64) -> Result<(), StepError>
-        requires { (course : Course)
-            × IsSession (F.meaning self.old.format.now) (present D.state F.directory self.old) course }
+        requires { HasCourse (F.meaning self.old.format.now) (present D.state F.directory self.old) }
         ensures only { self.new ≡ record self.old {
           device = self.new.device;
           layout = self.new.layout;
@@ -26,8 +25,7 @@ impl<'a, D: Device, F: WritableFormat, A: Allocator> Session<'a, D, F, A> {
         } }
         ensures run { RunsTo (F.meaning self.old.format.now) limit (present D.state F.directory self.old)
             (present D.state F.directory self.new) result }
-        ensures session { (course : Course)
-            × IsSession (F.meaning self.new.format.now) (present D.state F.directory self.new) course }
+        ensures session { HasCourse (F.meaning self.new.format.now) (present D.state F.directory self.new) }
     {
         let mut made = 0;
         while made < limit {

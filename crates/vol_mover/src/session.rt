@@ -28,7 +28,7 @@ ghost use Rattle.vol_mover.specs.declared.write.Write.TheVariants.{
 };
 ghost use Rattle.vol_layout.specs.Plans.{IsLegal};
 ghost use Rattle.vol_layout.specs.declared.moves.Move.{Move};
-ghost use Rattle.vol_mover.specs.Present.{IsSession};
+ghost use Rattle.vol_mover.specs.Present.{HasCourse};
 ghost use Rattle.vol_mover.specs.Shown.{present};
 ghost use Rattle.vol_mover.specs.Steps.{HasFinished, IsStep, Prepares, RefusesWrite, advanced, kind_of};
 
@@ -63,8 +63,7 @@ impl<'a, D: Device, F: WritableFormat, A: Allocator> Session<'a, D, F, A> {
     /// the same step may be tried again. `Write` where the write failed: the old unit or the new one stands, and the
     /// session is closed.
     pub fn step(&mut self) -> Result<Progress, StepError>
-        requires { (course : Course)
-            × IsSession (F.meaning self.old.format.now) (present D.state F.directory self.old) course }
+        requires { HasCourse (F.meaning self.old.format.now) (present D.state F.directory self.old) }
         ensures only { self.new ≡ record self.old {
           device = self.new.device;
           layout = self.new.layout;
@@ -76,8 +75,7 @@ impl<'a, D: Device, F: WritableFormat, A: Allocator> Session<'a, D, F, A> {
         } }
         ensures step { IsStep (F.meaning self.old.format.now) (present D.state F.directory self.old)
             (present D.state F.directory self.new) result }
-        ensures session { (course : Course)
-            × IsSession (F.meaning self.new.format.now) (present D.state F.directory self.new) course }
+        ensures session { HasCourse (F.meaning self.new.format.now) (present D.state F.directory self.new) }
         ensures done { result ≡ Ok Progress.Done
             → HasFinished (F.meaning self.new.format.now) (present D.state F.directory self.new) }
     {
@@ -92,8 +90,7 @@ impl<'a, D: Device, F: WritableFormat, A: Allocator> Session<'a, D, F, A> {
 
     // Makes the next write.
     fn make(&mut self, write: Write) -> Result<Progress, StepError>
-        requires session { (course : Course)
-            × IsSession (F.meaning self.old.format.now) (present D.state F.directory self.old) course }
+        requires session { HasCourse (F.meaning self.old.format.now) (present D.state F.directory self.old) }
         requires opened { self.old.closed ≡ false }
         requires next { next_write self.old.agenda ≡ Some write }
         ensures only { self.new ≡ record self.old {
@@ -115,8 +112,7 @@ impl<'a, D: Device, F: WritableFormat, A: Allocator> Session<'a, D, F, A> {
 
     // Reads the unit that the next write needs and changes it; the place to which it goes.
     fn prepare(&mut self, write: Write) -> Result<u32, StepError>
-        requires session { (course : Course)
-            × IsSession (F.meaning self.old.format.now) (present D.state F.directory self.old) course }
+        requires session { HasCourse (F.meaning self.old.format.now) (present D.state F.directory self.old) }
         requires next { next_write self.old.agenda ≡ Some write }
         ensures only { self.new ≡ record self.old { device = self.new.device; unit = self.new.unit } }
         ensures prepares { Prepares (F.meaning self.old.format.now) (present D.state F.directory self.old)
@@ -131,8 +127,7 @@ impl<'a, D: Device, F: WritableFormat, A: Allocator> Session<'a, D, F, A> {
 
     // The map's unit with the marks of the next write.
     fn prepare_map(&mut self, at: u32) -> Result<u32, StepError>
-        requires session { (course : Course)
-            × IsSession (F.meaning self.old.format.now) (present D.state F.directory self.old) course }
+        requires session { HasCourse (F.meaning self.old.format.now) (present D.state F.directory self.old) }
         requires next { next_write self.old.agenda ≡ Some (MapWrite at) }
         ensures only { self.new ≡ record self.old { device = self.new.device; unit = self.new.unit } }
         ensures prepares { Prepares (F.meaning self.old.format.now) (present D.state F.directory self.old)
@@ -145,8 +140,7 @@ impl<'a, D: Device, F: WritableFormat, A: Allocator> Session<'a, D, F, A> {
 
     // The unit of the part that moves next, for the place to which it goes.
     fn prepare_copy(&mut self, step: Move) -> Result<u32, StepError>
-        requires session { (course : Course)
-            × IsSession (F.meaning self.old.format.now) (present D.state F.directory self.old) course }
+        requires session { HasCourse (F.meaning self.old.format.now) (present D.state F.directory self.old) }
         requires next { next_write self.old.agenda ≡ Some (CopyWrite step) }
         ensures only { self.new ≡ record self.old { device = self.new.device; unit = self.new.unit } }
         ensures prepares { Prepares (F.meaning self.old.format.now) (present D.state F.directory self.old)
@@ -160,8 +154,7 @@ impl<'a, D: Device, F: WritableFormat, A: Allocator> Session<'a, D, F, A> {
 
     // The unit that holds the pointer to the part that moves next, with the pointer naming the copy.
     fn prepare_pointer(&mut self, step: Move) -> Result<u32, StepError>
-        requires session { (course : Course)
-            × IsSession (F.meaning self.old.format.now) (present D.state F.directory self.old) course }
+        requires session { HasCourse (F.meaning self.old.format.now) (present D.state F.directory self.old) }
         requires next { next_write self.old.agenda ≡ Some (PointerWrite step) }
         ensures only { self.new ≡ record self.old { device = self.new.device; unit = self.new.unit } }
         ensures prepares { Prepares (F.meaning self.old.format.now) (present D.state F.directory self.old)

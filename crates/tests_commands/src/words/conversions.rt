@@ -1,6 +1,7 @@
 // The words of conversions.
 use super::{asks, refuses};
-use shop_jobs::{ImageOrder, Job};
+use a2_device::Order;
+use shop_jobs::Ask;
 use shop_words::WordsFault;
 use std::alloc::{AllocError, Global};
 use std::process::Abort;
@@ -15,14 +16,14 @@ fn conversion(alloc: Global, more: &str) -> Result<String, AllocError> {
 
 /// The words of a conversion and these are those of one with this volume number.
 fn converts(rt: &impl Abort, alloc: Global, more: &str, volume: u8) -> Result<(), WordsFault> {
-    let job = Job::Convert {
-        image: "a.dsk".to_string(alloc)?,
-        order: ImageOrder::Dos,
-        to: ImageOrder::Nibble,
+    let convert = Ask::Convert {
+        order: Order::Dos,
+        to: Order::Nibble,
         out: "b.nib".to_string(alloc)?,
         volume,
     };
-    asks(rt, alloc, conversion(alloc, more)?.as_str(), job)
+    let line = conversion(alloc, more)?;
+    asks(rt, alloc, line.as_str(), "a.dsk", convert)
 }
 
 /// The words of a conversion and these are refused, with a text that contains this and the usage.

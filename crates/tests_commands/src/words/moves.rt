@@ -1,6 +1,7 @@
 // The words of plans, optimizations and verifications.
 use super::asks;
-use shop_jobs::{FileSystem, ImageOrder, Job, Target, VolumeOptions};
+use a2_device::Order;
+use shop_jobs::{Ask, Change, FileSystem, Look, Target, VolumeOptions};
 use shop_words::WordsFault;
 use std::alloc::Global;
 use std::process::Abort;
@@ -8,37 +9,50 @@ use std::test::Fail;
 
 const PRODOS: VolumeOptions = VolumeOptions {
     file_system: FileSystem::Prodos,
-    order: ImageOrder::Prodos,
+    order: Order::Prodos,
     data_disk: false,
 };
+
+/// What is looked for in a volume of ProDOS, with these places reserved.
+fn look_at(reserve: Option<String>, look: Look) -> Ask {
+    Ask::Look {
+        volume: PRODOS,
+        reserve,
+        look,
+    }
+}
+
+/// A change of a volume of ProDOS.
+fn change(change: Change, target: Target) -> Ask {
+    Ask::Change {
+        volume: PRODOS,
+        reserve: None,
+        change,
+        target,
+    }
+}
 
 #[test]
 fn a_plan_may_reclaim_and_reserve(rt: HostRuntime) -> Result<(), Fail> {
     let alloc = rt.alloc();
-    let job = Job::Plan {
-        image: "a.po".to_string(alloc)?,
-        volume: PRODOS,
-        reserve: Some("7,280".to_string(alloc)?),
+    let plan = Look::Plan {
         reclaim: true,
         words: false,
     };
+    let ask = look_at(Some("7,280".to_string(alloc)?), plan);
     let line = "plan a.po --fs prodos --order prodos --reclaim --reserve 7,280";
-    asks(&rt, alloc, line, job)?;
+    asks(&rt, alloc, line, "a.po", ask)?;
     Ok(())
 }
 
 #[test]
 fn a_plan_may_be_told_in_words(rt: HostRuntime) -> Result<(), Fail> {
-    let alloc = rt.alloc();
-    let job = Job::Plan {
-        image: "a.po".to_string(alloc)?,
-        volume: PRODOS,
-        reserve: None,
+    let plan = Look::Plan {
         reclaim: false,
         words: true,
     };
     let line = "plan a.po --words --fs prodos --order prodos";
-    asks(&rt, alloc, line, job)?;
+    asks(&rt, rt.alloc(), line, "a.po", look_at(None, plan))?;
     Ok(())
 }
 
@@ -49,17 +63,14 @@ fn optimizes(
     more: &str,
     stop_after: Option<u64>,
 ) -> Result<(), WordsFault> {
-    let job = Job::Optimize {
-        image: "a.po".to_string(alloc)?,
-        volume: PRODOS,
-        target: Target::File("b.po".to_string(alloc)?),
-        reserve: None,
+    let optimize = Change::Optimize {
         reclaim: true,
         stop_after,
         cert: None,
     };
+    let ask = change(optimize, Target::File("b.po".to_string(alloc)?));
     let line = format!(in alloc; "optimize a.po --fs prodos --order prodos --reclaim {more}")?;
-    asks(rt, alloc, line.as_str(), job)
+    asks(rt, alloc, line.as_str(), "a.po", ask)
 }
 
 #[test]
@@ -80,48 +91,43 @@ fn an_optimization_may_have_a_limit_of_writes(rt: HostRuntime) -> Result<(), Fai
 #[test]
 fn an_optimization_may_write_its_certificate(rt: HostRuntime) -> Result<(), Fail> {
     let alloc = rt.alloc();
-    let job = Job::Optimize {
-        image: "a.po".to_string(alloc)?,
-        volume: PRODOS,
-        target: Target::File("b.po".to_string(alloc)?),
-        reserve: None,
+    let optimize = Change::Optimize {
         reclaim: false,
         stop_after: None,
         cert: Some("a.cert".to_string(alloc)?),
     };
+    let ask = change(optimize, Target::File("b.po".to_string(alloc)?));
     let line = "optimize a.po --fs prodos --order prodos --cert a.cert --out b.po";
-    asks(&rt, alloc, line, job)?;
+    asks(&rt, alloc, line, "a.po", ask)?;
     Ok(())
 }
 
 #[test]
 fn an_optimization_may_be_done_in_place(rt: HostRuntime) -> Result<(), Fail> {
-    let alloc = rt.alloc();
-    let job = Job::Optimize {
-        image: "a.po".to_string(alloc)?,
-        volume: PRODOS,
-        target: Target::InPlace,
-        reserve: None,
+    let optimize = Change::Optimize {
         reclaim: false,
         stop_after: None,
         cert: None,
     };
     let line = "optimize a.po --in-place --fs prodos --order prodos";
-    asks(&rt, alloc, line, job)?;
+    asks(
+        &rt,
+        rt.alloc(),
+        line,
+        "a.po",
+        change(optimize, Target::InPlace),
+    )?;
     Ok(())
 }
 
 #[test]
 fn a_verification_reads_a_certificate(rt: HostRuntime) -> Result<(), Fail> {
     let alloc = rt.alloc();
-    let job = Job::Verify {
-        image: "a.po".to_string(alloc)?,
-        volume: PRODOS,
+    let verify = Look::Verify {
         from: "a.cert".to_string(alloc)?,
-        reserve: None,
         reclaim: true,
     };
     let line = "verify a.po --fs prodos --order prodos --reclaim --from a.cert";
-    asks(&rt, alloc, line, job)?;
+    asks(&rt, alloc, line, "a.po", look_at(None, verify))?;
     Ok(())
 }

@@ -1,6 +1,7 @@
 // The words of reads.
 use super::asks;
-use shop_jobs::{FileSystem, ImageOrder, Job, VolumeOptions};
+use a2_device::Order;
+use shop_jobs::{Ask, FileSystem, Look, VolumeOptions};
 use shop_words::WordsFault;
 use std::alloc::Global;
 use std::process::Abort;
@@ -9,17 +10,19 @@ use std::test::Fail;
 /// The words of a line are those of a read of HELLO in the DOS volume of a.dsk, in nibble order; its two flags are both
 /// given or none is.
 fn reads(rt: &impl Abort, alloc: Global, line: &str, flags: bool) -> Result<(), WordsFault> {
-    let job = Job::Read {
-        image: "a.dsk".to_string(alloc)?,
-        name: "HELLO".to_string(alloc)?,
+    let read = Ask::Look {
         volume: VolumeOptions {
             file_system: FileSystem::Dos,
-            order: ImageOrder::Nibble,
+            order: Order::Nibble,
             data_disk: flags,
         },
-        whole: flags,
+        reserve: None,
+        look: Look::Read {
+            name: "HELLO".to_string(alloc)?,
+            whole: flags,
+        },
     };
-    asks(rt, alloc, line, job)
+    asks(rt, alloc, line, "a.dsk", read)
 }
 
 #[test]

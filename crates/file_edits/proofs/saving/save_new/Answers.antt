@@ -6,7 +6,7 @@ use Rattle.vol_format.specs.Accepted.{IsAccepted}
 use Rattle.vol_laws.specs.Writes.{Write}
 use Rattle.edit_formats.specs.Prepared.{write_of}
 use Rattle.edit_formats.proofs.Edits.{edited_after, edited_as}
-use Rattle.file_edits.specs.Saved.{IsSaveEdit}
+use Rattle.file_edits.specs.Saving.{saving_of, AreWritesOf}
 use Rattle.file_edits.proofs.saving.save_new.Goals as goal
 
 pub returns-clause-edited : goal.returns-clause-edited
@@ -20,8 +20,7 @@ returns-clause-edited g c =
     let checked = c.in_ok-checked.ensures in
     let directory = g.F.Format.directory format (volume_of c.in_ok-checked.checked) in
     let IsMade : List Write → Type 0 = λ made. made ≡ map write_of c.as_slice.result.now in
-    let IsEdit : DeviceState → List Write → Type 0 = λ device made.
-    IsSaveEdit meaning (g.F.SavableFormat.saves format) device.store c.args.path.now c.args.attributes.now c.args.stored.now c.args.units.now made in
+    let IsEdit : DeviceState → List Write → Type 0 = λ device. AreWritesOf (saving_of meaning (g.F.SavableFormat.saves format) device.store c.args.file.now) in
     edited_as c.write_all.result old new IsMade (IsEdit old)
     (λ honest made is.
     let kept = checked.device.kept honest refl in

@@ -1,0 +1,136 @@
+// The job, done: in its image's own file, on the units of that file which it needs, or on all bytes
+// of its image.
+ghost use Rattle.std.specs.Prelude.{◌≡◌, true};
+ghost use Rattle.a2_device.specs.Device.{DeviceState};
+ghost use Rattle.shop_jobs.specs.Job.{ask_view};
+ghost use Rattle.shop_jobs.specs.Paths.{is_in_place as in_place};
+ghost use Rattle.shop_commands.specs.OnDevice.{HasUnitsFor};
+
+use crate::inputs::Inputs;
+use crate::stop::Stop;
+use a2_device::{Device, Order};
+use a2_media::{FileDevice, SystemFile};
+use shop_changes::Outcome;
+use shop_commands::{only_reads, read_job_on_device, reply_to, run_job_in_place};
+use shop_files::{ImageDevice, OpenImage, Output, Unwritten, extra_bytes};
+use shop_jobs::{Ask, Job, Look, image_order, is_in_place, volume_of};
+use shop_replies::{Failure, Refusal, Reply, most_bytes};
+
+/// What a job has come to.
+#[derive(Drop)]
+pub enum Done {
+    /// It is answered, and its files are not written.
+    Answered(Reply),
+    /// It has changed its image in its own file, or has not, and the file is on the disk.
+    InPlace(Outcome),
+}
+
+// What became of the work once the file is on the disk: what can't be put there has failed.
+fn kept_outcome(outcome: Outcome, device: &ImageDevice) -> Outcome {
+    if device.writes() > 0 && device.file().flush_to_disk().is_err() {
+        return Outcome::Unfinished(Reply::failed(Failure::Device));
+    }
+    outcome
+}
+
+// Does a job on the units of its image's file.
+fn change_units(rt: &HostRuntime, job: &Job, extra: &[u8], device: ImageDevice) -> Outcome
+    requires job { in_place (ask_view job.now.ask) ≡ true }
+    requires units { HasUnitsFor (ask_view job.now.ask)
+        (⟦<FileDevice<SystemFile> as Device>⟧.state device) }
+{
+    let (outcome, device) = run_job_in_place(rt.alloc(), job, extra, device);
+    kept_outcome(outcome, &device)
+}
+
+// Does a job in its image's own file.
+fn do_in_place(
+    rt: &HostRuntime,
+    job: &Job,
+    image: &OpenImage,
+    certificate: &mut Output<'_>,
+) -> Result<Done, Stop>
+    requires job { in_place (ask_view job.now.ask) ≡ true }
+{
+    let Some(volume) = volume_of(job) else {
+        return Err(Stop::Refused(Refusal::InPlace));
+    };
+    let device = image.device(volume)?;
+    let extra = extra_bytes(rt, job)?;
+    if certificate.open().is_err() {
+        return Err(Stop::Unwritten(Unwritten::CertificateBeforeImage));
+    }
+    Ok(Done::InPlace(change_units(rt, job, extra.as_slice(), device)))
+}
+
+// The reply to a job that only reads a volume, of the file of its image; `None` where the job is
+// another, or where the image is no file in which its units stand so, as on standard input.
+fn reply_of_units(
+    rt: &HostRuntime,
+    job: &Job,
+    image: &OpenImage,
+) -> Result<Option<Reply>, Failure> {
+    let Some(volume) = volume_of(job) else {
+        return Ok(None);
+    };
+    if !only_reads(job) {
+        return Ok(None);
+    }
+    let Ok(mut device) = image.device(volume) else {
+        return Ok(None);
+    };
+    let extra = extra_bytes(rt, job)?;
+    let reply = read_job_on_device(rt.alloc(), job, extra.as_slice(), &mut device);
+    Ok(Some(reply))
+}
+
+// The most bytes that are read of an image, but for one that shows that there are more.
+fn most_of(job: &Job) -> u32 {
+    let order = match image_order(job) {
+        Some(order) => order,
+        None => Order::Prodos,
+    };
+    most_bytes(order) as u32
+}
+
+// The reply to a job on the bytes of its image.
+fn reply_of_bytes(rt: &HostRuntime, job: &Job, image: Vec<u8>) -> Result<Reply, Failure> {
+    let extra = extra_bytes(rt, job)?;
+    Ok(reply_to(rt.alloc(), job, image, extra.as_slice()))
+}
+
+// The reply to a job that leaves its image's file as it is.
+fn reply_of(rt: &HostRuntime, job: &Job, inputs: &mut Inputs) -> Result<Reply, Failure> {
+    if let Some(bytes) = inputs.bytes.take() {
+        return reply_of_bytes(rt, job, bytes);
+    }
+    if let Some(reply) = reply_of_units(rt, job, &inputs.image)? {
+        return Ok(reply);
+    }
+    let bytes = inputs.image.bytes(rt, most_of(job))?;
+    reply_of_bytes(rt, job, bytes)
+}
+
+/// Does a job. The file of a certificate is made before an image is changed in its own file.
+pub fn do_job(
+    rt: &HostRuntime,
+    job: &Job,
+    inputs: &mut Inputs,
+    certificate: &mut Output<'_>,
+) -> Result<Done, Stop> {
+    if is_in_place(job) {
+        return do_in_place(rt, job, &inputs.image, certificate);
+    }
+    Ok(Done::Answered(reply_of(rt, job, inputs)?))
+}
+
+/// Whether what a job tells is the bytes of a file, and no words of the program's.
+pub fn is_content(job: &Job) -> bool {
+    matches!(
+        job.ask,
+        Ask::Look {
+            look: Look::Read { .. },
+            ..
+        }
+    )
+}

@@ -1,0 +1,89 @@
+// The inputs of a job, opened.
+use crate::asking::is_auto;
+use crate::stop::Stop;
+use shop_files::{Found, JobFiles, OpenImage, is_in_its_file};
+use shop_jobs::{Job, certificate_path, is_in_place, is_on_standard_input, out_path, volume_of};
+use shop_replies::{Failure, Refusal};
+
+/// The image of a job, open, and its bytes where all of them were read.
+#[derive(Drop)]
+pub struct Inputs {
+    pub image: OpenImage,
+    pub bytes: Option<Vec<u8>>,
+}
+
+// Notes the paths that a job names, where its answer is to be explained.
+fn note_paths(rt: &HostRuntime, job: &Job, found: &mut Found) {
+    if found.is_wanted {
+        found.path = job.image.as_str().to_string(rt.alloc()).ok();
+        found.out = copy_of(rt, out_path(job));
+        found.certificate = copy_of(rt, certificate_path(job));
+    }
+}
+
+// A path that may be left out, as a text of its own, if there is memory for it.
+fn copy_of(rt: &HostRuntime, path: Option<&str>) -> Option<String> {
+    path?.to_string(rt.alloc()).ok()
+}
+
+/// Looks where the files of a job lead. Two roles that one file has, of which one is written, are
+/// refused as words are.
+pub fn files_of<'a>(
+    rt: &HostRuntime,
+    job: &'a Job,
+    found: &mut Found,
+) -> Result<JobFiles<'a>, Stop> {
+    note_paths(rt, job, found);
+    let Ok(files) = JobFiles::of(rt, job) else {
+        return Err(Stop::Failed(Failure::Memory));
+    };
+    match files.clash(is_in_place(job)) {
+        Some(clash) => Err(Stop::Clash(clash)),
+        None => Ok(files),
+    }
+}
+
+// Whether a job is to change its image in a file that it is not changed in, as the words say: no
+// look at the file is needed. A word `auto` leaves open how the image is read.
+fn is_out_of_place(words: &[String], job: &Job) -> bool {
+    let is_kept = match volume_of(job) {
+        Some(volume) => is_auto(words) || is_in_its_file(volume),
+        None => false,
+    };
+    is_in_place(job) && (is_on_standard_input(job) || !is_kept)
+}
+
+// Opens the image of a job, and notes why it can't be opened.
+fn open_image(
+    rt: &HostRuntime,
+    job: &Job,
+    files: &JobFiles<'_>,
+    found: &mut Found,
+) -> Result<OpenImage, Stop> {
+    if is_on_standard_input(job) {
+        return Ok(OpenImage::StandardInput);
+    }
+    let image_use = files.image_use(is_in_place(job));
+    match OpenImage::open(rt, job.image.as_str(), image_use) {
+        Ok(image) => Ok(image),
+        Err(fault) => {
+            found.fault = Some(fault);
+            Err(Stop::Failed(Failure::Input))
+        }
+    }
+}
+
+/// Opens the image of a job.
+pub fn open_inputs(
+    rt: &HostRuntime,
+    words: &[String],
+    job: &Job,
+    files: &JobFiles<'_>,
+    found: &mut Found,
+) -> Result<Inputs, Stop> {
+    if is_out_of_place(words, job) {
+        return Err(Stop::Refused(Refusal::InPlace));
+    }
+    let image = open_image(rt, job, files, found)?;
+    Ok(Inputs { image, bytes: None })
+}

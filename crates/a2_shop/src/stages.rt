@@ -1,0 +1,113 @@
+// The program, stage by stage.
+use crate::asking::asked_job;
+use crate::doing::{do_job, is_content};
+use crate::ending::{Outputs, end, explain_answer};
+use crate::inputs::{Inputs, files_of, open_inputs};
+use crate::settling::settled_job;
+use crate::stop::Stop;
+use crate::streams::take_closed_streams;
+use crate::words::{VERSION, greet, told_fault, words_of};
+use explanations::Overheard;
+use shop_files::{Ending, Found, JobFiles};
+use shop_jobs::Job;
+use shop_replies::{Failure, Reply, written};
+use shop_words::{asks_explain, asks_version, without_explain};
+use std::io::{BufWriter, Write};
+
+/// Does what the program's words ask for, and answers its status. Standard output is written
+/// through a buffer, so that a listing is not written a line at a time. What a write that failed
+/// has left in the buffer is not written again.
+pub fn run(rt: &HostRuntime) -> u8 {
+    let Ok(streams) = take_closed_streams(rt) else {
+        return Reply::failed(Failure::Input).tell(&mut rt.stdout());
+    };
+    let Ok(mut text) = BufWriter::new(rt.alloc(), rt.stdout()) else {
+        return Reply::failed(Failure::Memory).tell(&mut rt.stdout());
+    };
+    let status = run_telling(rt, &mut text);
+    let _ = text.into_parts();
+    drop(streams);
+    status
+}
+
+// Takes the program's words and does what they ask for.
+fn run_telling<T: Write>(rt: &HostRuntime, text: &mut T) -> u8 {
+    let words = match words_of(rt) {
+        Ok(words) => words,
+        Err(error) => return told_fault(&error, text),
+    };
+    if asks_version(words.as_slice()) {
+        return written(VERSION, 0, text);
+    }
+    greet(rt, words.as_slice());
+    if asks_explain(words.as_slice()) {
+        return run_explained(rt, without_explain(words).as_slice(), text);
+    }
+    run_words(rt, words.as_slice(), &mut Found::new(), text)
+}
+
+// Does what words ask for, and explains on standard error what was told.
+fn run_explained<T: Write>(rt: &HostRuntime, words: &[String], text: &mut T) -> u8 {
+    let mut found = Found::new();
+    found.is_wanted = true;
+    let mut text = Overheard::new(rt.alloc(), text);
+    let status = run_words(rt, words, &mut found, &mut text);
+    explain_answer(rt, &found, &text.told);
+    status
+}
+
+// Does what words ask for, and notes what becomes known on the way.
+fn run_words<T: Write>(rt: &HostRuntime, words: &[String], found: &mut Found, text: &mut T) -> u8 {
+    match run_stages(rt, words, found, text) {
+        Ok(ending) => {
+            found.unwritten = ending.unwritten;
+            ending.status
+        }
+        Err(stop) => {
+            found.unwritten = stop.unwritten();
+            stop.tell(text)
+        }
+    }
+}
+
+// The job that the words ask for, its inputs opened, and the job settled where a word is `auto`;
+// then it is done. The image is held, with its lock, to the end.
+fn run_stages<T: Write>(
+    rt: &HostRuntime,
+    words: &[String],
+    found: &mut Found,
+    text: &mut T,
+) -> Result<Ending, Stop> {
+    let asked = asked_job(rt, words, text)?;
+    let files = files_of(rt, &asked, found)?;
+    let mut inputs = open_inputs(rt, words, &asked, &files, found)?;
+    let settled = settled_job(rt, words, &asked, &mut inputs, found, text)?;
+    let job = match &settled {
+        Some(job) => job,
+        None => &asked,
+    };
+    finish_job(rt, job, &files, &mut inputs, found, text)
+}
+
+// The job done, its files ended and its answer told.
+fn finish_job<T: Write>(
+    rt: &HostRuntime,
+    job: &Job,
+    files: &JobFiles<'_>,
+    inputs: &mut Inputs,
+    found: &mut Found,
+    text: &mut T,
+) -> Result<Ending, Stop> {
+    let mut outputs = Outputs::of(rt, files);
+    match do_job(rt, job, inputs, &mut outputs.certificate) {
+        Ok(done) => {
+            let ending = end(rt, done, outputs, text);
+            found.is_content = ending.status == 0 && is_content(job);
+            Ok(ending)
+        }
+        Err(stop) => {
+            outputs.discard();
+            Err(stop)
+        }
+    }
+}

@@ -1,7 +1,0 @@
-pub mod Outcome
-pub mod Units
-pub mod OptimizeOutcome
-pub mod EditOutcome
-pub mod SaveOutcome
-pub mod Changing
-pub mod Reading

@@ -1,5 +1,0 @@
-mod StepLemmas
-mod Checks
-mod Readings
-pub mod Unopened
-mod Quiet

@@ -1,0 +1,10 @@
+pub mod Work
+pub mod EditRules
+pub mod Refusals
+pub mod Edits
+pub mod Saves
+pub mod Outcome
+pub mod OptimizeOutcome
+pub mod EditOutcome
+pub mod SaveOutcome
+pub mod Changing

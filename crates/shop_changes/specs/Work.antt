@@ -1,0 +1,18 @@
+-- Work that changes a volume, with the bytes of its files read.
+use Rattle.std.specs.Prelude.{ℕ, Bool, List}
+use Rattle.given_file.specs.Content.{GivenView, given_view}
+use Rattle.shop_jobs.specs.Job.{EditView, edit_view}
+use Rattle.shop_changes.specs.declared.work.Work.{Work}
+use Rattle.shop_changes.specs.declared.work.Work.TheVariants as works
+
+-- Work as contracts see it: of the order of a volume whether lost places are reclaimed, and by how many writes at most;
+-- of a file its edit and its name; of a new file its path, and the file as it is given.
+pub data WorkView : Type 0 where
+  Optimize : Bool → ℕ → WorkView
+  EditOf : EditView → List ℕ → WorkView
+  Save : List ℕ → GivenView → WorkView
+
+abbrev pub work_view : Work → WorkView
+work_view (works.Optimize reclaim limit) = Optimize reclaim limit
+work_view (works.Edit edit name) = EditOf (edit_view edit.now) name.now
+work_view (works.Save path given) = Save path.now (given_view given)

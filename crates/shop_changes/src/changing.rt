@@ -1,0 +1,129 @@
+// Work that changes the volume of a device where it stands.
+ghost use Rattle.std.specs.Prelude.{◌≡◌, ◌⊎◌, ◌<◌, false, option_map};
+ghost use Rattle.shop_jobs.specs.declared.job.FileSystem.TheVariants.{Dos as OfDos, Prodos as OfProdos};
+ghost use Rattle.shop_replies.specs.Volume.{HasUnitsOf, meaning_of};
+ghost use Rattle.shop_changes.specs.Changing.{IsChangeOutcome, IsWorkOutcome, KeepsDevice, LacksMemory};
+ghost use Rattle.shop_changes.specs.EditRules.{changed_by, changed_in, edit_rules};
+ghost use Rattle.shop_changes.specs.Work.{work_view};
+ghost use Rattle.vol_format.specs.Fits.{Fits};
+
+use crate::editing::edit_in_place;
+use crate::optimizing::optimize_in_place;
+use crate::outcome::Outcome;
+use crate::saving::save_in_place;
+use crate::work::Work;
+use a2_device::Device;
+use dos_format::Dos33;
+use pro_format::Prodos;
+use reserved_places::Reserved;
+use save_formats::SavableFormat;
+use shop_jobs::{FileSystem, VolumeOptions};
+use shop_reads::{reserve_reply, reserved_by};
+use shop_replies::{Failure, Reply, form_of};
+use std::alloc::Global;
+
+// Does work on the volume of a device, by its format.
+fn change_by<D: Device, F: SavableFormat>(
+    alloc: Global,
+    work: Work<'_>,
+    device: D,
+    format: &F,
+) -> (Outcome, D)
+    requires fits { Fits (F.meaning format.now) (D.state device) }
+    requires size { 0 < (D.state device).unit_size }
+    ensures { IsWorkOutcome (work_view work.entry) (record {
+      files = F.files format.now;
+      edits = edit_rules (F.edits format.now) (F.names format.now) (F.erasures format.now) (F.saves format.now);
+      units = F.meaning format.now;
+    }) (D.state device) (D.state result.1) result.0 }
+{
+    let mut device = device;
+    match work {
+        Work::Optimize { reclaim, limit } => {
+            optimize_in_place(alloc, device, format, reclaim, limit)
+        }
+        Work::Edit { edit, name } => {
+            let outcome = edit_in_place(alloc, &mut device, format, edit, name);
+            (outcome, device)
+        }
+        Work::Save { path, given } => {
+            let outcome = save_in_place(alloc, &mut device, format, path, given);
+            (outcome, device)
+        }
+    }
+}
+
+// Does work on the DOS 3.3 volume of a device.
+fn change_dos<D: Device>(
+    alloc: Global,
+    work: Work<'_>,
+    device: D,
+    data_disk: bool,
+    reserved: Reserved,
+) -> (Outcome, D)
+    requires { HasUnitsOf OfDos (D.state device) }
+    ensures { LacksMemory (D.state device) (D.state result.1) result.0
+        ⊎ IsWorkOutcome (work_view work.entry) (changed_in OfDos (meaning_of OfDos data_disk reserved))
+        (D.state device) (D.state result.1) result.0 }
+{
+    let Ok(format) = Dos33::new(alloc, data_disk, reserved) else {
+        return (Outcome::Unfinished(Reply::failed(Failure::Memory)), device);
+    };
+    change_by(alloc, work, device, &format)
+}
+
+// Does work on the ProDOS volume of a device.
+fn change_prodos<D: Device>(
+    alloc: Global,
+    work: Work<'_>,
+    device: D,
+    reserved: Reserved,
+) -> (Outcome, D)
+    requires { HasUnitsOf OfProdos (D.state device) }
+    ensures { IsWorkOutcome (work_view work.entry) (changed_in OfProdos (meaning_of OfProdos false reserved))
+        (D.state device) (D.state result.1) result.0 }
+{
+    let format = Prodos::new(alloc, reserved);
+    change_by(alloc, work, device, &format)
+}
+
+/// Does work on the volume of a device, where these places are reserved, and hands the device back. All memory is taken
+/// before the first write, and after a failure of the device no call of it is made.
+pub fn change_volume<D: Device>(
+    alloc: Global,
+    work: Work<'_>,
+    device: D,
+    options: VolumeOptions,
+    reserved: Reserved,
+) -> (Outcome, D)
+    requires { HasUnitsOf options.file_system (D.state device) }
+    ensures done { LacksMemory (D.state device) (D.state result.1) result.0
+        ⊎ IsWorkOutcome (work_view work.entry) (changed_by options reserved) (D.state device)
+        (D.state result.1) result.0 }
+    ensures kept { KeepsDevice (D.state device) (D.state result.1) result.0 }
+{
+    match options.file_system {
+        FileSystem::Dos => change_dos(alloc, work, device, options.data_disk, reserved),
+        FileSystem::Prodos => change_prodos(alloc, work, device, reserved),
+    }
+}
+
+/// Does work that changes a volume on the device that has it, and hands the device back. The words may reserve places.
+/// All memory is taken before the first write, and after a failure of the device no call of it is made.
+pub fn change_in_place<D: Device>(
+    alloc: Global,
+    work: Work<'_>,
+    device: D,
+    options: VolumeOptions,
+    reserve: Option<&str>,
+) -> (Outcome, D)
+    requires { HasUnitsOf options.file_system (D.state device) }
+    ensures { IsChangeOutcome options.file_system (option_map (λ s. s.now) reserve.entry)
+        (λ reserved. IsWorkOutcome (work_view work.entry) (changed_by options reserved))
+        (D.state device) (D.state result.1) result.0 }
+{
+    match reserved_by(alloc, form_of(options.file_system), reserve) {
+        Ok(reserved) => change_volume(alloc, work, device, options, reserved),
+        Err(error) => (Outcome::Unfinished(reserve_reply(error)), device),
+    }
+}

@@ -1,0 +1,28 @@
+//! What becomes of a volume that is changed, on any device that has its units: its files are brought into order, a file
+//! of it is changed, or a new one is saved to it.
+//!
+//! `change_in_place` does `Work` and hands the device back with an `Outcome`, which `Outcome::tell` tells; the words
+//! may reserve places, and `change_volume` is told them.
+//!
+//! The model. `specs/Work.antt` is the work as contracts see it, and `specs/EditRules.antt` what a format of volumes is
+//! to it. What a change of a file and a new file are, by their writes and what these leave, stands in
+//! `specs/Edits.antt` and `specs/Saves.antt`. What became of the work is an `Outcome` (`specs/Outcome.antt`):
+//! `OptimizeOutcome`, `EditOutcome` and `SaveOutcome` say it of each work by what the optimizer and the commands
+//! promise, and `specs/Changing.antt` of all of them.
+//!
+//! What always holds: all memory is taken before the first write; after a failure of the device nothing of it is called
+//! again; and where no failure of the device is told and the work is not done, the device is as it was.
+#![tactic(auto)]
+
+mod changing;
+mod editing;
+mod optimizing;
+mod outcome;
+mod report_line;
+mod saving;
+mod work;
+
+pub use changing::{change_in_place, change_volume};
+pub use outcome::Outcome;
+pub use report_line::line_text;
+pub use work::Work;

@@ -1,0 +1,23 @@
+// Work that changes a volume, with the bytes of its files read.
+use given_file::GivenFile;
+use shop_jobs::Edit;
+
+/// What is changed of a volume, with the bytes of its files read.
+#[derive(Clone, Copy)]
+pub enum Work<'a> {
+    /// Its files are brought into order, by at most so many writes.
+    Optimize {
+        reclaim: bool,
+        limit: u64,
+    },
+    /// A file of it is changed.
+    Edit {
+        edit: &'a Edit,
+        name: &'a [u8],
+    },
+    /// A new file is saved to it.
+    Save {
+        path: &'a [u8],
+        given: GivenFile<'a>,
+    },
+}

@@ -1,0 +1,63 @@
+-- Which replies on an image have one, and which have none.
+use Rattle.std.proofs.Common.{ℕ, Bool, List, inl, inr}
+use Rattle.std.specs.Prelude.{Option}
+use Rattle.a2_device.specs.Device.{DeviceState}
+use Rattle.vol_format.specs.Meaning.{Meaning}
+use Rattle.file_formats.specs.Files.{FileMeaning}
+use Rattle.save_formats.specs.Saves.{SaveMeaning}
+use Rattle.given_file.specs.Content.{GivenView}
+use Rattle.shop_jobs.specs.Job.{EditView}
+use Rattle.shop_jobs.specs.declared.job.VolumeOptions.{VolumeOptions}
+use Rattle.shop_replies.specs.declared.refusal.Refusal.TheVariants as refusals
+use Rattle.shop_replies.specs.declared.refusal.Failure.TheVariants as failures
+use Rattle.shop_replies.specs.declared.reply.Reply.{Reply}
+use Rattle.shop_replies.specs.Reply.{IsMade, IsMadeReply}
+use Rattle.shop_replies.proofs.NotMade.{failed_not_made, refused_not_made}
+use Rattle.shop_changes.specs.EditRules.{EditRules}
+use Rattle.shop_image.specs.EditReply.{IsEdited}
+use Rattle.shop_image.specs.SaveReply.{IsSaved}
+use Rattle.shop_image.specs.VolumeReply.{IsUntaken, IsVolumeReply}
+
+untaken_not_made : (volume : VolumeOptions) (reserve : Option (List ℕ)) (image : List ℕ) (reply : Reply) → IsUntaken volume reserve image reply → ¬ IsMade reply
+untaken_not_made volume reserve image reply is made = elim is [
+  | inl refused ↦ refused_not_made refusals.Reserve reply refused.0 made
+  | inr (inl refused) ↦ refused_not_made refusals.Length reply refused.0 made
+  | inr (inr failed) ↦ failed_not_made failures.Memory reply failed made
+]
+
+pub volume_not_made : (volume : VolumeOptions) (reserve : Option (List ℕ)) (image : List ℕ) (Tells : List Bool → DeviceState → Reply → Type 0) (reply : Reply)
+    → ((reserved : List Bool) (device : DeviceState) → Tells reserved device reply → ¬ IsMade reply)
+    → IsVolumeReply volume reserve image Tells reply → ¬ IsMade reply
+volume_not_made volume reserve image Tells reply never is made = elim is [
+  | inl untaken ↦ untaken_not_made volume reserve image reply untaken made
+  | inr told ↦ never told.0 _ told.2.3 made
+]
+
+pub volume_made : (volume : VolumeOptions) (reserve : Option (List ℕ)) (image : List ℕ) (Tells : List Bool → DeviceState → Reply → Type 0) (reply : Reply) (P : Type 0)
+    → ((reserved : List Bool) (device : DeviceState) → Tells reserved device reply → P) → IsVolumeReply volume reserve image Tells reply → IsMade reply → P
+volume_made volume reserve image Tells reply P told is made = elim is [
+  | inl untaken ↦ absurd (untaken_not_made volume reserve image reply untaken made)
+  | inr tells ↦ told tells.0 _ tells.2.3
+]
+
+-- an edit that makes an image answers with it
+pub edited_image : (edit : EditView) (name : List ℕ) (files : FileMeaning) (edits : EditRules) (format : Meaning) (device : DeviceState) (reply : Reply)
+    → IsEdited edit name files edits format device reply → IsMade reply → IsMadeReply reply
+edited_image edit name files edits format device reply is made = elim is [
+  | inl done ↦ done.image
+  | inr (inl refused) ↦ absurd (refused_not_made refused.0 reply refused.1 made)
+  | inr (inr (inl failed)) ↦ absurd (failed_not_made failures.Device reply failed.0 made)
+  | inr (inr (inr failed)) ↦ absurd (failed_not_made failures.Memory reply failed made)
+]
+
+-- so does a saving
+pub saved_image : (path : List ℕ) (given : GivenView) (saves : SaveMeaning) (format : Meaning) (device : DeviceState) (reply : Reply)
+    → IsSaved path given saves format device reply → IsMade reply → IsMadeReply reply
+saved_image path given saves format device reply is made = elim is [
+  | inl long ↦ absurd (refused_not_made refusals.InputTooLong reply long.0 made)
+  | inr (_, inl long) ↦ absurd (refused_not_made refusals.TooLong reply long.0 made)
+  | inr (_, inr (_, inl done)) ↦ done.image
+  | inr (_, inr (_, inr (inl refused))) ↦ absurd (refused_not_made refused.0 reply refused.1 made)
+  | inr (_, inr (_, inr (inr (inl failed)))) ↦ absurd (failed_not_made failures.Device reply failed.0 made)
+  | inr (_, inr (_, inr (inr (inr failed)))) ↦ absurd (failed_not_made failures.Memory reply failed made)
+]

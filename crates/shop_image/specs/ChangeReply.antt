@@ -1,0 +1,31 @@
+-- What is told of an image whose volume is changed.
+use Rattle.std.specs.Prelude.{◌≡◌, ◌⊎◌}
+use Rattle.a2_device.specs.Device.{DeviceState}
+use Rattle.shop_replies.specs.declared.refusal.Failure.TheVariants as failures
+use Rattle.shop_replies.specs.declared.reply.Reply.{Reply}
+use Rattle.shop_replies.specs.declared.reply.Status.TheVariants.{Done}
+use Rattle.shop_replies.specs.Reply.{IsHanded, IsInterrupted, IsMadeReply, failed, made_of, text_of}
+use Rattle.shop_changes.specs.EditRules.{ChangedMeaning}
+use Rattle.shop_changes.specs.Outcome.{report_text}
+use Rattle.shop_changes.specs.Work.{WorkView, Optimize, EditOf, Save}
+use Rattle.shop_changes.specs.declared.outcome.Outcome.{Outcome}
+use Rattle.shop_changes.specs.declared.outcome.Outcome.TheVariants.{Optimized, Changed, Stopped, Unfinished}
+use Rattle.shop_image.specs.EditReply.{IsEdited}
+use Rattle.shop_image.specs.ImageBytes.{AreBytesOf}
+use Rattle.shop_image.specs.OptimizeReply.{IsOptimized}
+use Rattle.shop_image.specs.SaveReply.{IsSaved}
+
+-- what is told of each change of the volume of an image, by the device of its units
+abbrev pub IsChangeReply : WorkView → ChangedMeaning → DeviceState → Reply → Type 0
+IsChangeReply (Optimize reclaim limit) format device reply = IsOptimized reclaim limit format.units device reply
+IsChangeReply (EditOf edit name) format device reply = IsEdited edit name format.files format.edits format.units device reply
+IsChangeReply (Save path given) format device reply = IsSaved path given format.edits.save format.units device reply
+
+-- What is told of what became of the work, with the image that is now under the device: the report, or want of memory for
+-- it; `OK`; that the device failed, with the image as it stands. Of work that is not done the reply, and no image.
+abbrev pub TellsOutcome : DeviceState → Outcome → Reply → Type 0
+TellsOutcome device (Optimized report) reply =
+    (IsHanded Done reply × (text_of reply ≡ report_text report) × AreBytesOf device (made_of reply)) ⊎ (reply ≡ failed failures.Memory)
+TellsOutcome device Changed reply = IsMadeReply reply × AreBytesOf device (made_of reply)
+TellsOutcome device Stopped reply = IsInterrupted reply × AreBytesOf device (made_of reply)
+TellsOutcome device (Unfinished told) reply = reply ≡ told

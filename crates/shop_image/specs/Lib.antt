@@ -1,0 +1,7 @@
+pub mod VolumeReply
+pub mod ImageBytes
+pub mod OptimizeReply
+pub mod EditReply
+pub mod SaveReply
+pub mod ChangeReply
+pub mod DosCatalogReply

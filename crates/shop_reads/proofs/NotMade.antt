@@ -1,0 +1,108 @@
+-- No look makes an image.
+use Rattle.std.proofs.Common.{ℕ, Bool, true, false, List, inl, inr}
+use Rattle.a2_device.specs.Device.{DeviceState}
+use Rattle.reserved_places.specs.declared.form.PlaceForm.{PlaceForm}
+use Rattle.vol_format.specs.Meaning.{Meaning}
+use Rattle.vol_layout.specs.Layouts.{Placement}
+use Rattle.vol_mover.specs.declared.error.OpenError.{OpenError}
+use Rattle.vol_mover.specs.declared.error.OpenError.TheVariants as opens
+use Rattle.file_formats.specs.Files.{FileMeaning}
+use Rattle.shop_jobs.specs.Job.{LookView, Catalog, Check, Read, Plan, Verify}
+use Rattle.shop_replies.specs.declared.refusal.Refusal.TheVariants as refusals
+use Rattle.shop_replies.specs.declared.refusal.Failure.TheVariants as failures
+use Rattle.shop_replies.specs.declared.reply.Reply.{Reply}
+use Rattle.shop_replies.specs.declared.reply.Status.TheVariants.{Done, Refused, Wrong}
+use Rattle.shop_replies.specs.Reply.{IsMade}
+use Rattle.shop_replies.proofs.NotMade.{failed_not_made, refused_not_made, told_not_made}
+use Rattle.shop_reads.specs.CatalogReply.{IsListed}
+use Rattle.shop_reads.specs.CheckReply.{IsChecked}
+use Rattle.shop_reads.specs.Look.{IsLookReply, ShownMeaning}
+use Rattle.shop_reads.specs.PlanReply.{IsPlanned, TellsOpening}
+use Rattle.shop_reads.specs.PlanWords.{IsPlannedInWords}
+use Rattle.shop_reads.specs.ReadReply.{IsRead}
+use Rattle.shop_reads.specs.VerifyReply.{IsVerdict, IsVerified}
+
+checked_not_made : (form : PlaceForm) (format : Meaning) (device : DeviceState) (reply : Reply) → IsChecked form format device reply → ¬ IsMade reply
+checked_not_made form format device reply is made = elim is [
+  | inl done ↦ told_not_made Done reply done.0 made
+  | inr (inl faulty) ↦ told_not_made Wrong reply faulty.0 made
+  | inr (inr (inl failed)) ↦ failed_not_made failures.Device reply failed.0 made
+  | inr (inr (inr failed)) ↦ failed_not_made failures.Memory reply failed made
+]
+
+unopened_told_not_made : {A : Type 0} (error : OpenError A) (reply : Reply) → TellsOpening error reply → ¬ IsMade reply
+unopened_told_not_made (opens.Check faults) reply is made = refused_not_made refusals.Check reply is made
+unopened_told_not_made (opens.Lost count) reply is made = elim is [
+  | inl told ↦ told_not_made Refused reply told.0 made
+  | inr failed ↦ failed_not_made failures.Memory reply failed made
+]
+unopened_told_not_made opens.NoFreePlace reply is made = refused_not_made refusals.NoFreePlace reply is made
+unopened_told_not_made opens.Device reply is made = failed_not_made failures.Device reply is made
+unopened_told_not_made opens.Memory reply is made = failed_not_made failures.Memory reply is made
+
+planned_not_made : (reclaim : Bool) (format : Meaning) (device : DeviceState) (reply : Reply) → IsPlanned reclaim format device reply → ¬ IsMade reply
+planned_not_made reclaim format device reply is made = elim is [
+  | inl planned ↦ elim planned.told [
+    | inl told ↦ told_not_made Done reply told.0 made
+    | inr failed ↦ failed_not_made failures.Memory reply failed made
+  ]
+  | inr unopened ↦ unopened_told_not_made unopened.error reply unopened.told made
+]
+
+planned_in_words_not_made : (form : PlaceForm) (files : FileMeaning) (reclaim : Bool) (format : Meaning) (device : DeviceState) (reply : Reply)
+    → IsPlannedInWords form files reclaim format device reply → ¬ IsMade reply
+planned_in_words_not_made form files reclaim format device reply is made = elim is [
+  | inl planned ↦ elim planned.told [
+    | inl told ↦ told_not_made Done reply told.0 made
+    | inr failed ↦ failed_not_made failures.Memory reply failed made
+  ]
+  | inr unopened ↦ unopened_told_not_made unopened.error reply unopened.told made
+]
+
+verdict_not_made : (layout : Placement) (bytes : List ℕ) (reply : Reply) → IsVerdict layout bytes reply → ¬ IsMade reply
+verdict_not_made layout bytes reply is made = elim is [
+  | inl optimal ↦ told_not_made Done reply optimal.done made
+  | inr (inl other) ↦ elim other.told [
+    | inl told ↦ told_not_made Wrong reply told.1 made
+    | inr failed ↦ failed_not_made failures.Memory reply failed made
+  ]
+  | inr (inr (inl none)) ↦ told_not_made Wrong reply none.faulty made
+  | inr (inr (inr failed)) ↦ failed_not_made failures.Memory reply failed made
+]
+
+verified_not_made : (reclaim : Bool) (bytes : List ℕ) (format : Meaning) (device : DeviceState) (reply : Reply) → IsVerified reclaim bytes format device reply → ¬ IsMade reply
+verified_not_made reclaim bytes format device reply is made = elim is [
+  | inl long ↦ refused_not_made refusals.InputTooLong reply long.0 made
+  | inr short ↦ elim short.1 [
+    | inl verdict ↦ verdict_not_made verdict.volume.layout bytes reply verdict.verdict made
+    | inr unopened ↦ unopened_told_not_made unopened.error reply unopened.told made
+  ]
+]
+
+listed_not_made : (form : PlaceForm) (format : Meaning) (device : DeviceState) (reply : Reply) → IsListed form format device reply → ¬ IsMade reply
+listed_not_made form format device reply is made = elim is [
+  | inl listed ↦ elim listed.told [
+    | inl told ↦ told_not_made Done reply told.0 made
+    | inr failed ↦ failed_not_made failures.Memory reply failed made
+  ]
+  | inr (inl refused) ↦ refused_not_made refusals.Check reply refused.0 made
+  | inr (inr (inl failed)) ↦ failed_not_made failures.Device reply failed.0 made
+  | inr (inr (inr failed)) ↦ failed_not_made failures.Memory reply failed made
+]
+
+read_not_made : (name : List ℕ) (whole : Bool) (files : FileMeaning) (format : Meaning) (device : DeviceState) (reply : Reply) → IsRead name whole files format device reply → ¬ IsMade reply
+read_not_made name whole files format device reply is made = elim is [
+  | inl content ↦ told_not_made Done reply content.0 made
+  | inr (inl refused) ↦ refused_not_made refusals.Check reply refused.0 made
+  | inr (inr (inl refused)) ↦ refused_not_made refusals.NotFound reply refused.0 made
+  | inr (inr (inr (inl failed))) ↦ failed_not_made failures.Device reply failed.0 made
+  | inr (inr (inr (inr failed))) ↦ failed_not_made failures.Memory reply failed made
+]
+
+pub look_not_made : (look : LookView) (bytes : List ℕ) (format : ShownMeaning) (device : DeviceState) (reply : Reply) → IsLookReply look bytes format device reply → ¬ IsMade reply
+look_not_made Catalog bytes format device reply is = listed_not_made format.form format.units device reply is
+look_not_made Check bytes format device reply is = checked_not_made format.form format.units device reply is
+look_not_made (Read name whole) bytes format device reply is = read_not_made name whole format.files format.units device reply is
+look_not_made (Plan reclaim false) bytes format device reply is = planned_not_made reclaim format.units device reply is
+look_not_made (Plan reclaim true) bytes format device reply is = planned_in_words_not_made format.form format.files reclaim format.units device reply is
+look_not_made (Verify from reclaim) bytes format device reply is = verified_not_made reclaim bytes format.units device reply is

@@ -1,0 +1,64 @@
+-- Which replies tell a failure of the device.
+use Rattle.std.proofs.Common.{◌≡◌, ◌∙◌, refl, sym, ap, subst, inl, inr}
+use Rattle.std.specs.Prelude.{◌⊎◌, Bool, false, Err}
+use Rattle.a2_device.specs.Device.{DeviceState, OnlyReads}
+use Rattle.reserved_places.specs.declared.form.PlaceForm.{PlaceForm}
+use Rattle.vol_check.specs.Answer.{is_device_error as check_failed}
+use Rattle.vol_check.specs.declared.error.CheckError.{CheckError}
+use Rattle.vol_check.specs.declared.error.CheckError.TheVariants as checks
+use Rattle.vol_mover.specs.Refused.{is_device_error as opening_failed}
+use Rattle.vol_mover.specs.declared.error.OpenError.{OpenError}
+use Rattle.vol_mover.specs.declared.error.OpenError.TheVariants as opens
+use Rattle.shop_replies.specs.declared.refusal.Failure.TheVariants as failures
+use Rattle.shop_replies.specs.declared.reply.Reply.{Reply}
+use Rattle.shop_replies.specs.declared.reply.Status.{Status}
+use Rattle.shop_replies.specs.declared.reply.Status.TheVariants.{Done, Refused, Wrong}
+use Rattle.shop_replies.specs.declared.reply.Told.{Told}
+use Rattle.shop_replies.specs.Reply.{IsTold, failed}
+use Rattle.shop_reads.specs.CheckReply.{TellsRefusal}
+use Rattle.shop_reads.specs.PlanReply.{TellsOpening}
+use Rattle.shop_reads.specs.TellingFailures.{fails_device, tells_device}
+
+-- none with another status
+told_quiet : (status : Status) (reply : Reply) → ((told : Told) → fails_device status told ≡ false) → IsTold status reply → tells_device reply ≡ false
+told_quiet status reply never is = ap (λ (s : Status). fails_device s reply.told) is.0 ∙ never reply.told
+
+-- a text, or want of memory
+text_quiet : {P : Type 0} (reply : Reply) → (IsTold Done reply × P) ⊎ (reply ≡ failed failures.Memory) → tells_device reply ≡ false
+text_quiet reply is = elim is [
+  | inl told ↦ told_quiet Done reply (λ told. refl) told.0
+  | inr failed ↦ ap tells_device failed
+]
+
+-- that of a check that did not accept, where the check met the failure
+check_told : {A : Type 0} (form : PlaceForm) (error : CheckError A) (reply : Reply) → TellsRefusal form error reply → tells_device reply ≡ check_failed {T = Bool} (Err error)
+check_told form (checks.Faults faults) reply is = elim is [
+  | inl told ↦ told_quiet Wrong reply (λ told. refl) told.0
+  | inr failed ↦ ap tells_device failed
+]
+check_told form checks.Device reply is = ap tells_device is
+check_told form checks.Memory reply is = ap tells_device is
+
+-- and that of an opening
+opening_told : {A : Type 0} (error : OpenError A) (reply : Reply) → TellsOpening error reply → tells_device reply ≡ opening_failed {T = Bool} (Err error)
+opening_told (opens.Check faults) reply is = ap tells_device is
+opening_told (opens.Lost count) reply is = elim is [
+  | inl told ↦ told_quiet Refused reply (λ told. refl) told.0
+  | inr failed ↦ ap tells_device failed
+]
+opening_told opens.NoFreePlace reply is = ap tells_device is
+opening_told opens.Device reply is = ap tells_device is
+opening_told opens.Memory reply is = ap tells_device is
+
+-- so each tells that the device was only read, and whether it failed
+module _ (reply : Reply) (old new : DeviceState) where
+  pub text_reads : {P : Type 0} → (IsTold Done reply × P) ⊎ (reply ≡ failed failures.Memory) → OnlyReads false old new → OnlyReads (tells_device reply) old new
+  text_reads is reads = subst (λ (met : Bool). OnlyReads met old new) (sym (text_quiet reply is)) reads
+
+  pub check_reads : {A : Type 0} (form : PlaceForm) (error : CheckError A) → TellsRefusal form error reply → OnlyReads (check_failed {T = Bool} (Err error)) old new
+      → OnlyReads (tells_device reply) old new
+  check_reads form error is reads = subst (λ (met : Bool). OnlyReads met old new) (sym (check_told form error reply is)) reads
+
+  pub opening_reads : {A : Type 0} (error : OpenError A) → TellsOpening error reply → OnlyReads (opening_failed {T = Bool} (Err error)) old new
+      → OnlyReads (tells_device reply) old new
+  opening_reads error is reads = subst (λ (met : Bool). OnlyReads met old new) (sym (opening_told error reply is)) reads

@@ -1,0 +1,12 @@
+pub mod Refusals
+pub mod TellingFailures
+pub mod CatalogReply
+pub mod CheckText
+pub mod CheckReply
+pub mod PlanReply
+pub mod Steps
+pub mod PlanWords
+pub mod VerifyReply
+pub mod ReadReply
+pub mod Reserving
+pub mod Look

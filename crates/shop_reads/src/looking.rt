@@ -1,0 +1,143 @@
+// Looking at the volume of a device.
+ghost use Rattle.std.specs.Prelude.{◌≡◌, ◌≢◌, ◌⊎◌, false, IsTrue, option_map};
+ghost use Rattle.a2_device.specs.Device.{OnlyReads};
+ghost use Rattle.shop_jobs.specs.Job.{look_view};
+ghost use Rattle.shop_jobs.specs.declared.job.FileSystem.TheVariants.{Dos as OfDos, Prodos as OfProdos};
+ghost use Rattle.shop_replies.specs.declared.refusal.Failure.TheVariants.{Device as OfDevice, Memory as OfMemory};
+ghost use Rattle.shop_replies.specs.Reply.{failed};
+ghost use Rattle.shop_replies.specs.Volume.{HasUnitsOf, meaning_of};
+ghost use Rattle.shop_reads.specs.Look.{IsLookReply, shown_by, shown_in};
+ghost use Rattle.shop_reads.specs.Reserving.{IsDeviceReply};
+ghost use Rattle.shop_reads.specs.TellingFailures.{FailsForLack, tells_device};
+ghost use Rattle.vol_format.specs.Fits.{Fits};
+
+use crate::check::check_reply;
+use crate::listing::{ShownFormat, catalog_reply};
+use crate::plan::plan_reply;
+use crate::plan_words::plan_words_reply;
+use crate::reading::read_reply;
+use crate::reserving::{reserve_reply, reserved_by};
+use crate::verify::verify_reply;
+use a2_device::Device;
+use dos_format::Dos33;
+use pro_format::Prodos;
+use reserved_places::Reserved;
+use shop_jobs::{FileSystem, Look, VolumeOptions};
+use shop_replies::{Failure, Reply, form_of};
+use std::alloc::Global;
+
+/// What is told of a look at the volume of a device, by its format, with the bytes of a file beside it. Each failure of
+/// the device is told, and nothing else is told as one.
+pub fn look_reply<D: Device, F: ShownFormat>(
+    alloc: Global,
+    look: &Look,
+    extra: &[u8],
+    device: &mut D,
+    format: &F,
+) -> Reply
+    requires fits { Fits (F.meaning format.now) (D.state device.old) }
+    ensures reads { OnlyReads (tells_device result) (D.state device.old) (D.state device.new) }
+    ensures told { IsTrue (D.state device.old).honest → FailsForLack (D.state device.old) result
+        → IsLookReply (look_view look.now) extra.now
+        (record { form = F.form format.now; files = F.files format.now; units = F.meaning format.now })
+        (D.state device.old) result }
+{
+    match look {
+        Look::Catalog => catalog_reply(alloc, device, format),
+        Look::Check => check_reply(alloc, device, format, format.form()),
+        Look::Read { name, whole } => read_reply(alloc, device, format, name.as_bytes(), *whole),
+        Look::Plan {
+            reclaim,
+            words: false,
+        } => plan_reply(alloc, device, format, *reclaim),
+        Look::Plan {
+            reclaim,
+            words: true,
+        } => plan_words_reply(alloc, device, format, *reclaim),
+        Look::Verify { reclaim, .. } => verify_reply(alloc, device, format, *reclaim, extra),
+    }
+}
+
+// What is told of a look at the DOS 3.3 volume of a device.
+fn look_at_dos<D: Device>(
+    alloc: Global,
+    look: &Look,
+    extra: &[u8],
+    device: &mut D,
+    data_disk: bool,
+    reserved: Reserved,
+) -> Reply
+    requires { HasUnitsOf OfDos (D.state device.old) }
+    ensures reads { OnlyReads (tells_device result) (D.state device.old) (D.state device.new) }
+    ensures told { IsTrue (D.state device.old).honest → FailsForLack (D.state device.old) result
+        → (result ≡ failed OfMemory) ⊎ IsLookReply (look_view look.now) extra.now
+        (shown_in OfDos (meaning_of OfDos data_disk reserved)) (D.state device.old) result }
+{
+    let Ok(format) = Dos33::new(alloc, data_disk, reserved) else {
+        return Reply::failed(Failure::Memory);
+    };
+    look_reply(alloc, look, extra, device, &format)
+}
+
+// What is told of a look at the ProDOS volume of a device.
+fn look_at_prodos<D: Device>(
+    alloc: Global,
+    look: &Look,
+    extra: &[u8],
+    device: &mut D,
+    reserved: Reserved,
+) -> Reply
+    requires { HasUnitsOf OfProdos (D.state device.old) }
+    ensures reads { OnlyReads (tells_device result) (D.state device.old) (D.state device.new) }
+    ensures told { IsTrue (D.state device.old).honest → FailsForLack (D.state device.old) result
+        → IsLookReply (look_view look.now) extra.now (shown_in OfProdos (meaning_of OfProdos false reserved))
+        (D.state device.old) result }
+{
+    let format = Prodos::new(alloc, reserved);
+    look_reply(alloc, look, extra, device, &format)
+}
+
+/// What is told of a look at the volume of a device, where these places are reserved, with the bytes of a file beside
+/// it. Each failure of the device is told, and nothing else is told as one.
+pub fn look_at_volume<D: Device>(
+    alloc: Global,
+    look: &Look,
+    extra: &[u8],
+    device: &mut D,
+    options: VolumeOptions,
+    reserved: Reserved,
+) -> Reply
+    requires { HasUnitsOf options.file_system (D.state device.old) }
+    ensures reads { OnlyReads (tells_device result) (D.state device.old) (D.state device.new) }
+    ensures told { IsTrue (D.state device.old).honest → FailsForLack (D.state device.old) result
+        → (result ≡ failed OfMemory) ⊎ IsLookReply (look_view look.now) extra.now (shown_by options reserved)
+        (D.state device.old) result }
+{
+    match options.file_system {
+        FileSystem::Dos => look_at_dos(alloc, look, extra, device, options.data_disk, reserved),
+        FileSystem::Prodos => look_at_prodos(alloc, look, extra, device, reserved),
+    }
+}
+
+/// What is told of a look at the volume of a device, with the bytes of a file beside it. The words may reserve places.
+/// Each failure of the device is told, and nothing else is told as one.
+pub fn look_on_device<D: Device>(
+    alloc: Global,
+    look: &Look,
+    extra: &[u8],
+    device: &mut D,
+    options: VolumeOptions,
+    reserve: Option<&str>,
+) -> Reply
+    requires { HasUnitsOf options.file_system (D.state device.old) }
+    ensures reads { OnlyReads (tells_device result) (D.state device.old) (D.state device.new) }
+    ensures told { IsTrue (D.state device.old).honest → result ≢ failed OfDevice
+        → IsDeviceReply options.file_system (option_map (λ s. s.now) reserve.entry)
+        (λ reserved. IsLookReply (look_view look.now) extra.now (shown_by options reserved)
+        (D.state device.old) result) result }
+{
+    match reserved_by(alloc, form_of(options.file_system), reserve) {
+        Ok(reserved) => look_at_volume(alloc, look, extra, device, options, reserved),
+        Err(error) => reserve_reply(error),
+    }
+}

@@ -1,0 +1,80 @@
+//! What is asked by the commands that change a volume or a file of it.
+ghost use Rattle.std.specs.Prelude.{◌≡◌, codes, IfOk, option_map};
+ghost use Rattle.clap.specs.Matches.{found_of};
+ghost use Rattle.clap.specs.Walk.{rows_of};
+ghost use Rattle.shop_jobs.specs.Job.{ask_view, edit_view};
+ghost use Rattle.shop_words.specs.Job.{ask_by, change_by, edit_by, limit_named, rows_say};
+
+use crate::reading::{has_flag, number_named, said, target_in, text_said, volume_in};
+use clap::ArgMatches;
+use shop_jobs::{Ask, Change, Edit};
+use std::alloc::{AllocError, Global};
+
+// After how many writes to stop, where that is said and is a number.
+fn limit_named(word: Option<&str>) -> Option<Option<u64>>
+    ensures { result ≡ limit_named (option_map (λ s. s.now) word.entry) }
+{
+    match word {
+        Some(digits) => Some(Some(number_named(digits, u64::MAX)?)),
+        None => Some(None),
+    }
+}
+
+pub fn optimize_in(alloc: Global, matches: &ArgMatches<'_>) -> Result<Option<Ask>, AllocError>
+    ensures { IfOk result (λ ask. option_map ask_view ask
+        ≡ ask_by (codes "optimize") (rows_say (rows_of (found_of matches.now)))) }
+{
+    let limit = limit_named(said(matches, "stop-after"));
+    let (Some(stop_after), Some(volume)) = (limit, volume_in(matches)) else {
+        return Ok(None);
+    };
+    let Some(target) = target_in(alloc, matches)? else {
+        return Ok(None);
+    };
+    Ok(Some(Ask::Change {
+        volume,
+        reserve: text_said(alloc, matches, "reserve")?,
+        change: Change::Optimize {
+            reclaim: has_flag(matches, "reclaim"),
+            stop_after,
+            cert: text_said(alloc, matches, "cert")?,
+        },
+        target,
+    }))
+}
+
+/// What is asked by a command that changes a file so.
+pub fn edit_in(
+    alloc: Global,
+    matches: &ArgMatches<'_>,
+    edit: Edit,
+) -> Result<Option<Ask>, AllocError>
+    ensures { IfOk result (λ ask. option_map ask_view ask
+        ≡ (let said = rows_say (rows_of (found_of matches.now)) in change_by (edit_by (edit_view edit) said) said)) }
+{
+    let (Some(name), Some(volume)) = (said(matches, "name"), volume_in(matches)) else {
+        return Ok(None);
+    };
+    let Some(target) = target_in(alloc, matches)? else {
+        return Ok(None);
+    };
+    Ok(Some(Ask::Change {
+        volume,
+        reserve: text_said(alloc, matches, "reserve")?,
+        change: Change::Edit {
+            name: name.to_string(alloc)?,
+            edit,
+        },
+        target,
+    }))
+}
+
+pub fn rename_in(alloc: Global, matches: &ArgMatches<'_>) -> Result<Option<Ask>, AllocError>
+    ensures { IfOk result (λ ask. option_map ask_view ask
+        ≡ ask_by (codes "rename") (rows_say (rows_of (found_of matches.now)))) }
+{
+    match text_said(alloc, matches, "new")? {
+        Some(new) => edit_in(alloc, matches, Edit::Rename { new }),
+        None => Ok(None),
+    }
+}

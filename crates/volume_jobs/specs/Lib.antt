@@ -1,9 +1,0 @@
-pub mod FileSystems
-pub mod VolumeReply
-pub mod Refusals
-pub mod DosCatalogReply
-pub mod OptimizeReply
-pub mod EditRules
-pub mod EditReply
-pub mod SaveReply
-pub mod Work
