@@ -2,7 +2,7 @@
 use crate::doing::Done;
 use shop_changes::Outcome;
 use shop_files::{Ending, Found, JobFiles, Output, Unwritten, explain, settle};
-use shop_replies::Reply;
+use shop_replies::{FAILED, Reply, Status};
 use std::io::Write;
 
 /// The files that a job writes.
@@ -46,9 +46,17 @@ fn end_answered<T: Write>(
         // A failure stays with the file, which then can't be put onto the disk.
         let _ = certificate.write_all(bytes);
     }
+    let is_failure = reply.status == Status::Failed;
     let mut told = Vec::new(rt.alloc());
     let status = reply.deliver(&mut told, &mut image);
-    settle(image, certificate, status, told.as_slice(), text)
+    let has_no_room = status == FAILED && !is_failure && image.is_empty();
+    let told = if has_no_room {
+        // A part of a text is not told.
+        b""
+    } else {
+        told.as_slice()
+    };
+    settle(image, certificate, status, told, text)
 }
 
 // Puts a certificate onto the disk, and answers whether that was done.

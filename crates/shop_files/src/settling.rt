@@ -10,7 +10,8 @@ use std::io::{ErrorKind, Write};
 
 /// Ends a job that has told its text to memory, and handed its image to a file and its certificate to another or none:
 /// both are put onto the disk, then the text is told, and then they take their places. Where one of these fails, what
-/// stood at the places stands, and the status is 4; of an image that is not on the disk, nothing is told.
+/// stood at the places stands, and the status is 4; of an image that is not on the disk, nothing is told. Where no image
+/// was handed out, no certificate is kept.
 ///
 /// The certificate takes its place first. It tells the layout of the image that stood there before, so where the image
 /// can't take its own place then, it is good for the one that stands.
@@ -28,6 +29,7 @@ pub fn settle<T: Write>(
         IsUnflushed kind Unwritten.Image result (T.contents text.old) (T.contents text.new)) }
 {
     if out.is_empty() {
+        discard_both(out, certificate);
         return tell(status, told, text);
     }
     if let Err((kind, unwritten)) = flush_both(&mut out, &mut certificate) {
