@@ -3,12 +3,14 @@ _a2shop() {
   local word=${COMP_WORDS[COMP_CWORD]} before=${COMP_WORDS[COMP_CWORD-1]}
   COMPREPLY=()
   if [ "$COMP_CWORD" -eq 1 ]; then
-    mapfile -t COMPREPLY < <(compgen -W "catalog check read convert plan optimize lock unlock delete rename save verify identify help --help --version" -- "$word")
+    mapfile -t COMPREPLY < <(compgen -W "catalog list check read convert plan optimize lock unlock delete rename save verify identify help --help --version" -- "$word")
     return
   fi
   case "${COMP_WORDS[1]} $before" in
     'catalog --fs') mapfile -t COMPREPLY < <(compgen -W "auto dos prodos" -- "$word"); return ;;
     'catalog --order') mapfile -t COMPREPLY < <(compgen -W "auto dos prodos nibble" -- "$word"); return ;;
+    'list --fs') mapfile -t COMPREPLY < <(compgen -W "auto dos prodos" -- "$word"); return ;;
+    'list --order') mapfile -t COMPREPLY < <(compgen -W "auto dos prodos nibble" -- "$word"); return ;;
     'check --fs') mapfile -t COMPREPLY < <(compgen -W "auto dos prodos" -- "$word"); return ;;
     'check --order') mapfile -t COMPREPLY < <(compgen -W "auto dos prodos nibble" -- "$word"); return ;;
     'check --reserve') return ;;
@@ -61,19 +63,20 @@ _a2shop() {
     return
   fi
   case "${COMP_WORDS[1]}" in
-    catalog) mapfile -t COMPREPLY < <(compgen -W "--fs --order --data-disk --explain --help" -- "$word") ;;
-    check) mapfile -t COMPREPLY < <(compgen -W "--fs --order --data-disk --reserve --explain --help" -- "$word") ;;
-    read) mapfile -t COMPREPLY < <(compgen -W "--fs --order --whole --data-disk --explain --help" -- "$word") ;;
-    convert) mapfile -t COMPREPLY < <(compgen -W "--order --to --out --volume --data-disk --explain --help" -- "$word") ;;
-    plan) mapfile -t COMPREPLY < <(compgen -W "--fs --order --data-disk --reserve --reclaim --words --explain --help" -- "$word") ;;
-    optimize) mapfile -t COMPREPLY < <(compgen -W "--fs --order --out --in-place --data-disk --reserve --reclaim --stop-after --cert --explain --help" -- "$word") ;;
-    lock) mapfile -t COMPREPLY < <(compgen -W "--fs --order --out --in-place --data-disk --reserve --explain --help" -- "$word") ;;
-    unlock) mapfile -t COMPREPLY < <(compgen -W "--fs --order --out --in-place --data-disk --reserve --explain --help" -- "$word") ;;
-    delete) mapfile -t COMPREPLY < <(compgen -W "--fs --order --out --in-place --data-disk --reserve --explain --help" -- "$word") ;;
-    rename) mapfile -t COMPREPLY < <(compgen -W "--fs --order --out --in-place --data-disk --reserve --explain --help" -- "$word") ;;
-    save) mapfile -t COMPREPLY < <(compgen -W "--fs --order --from --out --in-place --type --aux --date --data-disk --reserve --explain --help" -- "$word") ;;
-    verify) mapfile -t COMPREPLY < <(compgen -W "--fs --order --from --data-disk --reserve --reclaim --explain --help" -- "$word") ;;
-    identify) mapfile -t COMPREPLY < <(compgen -W " --explain --help" -- "$word") ;;
+    catalog) mapfile -t COMPREPLY < <(compgen -W "--fs --order --data-disk --auto --explain --help" -- "$word") ;;
+    list) mapfile -t COMPREPLY < <(compgen -W "--fs --order --data-disk --auto --explain --help" -- "$word") ;;
+    check) mapfile -t COMPREPLY < <(compgen -W "--fs --order --data-disk --reserve --auto --explain --help" -- "$word") ;;
+    read) mapfile -t COMPREPLY < <(compgen -W "--fs --order --whole --data-disk --auto --explain --help" -- "$word") ;;
+    convert) mapfile -t COMPREPLY < <(compgen -W "--order --to --out --volume --data-disk --auto --explain --help" -- "$word") ;;
+    plan) mapfile -t COMPREPLY < <(compgen -W "--fs --order --data-disk --reserve --reclaim --words --auto --explain --help" -- "$word") ;;
+    optimize) mapfile -t COMPREPLY < <(compgen -W "--fs --order --out --in-place --data-disk --reserve --reclaim --stop-after --cert --auto --explain --help" -- "$word") ;;
+    lock) mapfile -t COMPREPLY < <(compgen -W "--fs --order --out --in-place --data-disk --reserve --auto --explain --help" -- "$word") ;;
+    unlock) mapfile -t COMPREPLY < <(compgen -W "--fs --order --out --in-place --data-disk --reserve --auto --explain --help" -- "$word") ;;
+    delete) mapfile -t COMPREPLY < <(compgen -W "--fs --order --out --in-place --data-disk --reserve --auto --explain --help" -- "$word") ;;
+    rename) mapfile -t COMPREPLY < <(compgen -W "--fs --order --out --in-place --data-disk --reserve --auto --explain --help" -- "$word") ;;
+    save) mapfile -t COMPREPLY < <(compgen -W "--fs --order --from --out --in-place --type --aux --date --data-disk --reserve --auto --explain --help" -- "$word") ;;
+    verify) mapfile -t COMPREPLY < <(compgen -W "--fs --order --from --data-disk --reserve --reclaim --auto --explain --help" -- "$word") ;;
+    identify) mapfile -t COMPREPLY < <(compgen -W " --auto --explain --help" -- "$word") ;;
   esac
 }
 complete -o filenames -F _a2shop a2shop

@@ -27,12 +27,16 @@ to the image's own file, and to no other file.
 .PP
 Without words it lists the DOS 3.3 volume of the image in DOS order on standard input.
 .PP
-.B \\-\\-fs auto
-and
-.B \\-\\-order auto
-take the file system and the order that
+.B \\-\\-auto
+may stand with any command: where
+.B \\-\\-fs
+or
+.B \\-\\-order
+is left out, the file system or the order is that which
 .B identify
-names; where it names none, the job is refused.
+names; where it names none, the job is refused. The word
+.B auto
+says the same as the value of one of them.
 .B \\-\\-explain
 may stand with any command: standard error then says in whole sentences what was told, and what to do next.
 .B \\-\\-version
@@ -46,6 +50,7 @@ STATUSES = [
     ("4", "A file, the image or memory failed."),
 ]
 
+AUTO = "Take the file system and the order that identify names, where they are left out"
 EXPLAIN = "Say on standard error what is told, and what to do next"
 VERSION = "Tell the version"
 
@@ -69,9 +74,9 @@ NOTES = [
 
 EXAMPLES = [
     ("Look how an image is to be read", "a2shop identify disk.dsk"),
-    ("List a disk", "a2shop catalog disk.dsk --fs auto --order auto"),
-    ("Check it, and say what the faults mean", "a2shop check disk.dsk --fs auto --order auto --explain"),
-    ("Put its files in order, in a file of its own", "a2shop optimize disk.dsk --fs auto --order auto --out ordered.dsk"),
+    ("List a disk", "a2shop catalog disk.dsk --auto"),
+    ("Check it, and say what the faults mean", "a2shop check disk.dsk --auto --explain"),
+    ("Put its files in order, in a file of its own", "a2shop optimize disk.dsk --auto --out ordered.dsk"),
     ("Make disk bytes of it", "a2shop convert disk.dsk --order dos --to nibble --out disk.nib"),
 ]
 
@@ -177,7 +182,7 @@ def bash(commands):
     lines += ["  esac", '  if [[ $word != -* ]]; then', '    mapfile -t COMPREPLY < <(compgen -f -- "$word")', "    return", "  fi", '  case "${COMP_WORDS[1]}" in']
     for command in commands:
         flags = " ".join(flag_of(words) for words, _ in command.options)
-        lines.append(f"""    {command.name}) mapfile -t COMPREPLY < <(compgen -W "{flags} --explain --help" -- "$word") ;;""")
+        lines.append(f"""    {command.name}) mapfile -t COMPREPLY < <(compgen -W "{flags} --auto --explain --help" -- "$word") ;;""")
     lines += ["  esac", "}", "complete -o filenames -F _a2shop a2shop"]
     return "\n".join(lines) + "\n"
 
@@ -196,6 +201,7 @@ def zsh(commands):
             flag, choices = flag_of(words), choices_of(text)
             value = f":value:({' '.join(choices)})" if choices else ":file:_files" if takes_file(text) else ":value: " if "<" in words else ""
             lines.append(f"      '{flag}[{quoted(text)}]{value}' \\")
+        lines.append(f"      '--auto[{AUTO}]' \\")
         lines.append(f"      '--explain[{EXPLAIN}]' \\")
         lines.append("      '*:file:_files' ;;")
     lines += ["  esac", "}", '_a2shop "$@"']
@@ -206,6 +212,7 @@ def fish(commands):
     lines = [
         "# The completion of a2shop for fish.",
         f"complete -c a2shop -n __fish_use_subcommand -l version -d '{VERSION}'",
+        f"complete -c a2shop -n 'not __fish_use_subcommand' -l auto -d '{AUTO}'",
         f"complete -c a2shop -n 'not __fish_use_subcommand' -l explain -d '{EXPLAIN}'",
     ]
     for command in commands:

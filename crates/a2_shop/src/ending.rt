@@ -1,8 +1,7 @@
 // The files of a job, ended, and its answer told.
 use crate::doing::Done;
 use shop_changes::Outcome;
-use shop_files::{Ending, Found, JobFiles, Output, Unwritten, explain, settle};
-use shop_replies::{FAILED, Reply, Status};
+use shop_files::{Ending, Found, JobFiles, Output, Unwritten, end_by, explain};
 use std::io::Write;
 
 /// The files that a job writes.
@@ -26,37 +25,6 @@ impl<'a> Outputs<'a> {
         self.image.discard();
         self.certificate.discard();
     }
-}
-
-// Tells a reply, and puts the image and the certificate that it has into their files.
-fn end_answered<T: Write>(
-    rt: &HostRuntime,
-    reply: Reply,
-    outputs: Outputs<'_>,
-    text: &mut T,
-) -> Ending {
-    let Outputs {
-        mut image,
-        mut certificate,
-    } = outputs;
-    if matches!(image, Output::Nothing) {
-        return Ending::written(reply.tell(text));
-    }
-    if let Some(bytes) = reply.certificate() {
-        // A failure stays with the file, which then can't be put onto the disk.
-        let _ = certificate.write_all(bytes);
-    }
-    let is_failure = reply.status == Status::Failed;
-    let mut told = Vec::new(rt.alloc());
-    let status = reply.deliver(&mut told, &mut image);
-    let has_no_room = status == FAILED && !is_failure && image.is_empty();
-    let told = if has_no_room {
-        // A part of a text is not told.
-        b""
-    } else {
-        told.as_slice()
-    };
-    settle(image, certificate, status, told, text)
 }
 
 // Puts a certificate onto the disk, and answers whether that was done.
@@ -104,7 +72,13 @@ fn end_in_place<T: Write>(outcome: Outcome, mut certificate: Output<'_>, text: &
 /// Tells what a job has come to, and puts its files into their places.
 pub fn end<T: Write>(rt: &HostRuntime, done: Done, outputs: Outputs<'_>, text: &mut T) -> Ending {
     match done {
-        Done::Answered(reply) => end_answered(rt, reply, outputs, text),
+        Done::Answered(reply) => end_by(
+            rt.alloc(),
+            reply,
+            outputs.image,
+            outputs.certificate,
+            text,
+        ),
         Done::InPlace(outcome) => end_in_place(outcome, outputs.certificate, text),
     }
 }

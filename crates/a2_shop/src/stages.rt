@@ -11,7 +11,7 @@ use explanations::Overheard;
 use shop_files::{Ending, Found, JobFiles};
 use shop_jobs::Job;
 use shop_replies::{Failure, Reply, written};
-use shop_words::{asks_explain, asks_version, without_explain};
+use shop_words::{asks_explain, asks_version, filled_in, without_explain};
 use std::io::{BufWriter, Write};
 
 /// Does what the program's words ask for, and answers its status. Standard output is written
@@ -41,13 +41,13 @@ fn run_telling<T: Write>(rt: &HostRuntime, text: &mut T) -> u8 {
     }
     greet(rt, words.as_slice());
     if asks_explain(words.as_slice()) {
-        return run_explained(rt, without_explain(words).as_slice(), text);
+        return run_explained(rt, without_explain(words), text);
     }
-    run_words(rt, words.as_slice(), &mut Found::new(), text)
+    run_words(rt, words, &mut Found::new(), text)
 }
 
 // Does what words ask for, and explains on standard error what was told.
-fn run_explained<T: Write>(rt: &HostRuntime, words: &[String], text: &mut T) -> u8 {
+fn run_explained<T: Write>(rt: &HostRuntime, words: Vec<String>, text: &mut T) -> u8 {
     let mut found = Found::new();
     found.is_wanted = true;
     let mut text = Overheard::new(rt.alloc(), text);
@@ -56,8 +56,26 @@ fn run_explained<T: Write>(rt: &HostRuntime, words: &[String], text: &mut T) -> 
     status
 }
 
+// Does what words ask for, with what `--auto` says for those that they leave out.
+fn run_words<T: Write>(
+    rt: &HostRuntime,
+    words: Vec<String>,
+    found: &mut Found,
+    text: &mut T,
+) -> u8 {
+    match filled_in(rt.alloc(), words) {
+        Ok(words) => run_filled_in(rt, words.as_slice(), found, text),
+        Err(_) => Reply::failed(Failure::Memory).tell(text),
+    }
+}
+
 // Does what words ask for, and notes what becomes known on the way.
-fn run_words<T: Write>(rt: &HostRuntime, words: &[String], found: &mut Found, text: &mut T) -> u8 {
+fn run_filled_in<T: Write>(
+    rt: &HostRuntime,
+    words: &[String],
+    found: &mut Found,
+    text: &mut T,
+) -> u8 {
     match run_stages(rt, words, found, text) {
         Ok(ending) => {
             found.unwritten = ending.unwritten;

@@ -104,7 +104,7 @@ module _ (format : Meaning) (laws : IsReadable format) (meaning : FileMeaning) (
   text_by_list whole text is =
       let same : is.directory ≡ has.directory = laws.one_directory store is.directory has.directory is.described has.accepted.described in
       let first : IsFirstNamed meaning has.directory path is.file = subst (λ (d : Directory). IsFirstNamed meaning d path is.file) same is.first in
-      let units : AreUnitsOf format has.directory store is.file is.units = subst (λ (d : Directory). AreUnitsOf format d store is.file is.units) same is.are_units in
+      let units : AreUnitsOf format has.directory store is.file is.read.units = subst (λ (d : Directory). AreUnitsOf format d store is.file is.read.units) same is.read.are_units in
       let found = first_in_range is_wanted 0 (entries has.directory) is.file (omega arith) (omega (arith, first.inside)) first.named (λ earlier from before. first.first earlier before) in
       let zipped : AllZip (IsFile format has.directory store) (is.file ∷ found.0) (named_files meaning path files) =
       subst (λ (numbers : List ℕ). AllZip (IsFile format has.directory store) numbers (named_files meaning path files)) found.1 wanted in
@@ -112,10 +112,10 @@ module _ (format : Meaning) (laws : IsReadable format) (meaning : FileMeaning) (
       record {
         file = member.0;
         first = member.2;
-        is = is.is
-            ∙ ap (λ (d : Directory). text_of meaning format.unit_size whole (entry_of d is.file).bytes is.units) same
-            ∙ ap (λ (bytes : List ℕ). text_of meaning format.unit_size whole bytes is.units) (sym member.1.bytes)
-            ∙ ap (λ (body : List Stored). text_of meaning format.unit_size whole member.0.bytes body) (same_units is.file member.0 is.units units member.1);
+        is = is.read.is
+            ∙ ap (λ (d : Directory). text_of meaning format.unit_size whole (entry_of d is.file).bytes is.read.units) same
+            ∙ ap (λ (bytes : List ℕ). text_of meaning format.unit_size whole bytes is.read.units) (sym member.1.bytes)
+            ∙ ap (λ (body : List Stored). text_of meaning format.unit_size whole member.0.bytes body) (same_units is.file member.0 is.read.units units member.1);
       }
 
   pub none_by_list : HasNoFile format meaning store path → slice_get (named_files meaning path files) 0 ≡ None

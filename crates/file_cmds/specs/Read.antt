@@ -1,22 +1,18 @@
 -- What a read of a file answers.
 use Rattle.std.specs.Prelude.{◌≡◌, ◌⊎◌, ℕ, Bool, List}
-use Rattle.vol_format.specs.Directory.{Directory, entry_of}
+use Rattle.vol_format.specs.Directory.{Directory}
 use Rattle.vol_format.specs.Meaning.{Meaning}
 use Rattle.file_formats.specs.Files.{FileMeaning, IsFirstNamed, NamesNone}
 use Rattle.file_formats.specs.Listing.{HasHeaderFault}
-use Rattle.vol_format.specs.Files.{Stored}
-use Rattle.file_cmds.specs.Text.{OwnFault, AreUnitsOf, text_of}
+use Rattle.file_cmds.specs.Text.{IsEntryText, OwnFault}
 
--- the first file that a path names has no fault of its own, and this is its text
+-- the first file that a path names has this text
 pub record IsTextAt (format : Meaning) (files : FileMeaning) (store : List (List ℕ)) (path : List ℕ) (whole : Bool) (text : List ℕ) : Type 0 where
   pub directory : Directory
   pub described : format.Describes store directory
   pub file : ℕ
   pub first : IsFirstNamed files directory path file
-  pub faultless : ¬ OwnFault format directory store file
-  pub units : List Stored
-  pub are_units : AreUnitsOf format directory store file units
-  pub is : text ≡ text_of files format.unit_size whole (entry_of directory file).bytes units
+  pub read : IsEntryText format files directory store file whole text
 
 -- the first file that a path names has a fault of its own
 pub record IsBroken (format : Meaning) (files : FileMeaning) (store : List (List ℕ)) (path : List ℕ) : Type 0 where

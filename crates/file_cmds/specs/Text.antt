@@ -2,7 +2,7 @@
 use Rattle.std.specs.Prelude.{◌≡◌, ◌≢◌, ◌↔◌, ◌<◌, ◌+◌, ◌-◌, ◌*◌, ℕ, Bool, true, false, List, [], ◌∷◌, ◌++◌, replicate, AllPairs, Contains}
 use Rattle.a2_device.specs.declared.part.Part.{Part}
 use Rattle.vol_format.specs.declared.link.Link.TheVariants.{Wild, OtherType}
-use Rattle.vol_format.specs.Directory.{Directory, root_of}
+use Rattle.vol_format.specs.Directory.{Directory, entry_of, root_of}
 use Rattle.vol_format.specs.Meaning.{Meaning, link_from}
 use Rattle.vol_format.specs.Reach.{Reach}
 use Rattle.vol_format.specs.Files.{Stored, IsStored}
@@ -42,3 +42,10 @@ pub record IsWholeTextOf (format : Meaning) (directory : Directory) (store : Lis
 abbrev pub text_of : FileMeaning → ℕ → Bool → List ℕ → List Stored → List ℕ
 text_of files unit_size true bytes units = whole_text unit_size units
 text_of files unit_size false bytes units = files.body bytes (whole_text unit_size units)
+
+-- the text of an entry's file that has no fault of its own, whole or its body alone
+pub record IsEntryText (format : Meaning) (files : FileMeaning) (directory : Directory) (store : List (List ℕ)) (file : ℕ) (whole : Bool) (text : List ℕ) : Type 0 where
+  pub faultless : ¬ OwnFault format directory store file
+  pub units : List Stored
+  pub are_units : AreUnitsOf format directory store file units
+  pub is : text ≡ text_of files format.unit_size whole (entry_of directory file).bytes units

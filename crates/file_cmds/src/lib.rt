@@ -1,8 +1,8 @@
 //! Commands that read the files of a volume, over any device that has its units and any format of files.
 //!
 //! `catalog` reads what a listing shows. `read` gives the units of one file in order, or what is wrong with this file
-//! (`specs/Text.antt`, `specs/Read.antt`): the checker of volumes walks over the volume that has the file alone
-//! (`specs/OneFile.antt`).
+//! (`specs/Text.antt`, `specs/Read.antt`), and `read_entry` those of an entry of a volume that was read: the checker of
+//! volumes walks over the volume that has the file alone (`specs/OneFile.antt`).
 //!
 //! What always holds: a command leaves the device's store as it is.
 #![tactic(auto)]
@@ -17,4 +17,4 @@ mod text;
 pub use command::{catalog, listing_of, read_volume};
 pub use error::CmdError;
 pub use law::{a_read_answers_by_the_list_of_files, answers_exclude_one_another};
-pub use reading::read;
+pub use reading::{read, read_entry};

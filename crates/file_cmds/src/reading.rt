@@ -4,7 +4,7 @@ ghost use Rattle.a2_device.specs.Device.{OnlyReads};
 ghost use Rattle.vol_format.specs.Fits.{Fits};
 ghost use Rattle.vol_format.specs.Directory.{entries};
 ghost use Rattle.file_cmds.specs.Refusal.{told_device};
-ghost use Rattle.file_cmds.specs.Text.{OwnFault, IsWholeTextOf};
+ghost use Rattle.file_cmds.specs.Text.{IsEntryText, OwnFault, IsWholeTextOf};
 ghost use Rattle.file_cmds.specs.Read.{IsTextAt, IsUnreadable, HasNoFile};
 
 use crate::CmdError;
@@ -46,6 +46,38 @@ fn whole_text<D: Device, F: Format, A: Allocator + Copy>(
     Ok(text_of(alloc, device, checked.parts())?)
 }
 
+/// The text of the file of an entry of a volume that was read: the whole of its units, or its body alone. It reads the
+/// file's own units, each once; what is wrong with other files, and what the map says, does not matter.
+///
+/// # Errors
+/// `Check` where the file has a fault of its own; `Device` where a read fails; `Memory`.
+pub fn read_entry<D: Device, F: FileFormat, A: Allocator + Copy>(
+    alloc: A,
+    device: &mut D,
+    format: &F,
+    volume: &F::Volume,
+    file: u32,
+    whole: bool,
+) -> Result<Vec<u8, A>, CmdError>
+    requires fits { Fits (F.meaning format.now) (D.state device.old) }
+    requires places { (F.directory format.now volume.now).places ≡ (D.state device.old).places }
+    requires file { file < entries (F.directory format.now volume.now) }
+
+    ensures device { OnlyReads (told_device result) (D.state device.old) (D.state device.new) }
+    ensures found { result ≢ Err CmdError.NotFound }
+    ensures text { IsTrue (D.state device.old).honest → IfOk result (λ text.
+        IsEntryText (F.meaning format.now) (F.files format.now) (F.directory format.now volume.now)
+        (D.state device.old).store file whole text.items) }
+    ensures check { IsTrue (D.state device.old).honest → result ≡ Err CmdError.Check
+        → OwnFault (F.meaning format.now) (F.directory format.now volume.now) (D.state device.old).store file }
+{
+    let text = whole_text(alloc, device, format, volume, file)?;
+    if whole {
+        return Ok(text);
+    }
+    Ok(format.body(volume, file, text)?)
+}
+
 /// The text of the first file that a path names: the whole of its units, or its body alone. It reads the header, the
 /// directory, and the file's own units, each once; what is wrong with other files, and what the map says, does not
 /// matter.
@@ -74,9 +106,5 @@ pub fn read<D: Device, F: FileFormat, A: Allocator + Copy>(
     let Some(file) = find(format, &volume, path) else {
         return Err(CmdError::NotFound);
     };
-    let text = whole_text(alloc, device, format, &volume, file)?;
-    if whole {
-        return Ok(text);
-    }
-    Ok(format.body(&volume, file, text)?)
+    read_entry(alloc, device, format, &volume, file, whole)
 }

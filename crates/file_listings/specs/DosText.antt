@@ -13,6 +13,8 @@ use Rattle.vol_format.specs.Directory.{Directory}
 use Rattle.file_formats.specs.Catalog.{list_entry}
 use Rattle.file_formats.specs.DosFiles.{dos_shown}
 use Rattle.file_formats.specs.Listing.{free_count}
+use Rattle.file_listings.specs.declared.style.Style.{Style}
+use Rattle.file_listings.specs.declared.style.Style.TheVariants.{Catalog, Names}
 
 -- a text, as the bytes of ASCII
 abbrev pub Text : Type 0
@@ -60,9 +62,14 @@ lines_of volume files free = line (codes "DISK VOLUME " ++ decimal volume) ++ fl
 abbrev pub listing_text : {A : Type 0} → Listing A → Text
 listing_text listing = lines_of (slice_index listing.volume 0) listing.entries.items listing.free
 
--- the listing of a directory
-abbrev pub directory_text : Directory → Text
-directory_text directory = lines_of {A = Global} (slice_index directory.name 0) (map dos_shown directory.listed) (free_count directory)
+-- the names of some files, a line each
+abbrev pub names_text : {A : Type 0} → List (ListEntry A) → Text
+names_text files = flat_map (λ file. line (name_text file.path)) files
+
+-- the listing of a directory: its number, a line for each file, and how many sectors are free; or the names alone
+abbrev pub directory_text : Style → Directory → Text
+directory_text Catalog directory = lines_of {A = Global} (slice_index directory.name 0) (map dos_shown directory.listed) (free_count directory)
+directory_text Names directory = names_text {A = Global} (map dos_shown directory.listed)
 
 -- the line of an entry of the catalog
 abbrev pub entry_line : Entry → Text

@@ -5,6 +5,8 @@ use Rattle.std.specs.declared.alloc.Global.{Global}
 use Rattle.vol_format.specs.Directory.{Directory, Listed}
 use Rattle.file_formats.specs.declared.listing.ListEntry.{ListEntry}
 use Rattle.file_listings.specs.DosText.{Text, line, shown}
+use Rattle.file_listings.specs.declared.style.Style.{Style}
+use Rattle.file_listings.specs.declared.style.Style.TheVariants.{Catalog, Names}
 use Rattle.file_formats.specs.Listing.{free_count}
 use Rattle.file_formats.specs.ProFiles.{pro_shown}
 use Rattle.pro_dates.specs.ShownDates.{date_text}
@@ -27,16 +29,23 @@ pro_file_line file =
     (if file.locked then 42 else 32) ∷ 36 ∷ hex_digit (file.kind / 16) ∷ hex_digit (file.kind % 16) ∷ 32 ∷ right_in 5 file.size
     ++ 32 ∷ right_in 8 file.eof ++ 32 ∷ date_text file.date.0 ++ 32 ∷ path_text file.directory file.path
 
+-- what is told of an entry: its facts, or its path alone
+abbrev pub entry_text : {A : Type 0} → Style → ListEntry A → Text
+entry_text Catalog file = pro_file_line file
+entry_text Names file = path_text file.directory file.path
+
 -- the line of an entry of a directory
-abbrev pub entry_line : Listed → Text
-entry_line entry = line (pro_file_line {A = Global} (pro_shown entry))
+abbrev pub entry_line : Style → Listed → Text
+entry_line style entry = line (entry_text {A = Global} style (pro_shown entry))
 
--- the listing of a directory: the volume's name, a line for each entry, and how many blocks are free
-abbrev pub first_line : Directory → Text
-first_line directory = line (codes "VOLUME /" ++ map shown directory.name)
+-- the listing of a directory: the volume's name, a line for each entry, and how many blocks are free; or the lines alone
+abbrev pub first_line : Style → Directory → Text
+first_line Catalog directory = line (codes "VOLUME /" ++ map shown directory.name)
+first_line Names directory = []
 
-abbrev pub last_line : Directory → Text
-last_line directory = line (codes "FREE " ++ decimal (free_count directory))
+abbrev pub last_line : Style → Directory → Text
+last_line Catalog directory = line (codes "FREE " ++ decimal (free_count directory))
+last_line Names directory = []
 
-abbrev pub directory_text : Directory → Text
-directory_text directory = first_line directory ++ flat_map entry_line directory.listed ++ last_line directory
+abbrev pub directory_text : Style → Directory → Text
+directory_text style directory = first_line style directory ++ flat_map (entry_line style) directory.listed ++ last_line style directory

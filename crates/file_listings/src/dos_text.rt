@@ -1,6 +1,6 @@
 // The text of a listing of a DOS 3.3 volume.
 ghost use Rattle.std.specs.Prelude.{◌≡◌, ◌≤◌, Some, IfOk, take, map, string_bytes, length, slice_index};
-ghost use Rattle.file_listings.specs.DosText.{file_line, listing_text, name_text, letter_of, shown};
+ghost use Rattle.file_listings.specs.DosText.{file_line, letter_of, listing_text, name_text, names_text, shown};
 
 use file_formats::{ListEntry, Listing};
 use std::alloc::{AllocError, Allocator};
@@ -84,6 +84,24 @@ impl<A: Allocator> fmt::Display for FileLine<'_, A> {
         let name = ShownName(file.path.as_bytes());
         write!(f, "{mark}{letter} {sectors:03} {name}")
     }
+}
+
+/// The names of the files of a DOS 3.3 volume, a line each.
+///
+/// # Errors
+/// Want of memory alone.
+pub fn dos_names_text<A: Allocator + Copy>(
+    alloc: A,
+    listing: &Listing<A>,
+) -> Result<String<A>, AllocError>
+    ensures { IfOk result (λ text. string_bytes text ≡ names_text listing.now.entries.items) }
+{
+    let mut text = String::new(alloc);
+    for file in &listing.entries {
+        let name = ShownName(file.path.as_bytes());
+        writeln!(text, "{name}")?;
+    }
+    Ok(text)
 }
 
 // The first byte, or 0 where there is none.

@@ -3,10 +3,11 @@ ghost use Rattle.std.specs.Prelude.{◌≡◌, ◌<◌, IfOk, OnOk};
 ghost use Rattle.pro_format.specs.Pro.{directory_with};
 ghost use Rattle.pro_format.specs.ProVolume.{map_in, system_of, tree_of};
 ghost use Rattle.vol_format.specs.Directory.{entries, entry_of};
-ghost use Rattle.file_listings.specs.ProLines.{directory_in, line_in, most_path_bytes};
+ghost use Rattle.file_listings.specs.ProLines.{line_in, listed_in, most_path_bytes};
 ghost use Rattle.file_listings.specs.ProText.{entry_line, first_line, last_line};
 
-use crate::pro_text::{FileLine, ShownBytes};
+use crate::pro_text::{EntryText, ShownBytes};
+use crate::style::Style;
 use file_formats::listed_entry;
 use pro_format::ProVolume;
 use std::alloc::{AllocError, Allocator, Global};
@@ -34,6 +35,7 @@ pub fn most_path_bytes<A: Allocator>(volume: &ProVolume<A>) -> usize
 #[derive(Debug, Drop)]
 pub struct ProLines<A: Allocator = Global> {
     alloc: A,
+    style: Style,
     volume: ProVolume<A>,
     path: Vec<u8, A>,
     line: String<A>,
@@ -44,15 +46,18 @@ impl<A: Allocator + Copy> ProLines<A> {
     ///
     /// # Errors
     /// Want of memory alone.
-    pub fn new(alloc: A, volume: ProVolume<A>) -> Result<ProLines<A>, AllocError>
-        ensures { IfOk result (λ lines.
-            directory_in lines ≡ directory_with (system_of volume) (tree_of volume) (map_in volume).units) }
+    pub fn new(alloc: A, style: Style, volume: ProVolume<A>) -> Result<ProLines<A>, AllocError>
+        ensures { IfOk result (λ lines. listed_in lines ≡ record {
+          style = style;
+          directory = directory_with (system_of volume) (tree_of volume) (map_in volume).units;
+        }) }
     {
         let most = most_path_bytes(&volume);
         let path = Vec::with_capacity(alloc, most)?;
         let line = String::with_capacity(alloc, most + LINE_BYTES)?;
         Ok(ProLines {
             alloc,
+            style,
             volume,
             path,
             line,
@@ -61,7 +66,7 @@ impl<A: Allocator + Copy> ProLines<A> {
 
     /// How many entries have a line, those of directories among them.
     pub fn entries(&self) -> u32
-        ensures { result ≡ entries (directory_in self.now) }
+        ensures { result ≡ entries (listed_in self.now).directory }
     {
         self.volume.directory().entries().len() as u32
     }
@@ -73,17 +78,23 @@ impl<A: Allocator + Copy> ProLines<A> {
         self.line.as_bytes()
     }
 
-    /// Makes the first line: the volume's name.
+    /// Makes the first line, the volume's name; of names alone there is none.
     ///
     /// # Errors
     /// Want of memory alone.
     pub fn make_first(&mut self) -> Result<(), AllocError>
-        ensures line { OnOk result (line_in self.new ≡ first_line (directory_in self.old)) }
-        ensures volume { directory_in self.new ≡ directory_in self.old }
+        ensures line { OnOk result (line_in self.new
+            ≡ first_line (listed_in self.old).style (listed_in self.old).directory) }
+        ensures same { listed_in self.new ≡ listed_in self.old }
     {
-        let volume = ShownBytes(self.volume.directory().name());
         self.line.clear();
-        writeln!(self.line, "VOLUME /{volume}")?;
+        match self.style {
+            Style::Catalog => {
+                let volume = ShownBytes(self.volume.directory().name());
+                writeln!(self.line, "VOLUME /{volume}")?;
+            }
+            Style::Names => {}
+        }
         Ok(())
     }
 
@@ -92,30 +103,40 @@ impl<A: Allocator + Copy> ProLines<A> {
     /// # Errors
     /// Want of memory alone.
     pub fn make_entry(&mut self, entry: u32) -> Result<(), AllocError>
-        requires { entry < entries (directory_in self.old) }
-        ensures line { OnOk result (line_in self.new ≡ entry_line (entry_of (directory_in self.old) entry)) }
-        ensures volume { directory_in self.new ≡ directory_in self.old }
+        requires { entry < entries (listed_in self.old).directory }
+        ensures line { OnOk result (line_in self.new
+            ≡ entry_line (listed_in self.old).style (entry_of (listed_in self.old).directory entry)) }
+        ensures same { listed_in self.new ≡ listed_in self.old }
     {
         let path = mem::replace(&mut self.path, Vec::new(self.alloc));
         let listed = listed_entry(&self.volume, entry, path)?;
-        let line = FileLine(&listed);
+        let text = EntryText {
+            style: self.style,
+            entry: &listed,
+        };
         self.line.clear();
-        writeln!(self.line, "{line}")?;
+        writeln!(self.line, "{text}")?;
         self.path = listed.path.into_bytes();
         Ok(())
     }
 
-    /// Makes the last line: how many blocks are free.
+    /// Makes the last line, how many blocks are free; of names alone there is none.
     ///
     /// # Errors
     /// Want of memory alone.
     pub fn make_last(&mut self) -> Result<(), AllocError>
-        ensures line { OnOk result (line_in self.new ≡ last_line (directory_in self.old)) }
-        ensures volume { directory_in self.new ≡ directory_in self.old }
+        ensures line { OnOk result (line_in self.new
+            ≡ last_line (listed_in self.old).style (listed_in self.old).directory) }
+        ensures same { listed_in self.new ≡ listed_in self.old }
     {
-        let free = self.volume.map().free_count();
         self.line.clear();
-        writeln!(self.line, "FREE {free}")?;
+        match self.style {
+            Style::Catalog => {
+                let free = self.volume.map().free_count();
+                writeln!(self.line, "FREE {free}")?;
+            }
+            Style::Names => {}
+        }
         Ok(())
     }
 }

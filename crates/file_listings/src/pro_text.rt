@@ -1,9 +1,10 @@
 // The text of a listing of a ProDOS volume.
 ghost use Rattle.std.specs.Prelude.{◌≡◌, ◌<◌, Some, map};
 ghost use Rattle.file_listings.specs.DosText.{shown};
-ghost use Rattle.file_listings.specs.ProText.{hex_digit, path_text, pro_file_line};
+ghost use Rattle.file_listings.specs.ProText.{entry_text, hex_digit, path_text, pro_file_line};
 
 use crate::dos_text::shown_byte;
+use crate::style::Style;
 use file_formats::ListEntry;
 use pro_dates::ShownDate;
 use std::alloc::Allocator;
@@ -56,9 +57,9 @@ impl fmt::Display for ShownPath<'_> {
     }
 }
 
-/// The line of one entry.
+// The facts of one entry.
 #[derive(Drop)]
-pub struct FileLine<'a, A: Allocator>(pub &'a ListEntry<A>);
+struct FileLine<'a, A: Allocator>(&'a ListEntry<A>);
 
 impl<A: Allocator> fmt::Display for FileLine<'_, A> {
     ghost output = { λ l. Some (pro_file_line l.0.now) };
@@ -76,5 +77,33 @@ impl<A: Allocator> fmt::Display for FileLine<'_, A> {
             directory: file.directory,
         };
         write!(f, "{mark}${high}{low} {blocks:5} {eof:8} {date} {path}")
+    }
+}
+
+/// What is told of one entry.
+#[derive(Drop)]
+pub struct EntryText<'a, A: Allocator> {
+    pub style: Style,
+    pub entry: &'a ListEntry<A>,
+}
+
+impl<A: Allocator> fmt::Display for EntryText<'_, A> {
+    ghost output = { λ t. Some (entry_text t.style t.entry.now) };
+
+    fn fmt<W: fmt::Write>(&self, f: &mut fmt::Formatter<W>) -> fmt::Result {
+        let entry = self.entry;
+        match self.style {
+            Style::Catalog => {
+                let line = FileLine(entry);
+                write!(f, "{line}")
+            }
+            Style::Names => {
+                let path = ShownPath {
+                    path: entry.path.as_bytes(),
+                    directory: entry.directory,
+                };
+                write!(f, "{path}")
+            }
+        }
     }
 }

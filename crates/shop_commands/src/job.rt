@@ -5,7 +5,20 @@ ghost use Rattle.shop_jobs.specs.Paths.{from_of};
 ghost use Rattle.shop_replies.specs.Reply.{held};
 ghost use Rattle.shop_reads.specs.VerifyReply.{most_certificate};
 ghost use Rattle.shop_replies.specs.Reading.{IsReadFailure};
-ghost use Rattle.shop_commands.specs.Answer.{HandsOutFor, IsAnswer, IsDosCatalogAnswer, IsInPlaceAnswer, IsReplyToBytes, IsStatus, MakesImage, ReadsExtra, ReadsImage, ReadsVolume, beside, image_order_of};
+ghost use Rattle.shop_commands.specs.Answer.{
+  HandsOutFor,
+  IsAnswer,
+  IsDosCatalogAnswer,
+  IsInPlaceAnswer,
+  IsReplyToBytes,
+  IsStatus,
+  MakesImage,
+  ReadsExtra,
+  ReadsImage,
+  ReadsVolume,
+  beside,
+  image_order_of,
+};
 
 use crate::input::{read_extra, read_image};
 use crate::work::change_work;

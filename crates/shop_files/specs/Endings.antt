@@ -1,9 +1,10 @@
 -- How a job with output files ends.
-use Rattle.std.specs.Prelude.{◌≡◌, ◌≢◌, ◌⊎◌, ℕ, false, List, [], Option, Some, None}
+use Rattle.std.specs.Prelude.{◌≡◌, ◌≢◌, ◌⊎◌, ℕ, false, List, Option, Some, None}
 use Rattle.std.specs.Io.KnownBytes.{Keeps}
 use Rattle.std.specs.declared.io.ErrorKind.{ErrorKind}
 use Rattle.std.specs.declared.io.ErrorKind.TheVariants.{OutOfMemory}
-use Rattle.shop_replies.specs.Reply.{AppendsFront, IsWritten, failure_line}
+use Rattle.shop_replies.specs.Reply.{AppendsFront, IsWritten, failure_line, status_of, text_of}
+use Rattle.shop_replies.specs.declared.reply.Reply.{Reply}
 use Rattle.shop_replies.specs.declared.refusal.Failure.TheVariants.{Memory}
 use Rattle.shop_files.specs.declared.ending.Ending.{Ending}
 use Rattle.shop_files.specs.declared.ending.Unwritten.{Unwritten}
@@ -43,12 +44,10 @@ IsUnplacedEnding status told ending old new =
     (unwritten : Unwritten) × IsOutOfPlace unwritten × (ending ≡ stopped unwritten)
     × IsWritten status told status old new
 
--- A job without an image has ended: its text was told with its status, or a front of it to a writer that failed; or
--- want of memory was told in the place of a text that has no byte and is told as failed.
+-- A job without an image has ended: its text was told with its status, or a front of it to a writer that failed.
 abbrev pub IsToldEnding : ℕ → List ℕ → Ending → Option (List ℕ) → Option (List ℕ) → Type 0
 IsToldEnding status told ending old new =
     ((ending.unwritten ≡ None) × IsWritten status told ending.status old new)
-    ⊎ ((status ≡ 4) × (told ≡ []) × IsOutOfMemory ending old new)
     ⊎ ((ending ≡ stopped Text) × AppendsFront old new told)
 
 -- A job with output files has ended: as one without an image; or a file could not be put onto the disk, and its text was
@@ -56,6 +55,12 @@ IsToldEnding status told ending old new =
 abbrev pub IsEnding : ℕ → List ℕ → Ending → Option (List ℕ) → Option (List ℕ) → Type 0
 IsEnding status told ending old new =
     IsToldEnding status told ending old new ⊎ IsUnflushedEnding ending old new ⊎ IsUnplacedEnding status told ending old new
+
+-- A job that writes no image in its own file has ended, by its reply: as any with the reply's status and text; or there
+-- was no memory for that text, and no part of it was told.
+abbrev pub IsReplyEnding : Reply → Ending → Option (List ℕ) → Option (List ℕ) → Type 0
+IsReplyEnding reply ending old new =
+    IsEnding (status_of reply) (text_of reply) ending old new ⊎ IsOutOfMemory ending old new
 
 -- nothing is known of the files of a job, and nothing is to be explained
 abbrev pub nothing_found : Found

@@ -116,6 +116,14 @@ impl<'a, R: Files, A: Allocator + Copy> AsideFile<'a, R, A> {
         self.failure
     }
 
+    /// Notes that something failed: it can't be put onto the disk then, and does not take its place.
+    pub fn fail(&mut self, kind: ErrorKind)
+        ensures failure { self.new.failure ≡ Some kind }
+        ensures file { self.new.made ≡ self.old.made }
+    {
+        self.failure = Some(kind);
+    }
+
     /// Puts what was written onto the disk.
     ///
     /// # Errors

@@ -13,9 +13,10 @@
 //! group where the caller may give them. A path that is no regular file, as a pipe, has no place that could be taken,
 //! and is told as such; so is one whose folder can't be found.
 //!
-//! `settle` ends a job whose image goes to such a file, with a certificate to another or none. It answers an `Ending`:
-//! the status, and what could not be written (`specs/Written.antt`, `specs/Endings.antt`). `explain` says on standard
-//! error what was meant, and `warn_of_order` beforehand that another way to read the image is better.
+//! `end_by` ends a job by its reply: its image goes to such a file, its certificate to another or none, and its text is
+//! told as a whole. It answers an `Ending`: the status, and what could not be written (`specs/Written.antt`,
+//! `specs/Endings.antt`). `explain` says on standard error what was meant, and `warn_of_order` beforehand that another
+//! way to read the image is better.
 //!
 //! No contract can say what a file system holds: what is promised of it is tested, with a file system whose calls fail
 //! in turn. What always holds: a device that is opened has the units of the job's file system, all those of a disk or
@@ -43,6 +44,6 @@ pub use files::JobFiles;
 pub use identity::{FileIdentity, is_same_file};
 pub use image::{ImageDevice, ImageUse, OpenImage, is_in_its_file};
 pub use output::Output;
-pub use settling::settle;
+pub use settling::{end_by, settle};
 pub use target::{Node, Place, Standing, Target, target_of};
 pub use telling::{Found, ImageFault, explain, warn_of_order};

@@ -3,7 +3,7 @@ ghost use Rattle.std.specs.Prelude.{◌≡◌, ◌≢◌, ◌↔◌, IfErr, IfSo
 ghost use Rattle.std.specs.Io.{WritesAtMost};
 ghost use Rattle.std.specs.Io.KnownBytes.{WriteAppends};
 ghost use Rattle.std.specs.IoError.{error_kind};
-ghost use Rattle.shop_files.specs.Written.{GoesTo, IsUntouched, failure_of, held_bytes};
+ghost use Rattle.shop_files.specs.Written.{GoesTo, HasPut, IsNoted, IsUntouched, failure_of, held_bytes};
 
 use crate::{AsideFile, Target};
 use std::alloc::Global;
@@ -80,6 +80,30 @@ impl<'a> Output<'a> {
             Output::Nothing => None,
             Output::Aside(file) => file.failure(),
             Output::Held(file) => file.failure,
+        }
+    }
+
+    // Notes that something failed.
+    fn fail(&mut self, kind: ErrorKind)
+        ensures { IsNoted kind self.old self.new }
+    {
+        match self {
+            Output::Nothing => {}
+            Output::Aside(file) => file.fail(kind),
+            Output::Held(file) => file.failure = Some(kind),
+        }
+    }
+
+    /// Writes bytes to the last. Where that fails, the file can't be put onto the disk and does not take its place.
+    pub fn put(&mut self, bytes: &[u8])
+        ensures whole { failure_of self.new ≡ None → HasPut bytes.now self.old self.new }
+        ensures kept { IfSome (failure_of self.old) (λ kind. failure_of self.new ≡ Some kind) }
+    {
+        if self.failure().is_some() {
+            return;
+        }
+        if let Err(error) = self.write_all(bytes) {
+            self.fail(error.kind());
         }
     }
 

@@ -1,17 +1,62 @@
 // How a job with output files ends.
 ghost use Rattle.std.specs.Prelude.{◌≡◌, IfErr, IfSome, IsErrAnd};
-ghost use Rattle.shop_files.specs.Endings.{IsEnding, IsOffDisk, IsOutOfPlace, IsToldEnding, IsUnflushed};
+ghost use Rattle.shop_files.specs.Endings.{
+  IsEnding,
+  IsOffDisk,
+  IsOutOfPlace,
+  IsReplyEnding,
+  IsToldEnding,
+  IsUnflushed,
+};
 ghost use Rattle.shop_files.specs.Written.{IsUntouched, failure_of};
 
 use crate::ending::{Ending, Unwritten};
 use crate::output::Output;
-use shop_replies::{FAILED, Failure, Reply, written};
+use shop_replies::{Failure, Reply, written};
+use std::alloc::Global;
 use std::io::{ErrorKind, Write};
 
-/// Ends a job that has told its text to memory, and handed its image to a file and its certificate to another or none:
-/// both are put onto the disk, then the text is told, and then they take their places. Where one of these fails, what
-/// stood at the places stands, and the status is 4; of an image that is not on the disk, nothing is told. Where no image
-/// was handed out, no certificate is kept.
+/// Ends a job by its reply: hands the image that it has to a file, and its certificate to another or none, and settles
+/// both. Where no file is asked for, the reply is told. A text that finds no room in memory is not told in part.
+pub fn end_by<T: Write>(
+    alloc: Global,
+    reply: Reply,
+    mut out: Output<'_>,
+    mut certificate: Output<'_>,
+    text: &mut T,
+) -> Ending
+    ensures { IsReplyEnding reply result (T.contents text.old) (T.contents text.new) }
+{
+    if matches!(out, Output::Nothing) {
+        discard_both(out, certificate);
+        return Ending::written(reply.tell(text));
+    }
+    if let Some(bytes) = reply.certificate() {
+        certificate.put(bytes);
+    }
+    let Reply {
+        status,
+        told,
+        image,
+    } = reply;
+    match told.text(alloc) {
+        Ok(told) => {
+            if let Some(image) = image {
+                out.put(image.as_slice());
+            }
+            settle(out, certificate, status.number(), told.as_slice(), text)
+        }
+        Err(_) => {
+            discard_both(out, certificate);
+            Ending::written(Reply::failed(Failure::Memory).tell(text))
+        }
+    }
+}
+
+/// Ends a job whose image was handed to a file and its certificate to another or none: both are put onto the disk,
+/// then the text is told, and then they take their places. Where one of these fails, what stood at the places stands,
+/// and the status is 4; of an image that is not on the disk, nothing is told. Where no image was handed out, no
+/// certificate is kept.
 ///
 /// The certificate takes its place first. It tells the layout of the image that stood there before, so where the image
 /// can't take its own place then, it is good for the one that stands.
@@ -96,13 +141,10 @@ fn discard_both(out: Output<'_>, certificate: Output<'_>) {
     certificate.discard();
 }
 
-// Tells the text of a job that handed no image out. A text that found no room in memory is told as that.
+// Tells the text of a job that handed no image out.
 fn tell<T: Write>(status: u8, told: &[u8], text: &mut T) -> Ending
     ensures { IsToldEnding status told.now result (T.contents text.old) (T.contents text.new) }
 {
-    if status == FAILED && told.is_empty() {
-        return Ending::written(Reply::failed(Failure::Memory).tell(text));
-    }
     if written(told, status, text) == status {
         Ending::written(status)
     } else {

@@ -53,6 +53,7 @@ attributes_view a = record { kind = option_map string_bytes a.kind; aux = a.aux;
 -- reclaims, and whether it is told in words; of a certificate the path of its file, and whether it reclaims
 pub data LookView : Type 0 where
   Catalog : LookView
+  Names : LookView
   Check : LookView
   Read : Text → Bool → LookView
   Plan : Bool → Bool → LookView
@@ -60,6 +61,7 @@ pub data LookView : Type 0 where
 
 abbrev pub look_view : Look → LookView
 look_view looks.Catalog = Catalog
+look_view looks.Names = Names
 look_view looks.Check = Check
 look_view (looks.Read name whole) = Read (string_bytes name) whole
 look_view (looks.Plan reclaim in_words) = Plan reclaim in_words

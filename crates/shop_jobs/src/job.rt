@@ -57,6 +57,8 @@ pub enum Target {
 pub enum Look {
     /// Its files, listed.
     Catalog,
+    /// The paths of its entries.
+    Names,
     /// Whether it is accepted, or what is wrong with it.
     Check,
     /// The contents of a file.

@@ -9,18 +9,19 @@ use Rattle.file_formats.specs.Listing.{HasHeaderFault}
 use Rattle.file_cmds.specs.Read.{HasNoFile, IsUnreadable}
 use Rattle.file_cmds.specs.declared.error.CmdError.{CmdError}
 use Rattle.file_cmds.specs.declared.error.CmdError.TheVariants as commands
+use Rattle.file_listings.specs.declared.style.Style.{Style}
 use Rattle.shop_reads.specs.CatalogReply.{IsListed}
 use Rattle.shop_reads.specs.ReadReply.{IsRead}
 use Rattle.shop_reads.specs.TellingFailures.{FailsForLack}
 use Rattle.shop_reads.specs.Refusals.{reply_to_refusal}
 
 module _ (files : FileMeaning) (format : Meaning) (device : DeviceState) where
-  pub not_listed : (form : PlaceForm) (error : CmdError) → error ≢ commands.NotFound → (error ≡ commands.Check → HasHeaderFault format device.store)
-      → FailsForLack device (reply_to_refusal error) → IsListed form format device (reply_to_refusal error)
-  not_listed form commands.Check found fault lack = inr (inl (refl, fault refl))
-  not_listed form commands.NotFound found fault lack = absurd (found refl)
-  not_listed form commands.Device found fault lack = inr (inr (inl (refl, lack refl)))
-  not_listed form commands.Memory found fault lack = inr (inr (inr refl))
+  pub not_listed : (style : Style) (form : PlaceForm) (error : CmdError) → error ≢ commands.NotFound → (error ≡ commands.Check → HasHeaderFault format device.store)
+      → FailsForLack device (reply_to_refusal error) → IsListed style form format device (reply_to_refusal error)
+  not_listed style form commands.Check found fault lack = inr (inl (refl, fault refl))
+  not_listed style form commands.NotFound found fault lack = absurd (found refl)
+  not_listed style form commands.Device found fault lack = inr (inr (inl (refl, lack refl)))
+  not_listed style form commands.Memory found fault lack = inr (inr (inr refl))
 
   pub not_read : (name : List ℕ) (whole : Bool) (error : CmdError) → (error ≡ commands.Check → IsUnreadable format files device.store name)
       → (error ≡ commands.NotFound → HasNoFile format files device.store name) → FailsForLack device (reply_to_refusal error)

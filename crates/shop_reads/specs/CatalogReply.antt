@@ -8,6 +8,7 @@ use Rattle.vol_format.specs.Meaning.{Meaning}
 use Rattle.file_listings.specs.DosText.{Text, directory_text as dos_text}
 use Rattle.file_formats.specs.Listing.{HasHeaderFault}
 use Rattle.file_listings.specs.ProText.{directory_text as pro_text}
+use Rattle.file_listings.specs.declared.style.Style.{Style}
 use Rattle.shop_replies.specs.declared.refusal.Refusal.TheVariants as refusals
 use Rattle.shop_replies.specs.declared.refusal.Failure.TheVariants as failures
 use Rattle.shop_replies.specs.declared.reply.Reply.{Reply}
@@ -16,23 +17,24 @@ use Rattle.shop_replies.specs.declared.reply.Status.TheVariants.{Done}
 use Rattle.shop_replies.specs.Volume.{LacksUnit}
 
 -- the listing of a directory: of DOS 3.3, whose places are sectors, or of ProDOS
-abbrev pub text_by : PlaceForm → Directory → Text
-text_by Sector directory = dos_text directory
-text_by Block directory = pro_text directory
+abbrev pub text_by : Style → PlaceForm → Directory → Text
+text_by style Sector directory = dos_text style directory
+text_by style Block directory = pro_text style directory
 
-abbrev pub TellsListing : PlaceForm → Directory → Reply → Type 0
-TellsListing form directory reply = (IsTold Done reply × (text_of reply ≡ text_by form directory)) ⊎ (reply ≡ failed failures.Memory)
+abbrev pub TellsListing : Style → PlaceForm → Directory → Reply → Type 0
+TellsListing style form directory reply =
+    (IsTold Done reply × (text_of reply ≡ text_by style form directory)) ⊎ (reply ≡ failed failures.Memory)
 
 -- the listing of what the header, the directory and the map of the volume say
-pub record IsListingReply (form : PlaceForm) (format : Meaning) (device : DeviceState) (reply : Reply) : Type 0 where
+pub record IsListingReply (style : Style) (form : PlaceForm) (format : Meaning) (device : DeviceState) (reply : Reply) : Type 0 where
   pub directory : Directory
   pub described : format.Describes device.store directory
-  pub told : TellsListing form directory reply
+  pub told : TellsListing style form directory reply
 
--- The reply to `catalog`: the listing; `Check` where the header, the directory or the map's pointer has a fault; a failure where a unit can't be read; or want of memory.
-abbrev pub IsListed : PlaceForm → Meaning → DeviceState → Reply → Type 0
-IsListed form format device reply =
-    IsListingReply form format device reply
+-- The reply to `catalog` and to `list`: the listing; `Check` where the header, the directory or the map's pointer has a fault; a failure where a unit can't be read; or want of memory.
+abbrev pub IsListed : Style → PlaceForm → Meaning → DeviceState → Reply → Type 0
+IsListed style form format device reply =
+    IsListingReply style form format device reply
     ⊎ ((reply ≡ refused refusals.Check) × HasHeaderFault format device.store)
     ⊎ ((reply ≡ failed failures.Device) × LacksUnit device)
     ⊎ (reply ≡ failed failures.Memory)

@@ -6,7 +6,8 @@ use Rattle.vol_format.specs.Meaning.{Meaning}
 use Rattle.file_formats.specs.DosFiles.{dos_files}
 use Rattle.file_formats.specs.Files.{FileMeaning}
 use Rattle.file_formats.specs.ProFiles.{pro_files}
-use Rattle.shop_jobs.specs.Job.{LookView, Catalog, Check, Read, Plan, Verify}
+use Rattle.file_listings.specs.declared.style.Style.TheVariants as styles
+use Rattle.shop_jobs.specs.Job.{LookView, Catalog, Names, Check, Read, Plan, Verify}
 use Rattle.shop_jobs.specs.declared.job.FileSystem.{FileSystem}
 use Rattle.shop_jobs.specs.declared.job.FileSystem.TheVariants.{Dos, Prodos}
 use Rattle.shop_jobs.specs.declared.job.VolumeOptions.{VolumeOptions}
@@ -40,7 +41,8 @@ shown_by volume reserved = shown_in volume.file_system (meaning_of volume.file_s
 
 -- what is told of each look at the volume of a device, with these bytes of a file beside it: a certificate's, for `verify`
 abbrev pub IsLookReply : LookView → List ℕ → ShownMeaning → DeviceState → Reply → Type 0
-IsLookReply Catalog bytes format device reply = IsListed format.form format.units device reply
+IsLookReply Catalog bytes format device reply = IsListed styles.Catalog format.form format.units device reply
+IsLookReply Names bytes format device reply = IsListed styles.Names format.form format.units device reply
 IsLookReply Check bytes format device reply = IsChecked format.form format.units device reply
 IsLookReply (Read name whole) bytes format device reply = IsRead name whole format.files format.units device reply
 IsLookReply (Plan reclaim false) bytes format device reply = IsPlanned reclaim format.units device reply

@@ -27,7 +27,7 @@ mod steps;
 mod verify;
 
 pub use check::check_reply;
-pub use listing::{ShownFormat, catalog_reply};
+pub use listing::{ShownFormat, listing_reply};
 pub use looking::{look_at_volume, look_on_device, look_reply};
 pub use plan::{plan_reply, unopened_reply};
 pub use plan_words::plan_words_reply;

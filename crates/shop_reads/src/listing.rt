@@ -12,7 +12,7 @@ use a2_device::Device;
 use dos_format::{Dos33, DosVolume};
 use file_cmds::{CmdError, listing_of, read_volume};
 use file_formats::FileFormat;
-use file_listings::{ProLines, ProSteps, Step, dos_listing_text};
+use file_listings::{ProLines, ProSteps, Step, Style, dos_listing_text, dos_names_text};
 use pro_format::{ProVolume, Prodos};
 use reserved_places::PlaceForm;
 use shop_replies::{Failure, Refusal, Reply};
@@ -32,11 +32,20 @@ pub fn refusal_reply(error: CmdError) -> Reply
 }
 
 // The text of the listing of a DOS 3.3 volume that was read.
-fn dos_listing(alloc: Global, format: &Dos33, volume: &DosVolume) -> Result<String, AllocError>
-    ensures { IfOk result (λ text. string_bytes text ≡ dos_text (⟦<Dos33 as Format>⟧.directory format.now volume.now)) }
+fn dos_listing(
+    alloc: Global,
+    format: &Dos33,
+    volume: &DosVolume,
+    style: Style,
+) -> Result<String, AllocError>
+    ensures { IfOk result (λ text. string_bytes text
+        ≡ dos_text style (⟦<Dos33 as Format>⟧.directory format.now volume.now)) }
 {
     let listing = listing_of(alloc, format, volume)?;
-    dos_listing_text(alloc, &listing)
+    match style {
+        Style::Catalog => dos_listing_text(alloc, &listing),
+        Style::Names => dos_names_text(alloc, &listing),
+    }
 }
 
 /// A format whose volumes are told of: what its places are called, and how the listing of a volume and a plan are told.
@@ -54,8 +63,8 @@ pub trait ShownFormat: FileFormat {
         ensures { result ≡ form self.now };
 
     /// The listing of a volume that was read, or want of memory.
-    fn listing(&self, alloc: Global, volume: Self::Volume) -> Reply
-        ensures { TellsListing (form self.now) (Self.directory self.now volume) result };
+    fn listing(&self, alloc: Global, volume: Self::Volume, style: Style) -> Reply
+        ensures { TellsListing style (form self.now) (Self.directory self.now volume) result };
 
     /// The steps of a plan of a volume that was read, in words, or want of memory.
     fn plan(&self, alloc: Global, volume: Self::Volume, steps: Vec<Step>) -> Reply
@@ -73,8 +82,8 @@ impl ShownFormat for Dos33 {
         PlaceForm::Sector
     }
 
-    fn listing(&self, alloc: Global, volume: DosVolume) -> Reply {
-        match dos_listing(alloc, self, &volume) {
+    fn listing(&self, alloc: Global, volume: DosVolume, style: Style) -> Reply {
+        match dos_listing(alloc, self, &volume, style) {
             Ok(text) => Reply::done(text),
             Err(_) => Reply::failed(Failure::Memory),
         }
@@ -97,8 +106,8 @@ impl ShownFormat for Prodos {
         PlaceForm::Block
     }
 
-    fn listing(&self, alloc: Global, volume: ProVolume) -> Reply {
-        match ProLines::new(alloc, volume) {
+    fn listing(&self, alloc: Global, volume: ProVolume, style: Style) -> Reply {
+        match ProLines::new(alloc, style, volume) {
             Ok(lines) => Reply::listing(lines),
             Err(_) => Reply::failed(Failure::Memory),
         }
@@ -113,14 +122,19 @@ impl ShownFormat for Prodos {
 }
 
 /// The listing of the volume on a device.
-pub fn catalog_reply<D: Device, F: ShownFormat>(alloc: Global, device: &mut D, format: &F) -> Reply
+pub fn listing_reply<D: Device, F: ShownFormat>(
+    alloc: Global,
+    device: &mut D,
+    format: &F,
+    style: Style,
+) -> Reply
     requires fits { Fits (F.meaning format.now) (D.state device.old) }
     ensures reads { OnlyReads (tells_device result) (D.state device.old) (D.state device.new) }
     ensures told { IsTrue (D.state device.old).honest → FailsForLack (D.state device.old) result
-        → IsListed (F.form format.now) (F.meaning format.now) (D.state device.old) result }
+        → IsListed style (F.form format.now) (F.meaning format.now) (D.state device.old) result }
 {
     match read_volume(device, format) {
-        Ok(volume) => format.listing(alloc, volume),
+        Ok(volume) => format.listing(alloc, volume, style),
         Err(error) => refusal_reply(error),
     }
 }

@@ -12,7 +12,7 @@ ghost use Rattle.shop_reads.specs.TellingFailures.{FailsForLack, tells_device};
 ghost use Rattle.vol_format.specs.Fits.{Fits};
 
 use crate::check::check_reply;
-use crate::listing::{ShownFormat, catalog_reply};
+use crate::listing::{ShownFormat, listing_reply};
 use crate::plan::plan_reply;
 use crate::plan_words::plan_words_reply;
 use crate::reading::read_reply;
@@ -20,6 +20,7 @@ use crate::reserving::{reserve_reply, reserved_by};
 use crate::verify::verify_reply;
 use a2_device::Device;
 use dos_format::Dos33;
+use file_listings::Style;
 use pro_format::Prodos;
 use reserved_places::Reserved;
 use shop_jobs::{FileSystem, Look, VolumeOptions};
@@ -43,7 +44,8 @@ pub fn look_reply<D: Device, F: ShownFormat>(
         (D.state device.old) result }
 {
     match look {
-        Look::Catalog => catalog_reply(alloc, device, format),
+        Look::Catalog => listing_reply(alloc, device, format, Style::Catalog),
+        Look::Names => listing_reply(alloc, device, format, Style::Names),
         Look::Check => check_reply(alloc, device, format, format.form()),
         Look::Read { name, whole } => read_reply(alloc, device, format, name.as_bytes(), *whole),
         Look::Plan {

@@ -3,8 +3,7 @@ use Rattle.std.specs.Prelude.{◌≡◌, ◌⊎◌, ℕ, List, [], ◌++◌, Opt
 use Rattle.std.specs.Io.KnownBytes.{Appends, Keeps}
 use Rattle.a2_image.specs.declared.error.ImageError.{ImageError}
 use Rattle.a2_image.specs.declared.error.ImageError.TheVariants as images
-use Rattle.file_listings.specs.ProLines.{directory_in}
-use Rattle.file_listings.specs.ProText.{directory_text}
+use Rattle.file_listings.specs.ProLines.{listed_in, listed_text}
 use Rattle.file_listings.specs.ProSteps.{plan_in, plan_text}
 use Rattle.shop_replies.specs.declared.refusal.Refusal.{Refusal}
 use Rattle.shop_replies.specs.declared.refusal.Refusal.TheVariants as refusals
@@ -52,7 +51,7 @@ told_text tells.Ok = codes "OK\n"
 told_text (tells.Text text) = string_bytes text
 told_text (tells.Bytes bytes) = bytes.items
 told_text (tells.Report line certificate) = string_bytes line ++ certificate.items
-told_text (tells.Listing lines) = directory_text (directory_in lines)
+told_text (tells.Listing lines) = listed_text (listed_in lines)
 told_text (tells.Plan lines) = plan_text (plan_in lines)
 told_text (tells.Refusal refusal) = refusal_line refusal
 told_text (tells.Failure failure) = failure_line failure

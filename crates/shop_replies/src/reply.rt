@@ -1,5 +1,5 @@
 // What a job answers: a status, what is told, and an image or none.
-ghost use Rattle.std.specs.Prelude.{◌≡◌, ◌⊎◌, IsTrue, None, Some, option_map};
+ghost use Rattle.std.specs.Prelude.{◌≡◌, ◌⊎◌, IfOk, IsTrue, None, Some, option_map};
 ghost use Rattle.std.specs.Io.KnownBytes.{Appends};
 ghost use Rattle.shop_replies.specs.Reply.{
   AppendsFront,
@@ -21,6 +21,7 @@ use crate::plan_writing::write_plan;
 use crate::refusal::{Failure, Refusal};
 use crate::writing::{write_both, write_lines, write_whole, written};
 use file_listings::{ProLines, ProSteps};
+use std::alloc::{AllocError, Global};
 use std::io::Write;
 
 /// How a job ended.
@@ -102,6 +103,21 @@ impl Told {
             Told::Plan(lines) => write_plan(lines, text),
             Told::Refusal(refusal) => write_whole(refusal.line(), text),
             Told::Failure(failure) => write_whole(failure.line(), text),
+        }
+    }
+
+    /// The text of what is told, as a whole.
+    ///
+    /// # Errors
+    /// Want of memory.
+    pub fn text(mut self, alloc: Global) -> Result<Vec<u8>, AllocError>
+        ensures { IfOk result (λ text. text.items ≡ told_text self) }
+    {
+        let mut text = Vec::new(alloc);
+        if self.write(&mut text) {
+            Ok(text)
+        } else {
+            Err(AllocError)
         }
     }
 

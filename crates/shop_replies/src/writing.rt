@@ -2,8 +2,8 @@
 ghost use Rattle.std.specs.Prelude.{◌<◌, ◌≡◌, ◌++◌, IsTrue, flat_map};
 ghost use Rattle.std.specs.Io.KnownBytes.{Appends};
 ghost use Rattle.vol_format.specs.Directory.{entries, entry_of};
-ghost use Rattle.file_listings.specs.ProLines.{directory_in};
-ghost use Rattle.file_listings.specs.ProText.{directory_text, entry_line, first_line, last_line};
+ghost use Rattle.file_listings.specs.ProLines.{listed_in, listed_text};
+ghost use Rattle.file_listings.specs.ProText.{entry_line, first_line, last_line};
 ghost use Rattle.shop_replies.specs.Reply.{AppendsFront, IsWritten};
 
 use crate::reply::FAILED;
@@ -54,12 +54,12 @@ pub(crate) fn write_both<W: Write>(first: &[u8], other: &[u8], writer: &mut W) -
 
 // Writes the line of an entry of a listing, or as much of it as the writer takes, and answers whether it took all.
 fn write_entry<W: Write>(lines: &mut ProLines, entry: u32, writer: &mut W) -> bool
-    requires { entry < entries (directory_in lines.old) }
+    requires { entry < entries (listed_in lines.old).directory }
     ensures whole { IsTrue result → Appends (W.contents writer.old) (W.contents writer.new)
-        (entry_line (entry_of (directory_in lines.old) entry)) }
+        (entry_line (listed_in lines.old).style (entry_of (listed_in lines.old).directory entry)) }
     ensures front { AppendsFront (W.contents writer.old) (W.contents writer.new)
-        (entry_line (entry_of (directory_in lines.old) entry)) }
-    ensures lines { directory_in lines.new ≡ directory_in lines.old }
+        (entry_line (listed_in lines.old).style (entry_of (listed_in lines.old).directory entry)) }
+    ensures lines { listed_in lines.new ≡ listed_in lines.old }
 {
     lines.make_entry(entry).is_ok() && write_whole(lines.line(), writer)
 }
@@ -68,10 +68,10 @@ fn write_entry<W: Write>(lines: &mut ProLines, entry: u32, writer: &mut W) -> bo
 // all.
 fn write_entries<W: Write>(lines: &mut ProLines, writer: &mut W) -> bool
     ensures whole { IsTrue result → Appends (W.contents writer.old) (W.contents writer.new)
-        (flat_map entry_line (directory_in lines.old).listed) }
+        (flat_map (entry_line (listed_in lines.old).style) (listed_in lines.old).directory.listed) }
     ensures front { AppendsFront (W.contents writer.old) (W.contents writer.new)
-        (flat_map entry_line (directory_in lines.old).listed) }
-    ensures lines { directory_in lines.new ≡ directory_in lines.old }
+        (flat_map (entry_line (listed_in lines.old).style) (listed_in lines.old).directory.listed) }
+    ensures lines { listed_in lines.new ≡ listed_in lines.old }
 {
     for entry in 0..lines.entries() {
         if !write_entry(lines, entry, writer) {
@@ -83,19 +83,21 @@ fn write_entries<W: Write>(lines: &mut ProLines, writer: &mut W) -> bool
 
 // Writes the first line of a listing, or as much of it as the writer takes, and answers whether it took all.
 fn write_first<W: Write>(lines: &mut ProLines, writer: &mut W) -> bool
-    ensures whole { IsTrue result
-        → Appends (W.contents writer.old) (W.contents writer.new) (first_line (directory_in lines.old)) }
-    ensures front { AppendsFront (W.contents writer.old) (W.contents writer.new) (first_line (directory_in lines.old)) }
-    ensures lines { directory_in lines.new ≡ directory_in lines.old }
+    ensures whole { IsTrue result → Appends (W.contents writer.old) (W.contents writer.new)
+        (first_line (listed_in lines.old).style (listed_in lines.old).directory) }
+    ensures front { AppendsFront (W.contents writer.old) (W.contents writer.new)
+        (first_line (listed_in lines.old).style (listed_in lines.old).directory) }
+    ensures lines { listed_in lines.new ≡ listed_in lines.old }
 {
     lines.make_first().is_ok() && write_whole(lines.line(), writer)
 }
 
 // Writes the last line of a listing, or as much of it as the writer takes, and answers whether it took all.
 fn write_last<W: Write>(lines: &mut ProLines, writer: &mut W) -> bool
-    ensures whole { IsTrue result
-        → Appends (W.contents writer.old) (W.contents writer.new) (last_line (directory_in lines.old)) }
-    ensures front { AppendsFront (W.contents writer.old) (W.contents writer.new) (last_line (directory_in lines.old)) }
+    ensures whole { IsTrue result → Appends (W.contents writer.old) (W.contents writer.new)
+        (last_line (listed_in lines.old).style (listed_in lines.old).directory) }
+    ensures front { AppendsFront (W.contents writer.old) (W.contents writer.new)
+        (last_line (listed_in lines.old).style (listed_in lines.old).directory) }
 {
     lines.make_last().is_ok() && write_whole(lines.line(), writer)
 }
@@ -104,9 +106,9 @@ fn write_last<W: Write>(lines: &mut ProLines, writer: &mut W) -> bool
 // it took all.
 pub(crate) fn write_lines<W: Write>(lines: &mut ProLines, writer: &mut W) -> bool
     ensures whole { IsTrue result
-        → Appends (W.contents writer.old) (W.contents writer.new) (directory_text (directory_in lines.old)) }
+        → Appends (W.contents writer.old) (W.contents writer.new) (listed_text (listed_in lines.old)) }
     ensures front { AppendsFront (W.contents writer.old) (W.contents writer.new)
-        (directory_text (directory_in lines.old)) }
+        (listed_text (listed_in lines.old)) }
 {
     if !write_first(lines, writer) {
         return false;

@@ -12,6 +12,7 @@ pub mod PlainUsed
 pub mod PlainJobs
 pub mod PlainTarget
 pub mod CatalogLine
+pub mod ListLine
 pub mod CheckLine
 pub mod ReadLine
 pub mod ConvertLine
@@ -26,3 +27,4 @@ pub mod VerifyLine
 pub mod IdentifyLine
 pub mod Walk
 pub mod Left
+pub mod LeftOutLemmas

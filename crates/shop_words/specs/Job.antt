@@ -31,7 +31,7 @@ use Rattle.shop_words.specs.Plain.{Use, alone, valued, use_name, positional_name
 use Rattle.shop_jobs.specs.declared.job.FileSystem.{FileSystem}
 use Rattle.shop_jobs.specs.declared.job.FileSystem.TheVariants as file_systems
 use Rattle.shop_jobs.specs.declared.job.VolumeOptions.{VolumeOptions}
-use Rattle.shop_jobs.specs.Job.{AskView, AttributesView, Catalog, ChangeOf, ChangeView, Check, Convert, Delete, EditOf, EditView, Identify, InPlace, JobView, Lock, LookAt, LookView, Optimize, Plan, Read, Rename, Save, TargetView, ToFile, Unlock, Verify}
+use Rattle.shop_jobs.specs.Job.{AskView, AttributesView, Catalog, ChangeOf, ChangeView, Check, Convert, Delete, EditOf, EditView, Identify, InPlace, JobView, Lock, LookAt, LookView, Names, Optimize, Plan, Read, Rename, Save, TargetView, ToFile, Unlock, Verify}
 
 -- ---- what a word names
 
@@ -164,6 +164,7 @@ convert_by said = conversion_of (option_and_then order_named (said (codes "order
 abbrev pub ask_by : Text → Said → Option AskView
 ask_by command said =
     if bytes_eq command (codes "catalog") then look_by (Some Catalog) None said else
+    if bytes_eq command (codes "list") then look_by (Some Names) None said else
     if bytes_eq command (codes "check") then look_by (Some Check) (said (codes "reserve")) said else
     if bytes_eq command (codes "read") then look_by (read_by said) None said else
     if bytes_eq command (codes "convert") then convert_by said else

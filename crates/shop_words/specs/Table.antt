@@ -77,6 +77,12 @@ catalog_form = record {
   parameters = image ∷ file_system ∷ order ∷ data_disk ∷ [];
 }
 
+abbrev pub list_form : FormView
+list_form = record {
+  name = codes "list";
+  parameters = image ∷ file_system ∷ order ∷ data_disk ∷ [];
+}
+
 -- `--reserve LIST`
 abbrev pub reserve : ParameterView
 reserve = parameter (codes "reserve") (optional any)
@@ -207,4 +213,4 @@ identify_form = record {
 
 -- the forms of all commands
 abbrev pub forms : List FormView
-forms = catalog_form ∷ check_form ∷ read_form ∷ convert_form ∷ plan_form ∷ optimize_form ∷ lock_form ∷ unlock_form ∷ delete_form ∷ rename_form ∷ save_form ∷ verify_form ∷ identify_form ∷ []
+forms = catalog_form ∷ list_form ∷ check_form ∷ read_form ∷ convert_form ∷ plan_form ∷ optimize_form ∷ lock_form ∷ unlock_form ∷ delete_form ∷ rename_form ∷ save_form ∷ verify_form ∷ identify_form ∷ []

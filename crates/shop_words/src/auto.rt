@@ -22,7 +22,7 @@ pub enum AutoOption {
 }
 
 impl AutoOption {
-    fn word(self) -> &'static str
+    pub(crate) fn word(self) -> &'static str
         ensures { result.now ≡ option_word self }
     {
         match self {

@@ -2,8 +2,8 @@
 ghost use Rattle.std.specs.Prelude.{◌≡◌, codes, IfOk, option_map};
 ghost use Rattle.clap.specs.Matches.{found_of};
 ghost use Rattle.clap.specs.Walk.{rows_of};
-ghost use Rattle.shop_jobs.specs.Job.{ask_view, edit_view};
-ghost use Rattle.shop_words.specs.Job.{ask_by, change_by, edit_by, limit_named, rows_say};
+ghost use Rattle.shop_jobs.specs.Job.{ask_view, change_view, edit_view};
+ghost use Rattle.shop_words.specs.Job.{ask_by, change_by, edit_by, limit_named, optimize_by, rows_say};
 
 use crate::reading::{has_flag, number_named, said, target_in, text_said, volume_in};
 use clap::ArgMatches;
@@ -20,12 +20,16 @@ fn limit_named(word: Option<&str>) -> Option<Option<u64>>
     }
 }
 
-pub fn optimize_in(alloc: Global, matches: &ArgMatches<'_>) -> Result<Option<Ask>, AllocError>
+/// What is asked by a command that changes the volume so; `None` where the words lack a part of it.
+pub fn change_in(
+    alloc: Global,
+    matches: &ArgMatches<'_>,
+    change: Option<Change>,
+) -> Result<Option<Ask>, AllocError>
     ensures { IfOk result (λ ask. option_map ask_view ask
-        ≡ ask_by (codes "optimize") (rows_say (rows_of (found_of matches.now)))) }
+        ≡ change_by (option_map change_view change) (rows_say (rows_of (found_of matches.now)))) }
 {
-    let limit = limit_named(said(matches, "stop-after"));
-    let (Some(stop_after), Some(volume)) = (limit, volume_in(matches)) else {
+    let (Some(change), Some(volume)) = (change, volume_in(matches)) else {
         return Ok(None);
     };
     let Some(target) = target_in(alloc, matches)? else {
@@ -34,13 +38,31 @@ pub fn optimize_in(alloc: Global, matches: &ArgMatches<'_>) -> Result<Option<Ask
     Ok(Some(Ask::Change {
         volume,
         reserve: text_said(alloc, matches, "reserve")?,
-        change: Change::Optimize {
-            reclaim: has_flag(matches, "reclaim"),
-            stop_after,
-            cert: text_said(alloc, matches, "cert")?,
-        },
+        change,
         target,
     }))
+}
+
+// The change that is made by `optimize`.
+fn optimization_in(alloc: Global, matches: &ArgMatches<'_>) -> Result<Option<Change>, AllocError>
+    ensures { IfOk result (λ change. option_map change_view change
+        ≡ optimize_by (rows_say (rows_of (found_of matches.now)))) }
+{
+    let Some(stop_after) = limit_named(said(matches, "stop-after")) else {
+        return Ok(None);
+    };
+    Ok(Some(Change::Optimize {
+        reclaim: has_flag(matches, "reclaim"),
+        stop_after,
+        cert: text_said(alloc, matches, "cert")?,
+    }))
+}
+
+pub fn optimize_in(alloc: Global, matches: &ArgMatches<'_>) -> Result<Option<Ask>, AllocError>
+    ensures { IfOk result (λ ask. option_map ask_view ask
+        ≡ ask_by (codes "optimize") (rows_say (rows_of (found_of matches.now)))) }
+{
+    change_in(alloc, matches, optimization_in(alloc, matches)?)
 }
 
 /// What is asked by a command that changes a file so.
@@ -52,21 +74,10 @@ pub fn edit_in(
     ensures { IfOk result (λ ask. option_map ask_view ask
         ≡ (let said = rows_say (rows_of (found_of matches.now)) in change_by (edit_by (edit_view edit) said) said)) }
 {
-    let (Some(name), Some(volume)) = (said(matches, "name"), volume_in(matches)) else {
-        return Ok(None);
-    };
-    let Some(target) = target_in(alloc, matches)? else {
-        return Ok(None);
-    };
-    Ok(Some(Ask::Change {
-        volume,
-        reserve: text_said(alloc, matches, "reserve")?,
-        change: Change::Edit {
-            name: name.to_string(alloc)?,
-            edit,
-        },
-        target,
-    }))
+    match text_said(alloc, matches, "name")? {
+        Some(name) => change_in(alloc, matches, Some(Change::Edit { name, edit })),
+        None => Ok(None),
+    }
 }
 
 pub fn rename_in(alloc: Global, matches: &ArgMatches<'_>) -> Result<Option<Ask>, AllocError>

@@ -68,6 +68,7 @@ impl Help {
 pub fn of(command: &str) -> &'static str {
     match command {
         "catalog" => "List the files of a volume",
+        "list" => "Tell the paths of the files of a volume, a line each",
         "check" => "Tell whether a volume is sound, or what is wrong with it",
         "read" => "Write the bytes of a file of a volume to standard output",
         "convert" =>

@@ -12,10 +12,13 @@
 //! Unicode, such as one that turns the direction of writing, as `\u` and six, so that a terminal shows it and does not
 //! obey it.
 //!
-//! Some words are for the program itself and not for a command: `--explain`, `--version` with `-V`, and `auto` as the
-//! value of `--fs` and `--order` (`specs/Front.antt`, `specs/Auto.antt`). Nothing of commands is known there, so the
-//! rules are as plain as they can be: `--explain` is that word, wherever it stands; the version is asked for by a list
-//! of one word; `auto` is that word right behind `--fs` or `--order`, or in one word with it, as `--fs=auto`.
+//! Some words are for the program itself and not for a command: `--explain`, `--version` with `-V`, `--auto`, and
+//! `auto` as the value of `--fs` and `--order` (`specs/Front.antt`, `specs/LeftOut.antt`, `specs/Auto.antt`). Of
+//! commands no more is known there than which of them have these two options, so the rules are as plain as they can
+//! be: `--explain` and `--auto` are that word, wherever it stands; the version is asked for by a list of one word;
+//! `auto` is that word right behind `--fs` or `--order`, or in one word with it, as `--fs=auto`. For `--auto`, and of
+//! `list` always, the words get `--fs auto` and `--order auto` behind their last option, each where the command has it
+//! and they do not give it.
 //!
 //! What always holds: a job that is answered is the function `asked_job` of the words, whatever they are; a plain list
 //! is never refused; help is answered only to words that may ask for it, and a refusal only to words in which something
@@ -31,6 +34,7 @@ mod explain;
 mod fault;
 mod grammar;
 mod help;
+mod left_out;
 mod looking;
 mod notes;
 mod reading;
@@ -44,5 +48,6 @@ pub use auto::{AutoOption, asks_auto, in_place};
 pub use escaping::{all_escaped, escaped};
 pub use explain::{asks_explain, without_explain};
 pub use fault::WordsFault;
+pub use left_out::filled_in;
 pub use version::asks_version;
 pub use words::parse_words;

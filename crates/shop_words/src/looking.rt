@@ -1,5 +1,5 @@
 //! What is asked by the commands that only read a volume.
-ghost use Rattle.std.specs.Prelude.{◌≡◌, codes, IfOk, option_map, Some};
+ghost use Rattle.std.specs.Prelude.{◌≡◌, codes, IfOk, None, option_map, Some};
 ghost use Rattle.clap.specs.Matches.{found_of};
 ghost use Rattle.clap.specs.Walk.{rows_of};
 ghost use Rattle.shop_jobs.specs.Job.{ask_view, look_view};
@@ -10,14 +10,15 @@ use clap::ArgMatches;
 use shop_jobs::{Ask, Look};
 use std::alloc::{AllocError, Global};
 
-pub fn catalog_in(matches: &ArgMatches<'_>) -> Option<Ask>
+/// What is asked by a command that looks for this, and reserves no places.
+pub fn listing_in(matches: &ArgMatches<'_>, look: Look) -> Option<Ask>
     ensures { option_map ask_view result
-        ≡ ask_by (codes "catalog") (rows_say (rows_of (found_of matches.now))) }
+        ≡ look_by (Some (look_view look)) None (rows_say (rows_of (found_of matches.now))) }
 {
     Some(Ask::Look {
         volume: volume_in(matches)?,
         reserve: None,
-        look: Look::Catalog,
+        look,
     })
 }
 

@@ -3,8 +3,9 @@
 pub const PROGRAM: &str = "\
 Without words it lists the DOS 3.3 volume of an image in DOS order on standard input.
 --explain may stand with any command: a refusal or a failure then tells what to do about it.
---fs auto and --order auto take what identify names: REFUSED Ambiguous or Unknown where it names none.
-A wrong --order is done as said, and a change then destroys files: take auto, or ask identify first.
+--auto may stand with any command: the --fs and the --order that are left out are auto, which takes what identify
+names, and is refused as REFUSED Ambiguous or Unknown where it names none.
+A wrong --order is done as said, and a change then destroys files: take --auto, or ask identify first.
 --version tells the version. What a command takes, and what it may refuse: a2shop COMMAND --help
 
 Status:
@@ -16,7 +17,7 @@ Status:
 
 const CATALOG: &str = "\
 Example:
-  a2shop catalog disk.dsk --fs auto --order auto
+  a2shop catalog disk.dsk --auto
 
 Status:
   0  the files are listed
@@ -24,9 +25,21 @@ Status:
      REFUSED Check   the header, the directory or the map's pointer has a fault
   4  FAILED Input, Device or Memory: the file, a sector of the image or memory failed";
 
+const LIST: &str = "\
+Example:
+  a2shop list disk.dsk
+
+--fs and --order are auto where they are left out. A directory has a slash behind its path.
+
+Status:
+  0  the paths are listed
+  3  REFUSED Length  the image has another length than one in its order
+     REFUSED Check   the header, the directory or the map's pointer has a fault
+  4  FAILED Input, Device or Memory: the file, a sector of the image or memory failed";
+
 const CHECK: &str = "\
 Example:
-  a2shop check disk.dsk --fs auto --order auto
+  a2shop check disk.dsk --auto
 
 Status:
   0  the volume is accepted
@@ -37,7 +50,7 @@ Status:
 
 const READ: &str = "\
 Example:
-  a2shop read disk.dsk HELLO --fs auto --order auto
+  a2shop read disk.dsk HELLO --auto
 
 Status:
   0  the bytes of the file are written
@@ -48,7 +61,7 @@ Status:
 
 const CONVERT: &str = "\
 Example:
-  a2shop convert disk.dsk --order auto --to nibble --out disk.nib
+  a2shop convert disk.dsk --auto --to nibble --out disk.nib
 
 Tracks are made for nibble order alone, of volume 254 where --volume is not given.
 
@@ -60,8 +73,8 @@ Status:
 
 const PLAN: &str = "\
 Examples:
-  a2shop plan disk.dsk --fs auto --order auto
-  a2shop plan disk.dsk --fs auto --order auto --words
+  a2shop plan disk.dsk --auto
+  a2shop plan disk.dsk --auto --words
 
 In words each move has a line: the file, its part, and the places from and to which it moves.
 
@@ -76,8 +89,8 @@ Status:
 
 const OPTIMIZE: &str = "\
 Examples:
-  a2shop optimize disk.dsk --fs auto --order auto --out ordered.dsk
-  a2shop optimize disk.dsk --fs auto --order auto --in-place
+  a2shop optimize disk.dsk --auto --out ordered.dsk
+  a2shop optimize disk.dsk --auto --in-place
 
 With --in-place the image's own file is changed, unit by unit, and no new image is written.
 
@@ -93,8 +106,8 @@ Status:
 
 const LOCK: &str = "\
 Examples:
-  a2shop lock disk.dsk HELLO --fs auto --order auto --out locked.dsk
-  a2shop lock disk.dsk HELLO --fs auto --order auto --in-place
+  a2shop lock disk.dsk HELLO --auto --out locked.dsk
+  a2shop lock disk.dsk HELLO --auto --in-place
 
 With --in-place the image's own file is changed, unit by unit, and no new image is written.
 
@@ -109,8 +122,8 @@ Status:
 
 const UNLOCK: &str = "\
 Examples:
-  a2shop unlock disk.dsk HELLO --fs auto --order auto --out unlocked.dsk
-  a2shop unlock disk.dsk HELLO --fs auto --order auto --in-place
+  a2shop unlock disk.dsk HELLO --auto --out unlocked.dsk
+  a2shop unlock disk.dsk HELLO --auto --in-place
 
 With --in-place the image's own file is changed, unit by unit, and no new image is written.
 
@@ -125,8 +138,8 @@ Status:
 
 const DELETE: &str = "\
 Examples:
-  a2shop delete disk.dsk HELLO --fs auto --order auto --out without.dsk
-  a2shop delete disk.dsk HELLO --fs auto --order auto --in-place
+  a2shop delete disk.dsk HELLO --auto --out without.dsk
+  a2shop delete disk.dsk HELLO --auto --in-place
 
 With --in-place the image's own file is changed, unit by unit, and no new image is written.
 
@@ -142,8 +155,8 @@ Status:
 
 const RENAME: &str = "\
 Examples:
-  a2shop rename disk.dsk HELLO GREETING --fs auto --order auto --out renamed.dsk
-  a2shop rename disk.dsk HELLO GREETING --fs auto --order auto --in-place
+  a2shop rename disk.dsk HELLO GREETING --auto --out renamed.dsk
+  a2shop rename disk.dsk HELLO GREETING --auto --in-place
 
 A file stays in its directory: the new name of a ProDOS file is the last of its path.
 With --in-place the image's own file is changed, unit by unit, and no new image is written.
@@ -162,9 +175,9 @@ Status:
 
 const SAVE: &str = "\
 Examples:
-  a2shop save disk.dsk PICTURE --fs auto --order auto --from picture.bin --out saved.dsk --type B --aux 768
-  a2shop save disk.dsk NOTE --fs auto --order auto --from note.txt --in-place
-  a2shop save disk.po NOTE --fs auto --order auto --from note.txt --out saved.po --type 04 --date 1986-05-01T12:30:00
+  a2shop save disk.dsk PICTURE --auto --from picture.bin --out saved.dsk --type B --aux 768
+  a2shop save disk.dsk NOTE --auto --from note.txt --in-place
+  a2shop save disk.po NOTE --auto --from note.txt --out saved.po --type 04 --date 1986-05-01T12:30:00
 
 DOS 3.3 files of the types A, I and B get their head before the bytes: the address for B, and the length.
 With --in-place the image's own file is changed, unit by unit, and no new image is written.
@@ -188,7 +201,7 @@ Status:
 
 const VERIFY: &str = "\
 Example:
-  a2shop verify disk.dsk --fs auto --order auto --from disk.cert
+  a2shop verify disk.dsk --auto --from disk.cert
 
 Status:
   0  OPTIMAL N: no plan has fewer than N moves
@@ -215,6 +228,7 @@ Status:
 pub fn of(command: &str) -> &'static str {
     match command {
         "catalog" => CATALOG,
+        "list" => LIST,
         "check" => CHECK,
         "read" => READ,
         "convert" => CONVERT,

@@ -195,6 +195,10 @@ const FORMS: &[Form] = &[
         parameters: &[IMAGE, FILE_SYSTEM, ORDER, DATA_DISK],
     },
     Form {
+        name: "list",
+        parameters: &[IMAGE, FILE_SYSTEM, ORDER, DATA_DISK],
+    },
+    Form {
         name: "check",
         parameters: &[IMAGE, FILE_SYSTEM, ORDER, DATA_DISK, RESERVE],
     },

@@ -1,5 +1,7 @@
 // Lists of words, and what is left of them.
-use shop_words::{AutoOption, asks_auto, asks_explain, asks_version, in_place, without_explain};
+use shop_words::{
+    AutoOption, asks_auto, asks_explain, asks_version, filled_in, in_place, without_explain,
+};
 use std::alloc::{AllocError, Global};
 use std::test::Fail;
 
@@ -48,6 +50,47 @@ fn auto_may_be_one_word_with_its_option(rt: HostRuntime) -> Result<(), Fail> {
         line_of(rt.alloc(), put.as_slice())?.as_str()
             == "check --fs=prodos --order=dos auto --out auto "
     );
+    Ok(())
+}
+
+// What `--auto` makes of the words of a line, as a line.
+fn filled_in_line(alloc: Global, line: &str) -> Result<String, AllocError> {
+    let filled = filled_in(alloc, words_of(alloc, line)?)?;
+    line_of(alloc, filled.as_slice())
+}
+
+#[test]
+fn what_is_left_out_is_auto(rt: HostRuntime) -> Result<(), Fail> {
+    for (line, wanted) in [
+        ("catalog a --auto", "catalog a --fs auto --order auto "),
+        (
+            "--auto check --auto a --fs dos",
+            "check a --fs dos --order auto ",
+        ),
+        (
+            "check a --order=dos --auto",
+            "check a --order=dos --fs auto ",
+        ),
+        (
+            "convert a --to dos --auto",
+            "convert a --to dos --order auto ",
+        ),
+        ("read --auto -- a b", "read --fs auto --order auto -- a b "),
+        ("identify a --auto", "identify a "),
+        ("list a", "list a --fs auto --order auto "),
+        ("list a --order dos --auto", "list a --order dos --fs auto "),
+        ("--auto list a --fs=dos", "list a --fs=dos --order auto "),
+        ("catalog list", "catalog list "),
+        ("frobnicate a --auto", "frobnicate a "),
+        ("--auto", "--auto "),
+        ("--auto --auto", "--auto --auto "),
+        ("catalog a --automatic", "catalog a --automatic "),
+    ] {
+        assert!(rt;
+            filled_in_line(rt.alloc(), line)?.as_str() == wanted,
+            "for {line}"
+        );
+    }
     Ok(())
 }
 

@@ -119,6 +119,29 @@ fn an_image_may_be_in_each_order(rt: HostRuntime) -> Result<(), Fail> {
     Ok(())
 }
 
+#[test]
+fn a_list_names_an_image(rt: HostRuntime) -> Result<(), Fail> {
+    let names = Ask::Look {
+        volume: VolumeOptions {
+            file_system: FileSystem::Prodos,
+            order: Order::Dos,
+            data_disk: false,
+        },
+        reserve: None,
+        look: Look::Names,
+    };
+    let line = "list a.dsk --order dos --fs prodos";
+    asks(&rt, rt.alloc(), line, "a.dsk", names)?;
+    refuses(
+        &rt,
+        rt.alloc(),
+        "list a.dsk --order dos",
+        "--fs",
+        "a2shop list",
+    );
+    Ok(())
+}
+
 /// The words of a line are those of a check of the DOS volume in a.dsk, in ProDOS order, with this text of the places
 /// to reserve.
 fn checks(

@@ -5,7 +5,7 @@ ghost use Rattle.a2_device.specs.Device.{DeviceState};
 use a2_device::{Device, FaultDevice};
 use dos_format::Dos33;
 use file_cmds::{CmdError, catalog};
-use file_listings::dos_listing_text;
+use file_listings::{dos_listing_text, dos_names_text};
 use refusing::Refusing;
 use reserved_places::Reserved;
 use std::alloc::{AllocError, Allocator, Global};
@@ -35,6 +35,30 @@ fn listing_of<A: Allocator + Copy>(alloc: A, image: Vec<u8>) -> Result<Vec<u8, A
     requires { vec_len image ≡ 143360 }
 {
     listing_on(alloc, &mut dos_device(image))
+}
+
+/// The names of the files of a volume, a line each.
+fn names_on<D: Device>(alloc: Global, device: &mut D) -> Result<Vec<u8>, CmdError>
+    requires unit { (D.state device.old).unit_size ≡ 256 }
+    requires places { (D.state device.old).places ≡ 560 }
+{
+    let format = dos_33(alloc)?;
+    let listing = catalog(alloc, device, &format)?;
+    Ok(dos_names_text(alloc, &listing)?.into_bytes())
+}
+
+/// The same of a volume in DOS order.
+fn names_of(alloc: Global, image: Vec<u8>) -> Result<Vec<u8>, CmdError>
+    requires { vec_len image ≡ 143360 }
+{
+    names_on(alloc, &mut dos_device(image))
+}
+
+#[test]
+fn names_one_file(rt: HostRuntime) -> Result<(), Fail> {
+    let text = names_of(rt.alloc(), hello(rt.alloc())?)?;
+    assert!(rt; text.as_slice() == b"HELLO\n".as_slice());
+    Ok(())
 }
 
 #[test]

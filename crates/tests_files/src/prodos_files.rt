@@ -5,7 +5,7 @@ ghost use Rattle.a2_device.specs.Device.{DeviceState};
 use crate::runs::are_runs;
 use a2_device::Device;
 use file_cmds::{CmdError, read, read_volume};
-use file_listings::ProLines;
+use file_listings::{ProLines, Style};
 use pro_format::Prodos;
 use refusing::Refusing;
 use reserved_places::Reserved;
@@ -42,21 +42,37 @@ fn text_of_lines<A: Allocator + Copy>(
 fn listing_on<A: Allocator + Copy, D: Device>(
     alloc: A,
     device: &mut D,
+    style: Style,
 ) -> Result<Vec<u8, A>, CmdError>
     requires unit { (D.state device.old).unit_size ≡ 512 }
     requires places { (16 ≤ (D.state device.old).places) × ((D.state device.old).places < 65536) }
 {
     let format = Prodos::new(alloc, Reserved::none(alloc));
     let volume = read_volume(device, &format)?;
-    Ok(text_of_lines(alloc, ProLines::new(alloc, volume)?)?)
+    Ok(text_of_lines(alloc, ProLines::new(alloc, style, volume)?)?)
 }
 
 /// The text of the listing of a volume in ProDOS order.
 fn listing_of<A: Allocator + Copy>(alloc: A, image: Vec<u8>) -> Result<Vec<u8, A>, CmdError> {
     match block_device(image) {
-        Some(mut device) => listing_on(alloc, &mut device),
+        Some(mut device) => listing_on(alloc, &mut device, Style::Catalog),
         None => Err(CmdError::NotFound),
     }
+}
+
+/// The paths of the entries of a volume in ProDOS order, a line each.
+fn names_of(alloc: Global, image: Vec<u8>) -> Result<Vec<u8>, CmdError> {
+    match block_device(image) {
+        Some(mut device) => listing_on(alloc, &mut device, Style::Names),
+        None => Err(CmdError::NotFound),
+    }
+}
+
+#[test]
+fn names_files_and_directories(rt: HostRuntime) -> Result<(), Fail> {
+    let text = names_of(rt.alloc(), tree_and_subdirectory(rt.alloc())?)?;
+    assert!(rt; text.as_slice() == b"BIG\nSUB/\nSUB/A\n".as_slice());
+    Ok(())
 }
 
 /// The bytes that a read of a file of a volume gives.
@@ -185,7 +201,7 @@ fn asked_for_lines<D: Device>(heap: &Refusing<Global>, device: &mut D) -> Result
 {
     let format = Prodos::new(heap, Reserved::none(heap));
     let volume = read_volume(device, &format)?;
-    let mut lines = ProLines::new(heap, volume)?;
+    let mut lines = ProLines::new(heap, Style::Catalog, volume)?;
     let before = heap.asked();
     lines.make_first()?;
     for entry in 0..lines.entries() {

@@ -1,6 +1,5 @@
 use a2_device::{
     BLOCK_BYTES, DISK_BLOCKS, Device, DeviceError, FaultDevice, IMAGE_BYTES, NIBBLE_BYTES, Order,
-    StopDevice,
 };
 use a2_image::{Image, SECTOR_BYTES};
 use a2_media::{ImageDevice, LentDevice};
@@ -26,7 +25,7 @@ const DONE: Option<Result<(), DeviceError>> = Some(Ok(()));
 
 /// A call for the sector at a place, each byte of which is the one given, and whether the device fails at it.
 #[derive(Clone, Copy)]
-enum Call {
+pub enum Call {
     Reads(u32, u8),
     Writes(u32, u8),
     FailsToRead(u32),
@@ -34,7 +33,7 @@ enum Call {
 }
 
 /// The byte with which the sector at a DOS place is filled.
-fn byte_of(place: u32) -> u8 {
+pub fn byte_of(place: u32) -> u8 {
     (place % 251) as u8
 }
 
@@ -50,7 +49,7 @@ fn numbered(rt: &HostRuntime, order: Order) -> Result<Image, Fail> {
 
 /// The tracks of that disk. On track 17 the data field of physical sector 2 is bad: DOS place 286, and the second half
 /// of block 136.
-fn damaged(rt: &HostRuntime) -> Result<Vec<u8>, Fail> {
+pub fn damaged(rt: &HostRuntime) -> Result<Vec<u8>, Fail> {
     let mut bytes = numbered(rt, Order::Nibble)?.into_bytes();
     if bytes.len() == NIBBLE_BYTES {
         bytes[17 * 6656 + 71 + 2 * 396] = 0xAA;
@@ -70,14 +69,14 @@ fn block_of(front: u8, rear: u8) -> [u8; BLOCK_BYTES] {
     block
 }
 
-fn opened(bytes: Vec<u8>, order: Order) -> Result<Image, Fail> {
+pub fn opened(bytes: Vec<u8>, order: Order) -> Result<Image, Fail> {
     match Image::open(bytes, order) {
         Ok(image) => Ok(image),
         Err((error, _)) => Err(error.into()),
     }
 }
 
-fn dos_device(image: Image) -> Result<ImageDevice, Fail> {
+pub fn dos_device(image: Image) -> Result<ImageDevice, Fail> {
     if image.blocks() == DISK_BLOCKS {
         return Ok(ImageDevice::dos(image));
     }
@@ -93,7 +92,7 @@ fn lent_disk(image: &Image) -> Result<LentDevice<'_>, Fail> {
 }
 
 /// The sectors of the disk in this order.
-fn disk(rt: &HostRuntime, order: Order) -> Result<ImageDevice, Fail> {
+pub fn disk(rt: &HostRuntime, order: Order) -> Result<ImageDevice, Fail> {
     dos_device(numbered(rt, order)?)
 }
 
@@ -101,12 +100,12 @@ fn size<D: Device>(device: &D) -> (u32, usize) {
     (device.places(), device.unit())
 }
 
-fn counts<D: Device>(device: &D) -> (u64, u64) {
+pub fn counts<D: Device>(device: &D) -> (u64, u64) {
     (device.writes(), device.faults())
 }
 
 /// A device that fails at its next write; `took` says whether the new sector stands.
-fn failing_at_a_write<D: Device>(device: D, took: bool) -> FaultDevice<D> {
+pub fn failing_at_a_write<D: Device>(device: D, took: bool) -> FaultDevice<D> {
     let mut device = FaultDevice::new(device);
     device.fail_write(took);
     device
@@ -129,7 +128,7 @@ fn write<D: Device>(device: &mut D, place: u32, unit: &[u8]) -> Option<Result<()
 }
 
 /// Whether a device answers a call so.
-fn answers<D: Device>(device: &mut D, call: Call) -> bool {
+pub fn answers<D: Device>(device: &mut D, call: Call) -> bool {
     match call {
         Call::Reads(place, byte) => {
             let mut unit = [!byte; SECTOR_BYTES];
@@ -142,7 +141,7 @@ fn answers<D: Device>(device: &mut D, call: Call) -> bool {
 }
 
 /// The number of the first call that a device answers otherwise.
-fn wrong_call<D: Device>(device: &mut D, calls: &[Call]) -> Option<usize> {
+pub fn wrong_call<D: Device>(device: &mut D, calls: &[Call]) -> Option<usize> {
     for (number, call) in calls.iter().enumerate() {
         if !answers(device, *call) {
             return Some(number);
@@ -333,104 +332,6 @@ fn a_block_with_one_sector_missing_is_a_fault(rt: HostRuntime) -> Result<(), Fai
     let image = device.into_image();
     assert!(rt; has_sector(&image, 17, 0, byte_of(272)));
     assert!(rt; is_damaged(&rt, image)?);
-    Ok(())
-}
-
-/// Whether of three writes so many are taken and stand, and the others fail and leave the old sector.
-fn takes_of_three<D: Device>(device: &mut D, passes: u32) -> bool {
-    for place in 0..3 {
-        let call = if place < passes {
-            Call::Writes(place, 0xFF)
-        } else {
-            Call::FailsToWrite(place, 0xFF)
-        };
-        if !answers(device, call) {
-            return false;
-        }
-    }
-    for place in 0..3 {
-        let byte = if place < passes { 0xFF } else { byte_of(place) };
-        if !answers(device, Call::Reads(place, byte)) {
-            return false;
-        }
-    }
-    true
-}
-
-#[test]
-fn stops_after_so_many_writes(rt: HostRuntime) -> Result<(), Fail> {
-    for passes in 0..3u32 {
-        let mut device = StopDevice::new(disk(&rt, Order::Dos)?, u64::from(passes));
-        assert!(rt; takes_of_three(&mut device, passes), "after {passes}");
-        assert!(rt; counts(&device) == (3, u64::from(3 - passes)));
-        assert!(rt; counts(&device.into_inner()) == (u64::from(passes), 0));
-    }
-    Ok(())
-}
-
-#[test]
-fn a_write_that_fails_below_is_passed_on(rt: HostRuntime) -> Result<(), Fail> {
-    let inner = failing_at_a_write(disk(&rt, Order::Dos)?, true);
-    let mut device = StopDevice::new(inner, 1);
-    let calls = [Call::FailsToWrite(0, 0xFF), Call::FailsToWrite(1, 0xFF)];
-    assert!(rt; wrong_call(&mut device, &calls).is_none());
-    assert!(rt; counts(&device) == (2, 2));
-    let calls = [Call::Reads(0, 0xFF), Call::Reads(1, 1)];
-    assert!(rt; wrong_call(&mut device.into_inner(), &calls).is_none());
-    Ok(())
-}
-
-/// Whether an order to fail a write is met once, and the sector at place 5 is then filled with a byte.
-fn fails_a_write<D: Device>(device: &mut FaultDevice<D>, took: bool, byte: u8) -> bool {
-    device.fail_write(took);
-    let calls = [Call::FailsToWrite(5, 0xFF), Call::Reads(5, byte)];
-    wrong_call(device, &calls).is_none()
-}
-
-#[test]
-fn fails_to_order(rt: HostRuntime) -> Result<(), Fail> {
-    let mut device = FaultDevice::new(disk(&rt, Order::Dos)?);
-    device.fail_read();
-    let calls = [Call::FailsToRead(5), Call::Reads(5, 5)];
-    assert!(rt; wrong_call(&mut device, &calls).is_none());
-    assert!(rt; fails_a_write(&mut device, false, 5));
-    assert!(rt; fails_a_write(&mut device, true, 0xFF));
-    assert!(rt; answers(&mut device, Call::Writes(5, 7)));
-    assert!(rt; counts(&device) == (3, 3));
-    assert!(rt; answers(&mut device.into_inner(), Call::Reads(5, 7)));
-    Ok(())
-}
-
-/// An order to fail a read is met without the device within, and once, however often it was given.
-#[test]
-fn an_order_is_met_without_a_read(rt: HostRuntime) -> Result<(), Fail> {
-    let mut device = FaultDevice::new(disk(&rt, Order::Dos)?);
-    assert!(rt; !device.meet_read_order());
-    assert!(rt; counts(&device) == (0, 0));
-    device.fail_read();
-    device.fail_read();
-    assert!(rt; device.meet_read_order());
-    assert!(rt; !device.meet_read_order());
-    assert!(rt; counts(&device) == (0, 1));
-    assert!(rt; answers(&mut device, Call::Reads(5, 5)));
-    assert!(rt; counts(&device.into_inner()) == (0, 0));
-    Ok(())
-}
-
-/// An order of which the new unit stands waits for a write that the device takes.
-#[test]
-fn an_order_waits_at_a_missing_sector(rt: HostRuntime) -> Result<(), Fail> {
-    let inner = dos_device(opened(damaged(&rt)?, Order::Nibble)?)?;
-    let mut device = failing_at_a_write(inner, true);
-    let calls = [
-        Call::FailsToWrite(286, 0xFF),
-        Call::FailsToWrite(5, 0xFF),
-        Call::Writes(6, 0xFF),
-        Call::Reads(5, 0xFF),
-        Call::Reads(6, 0xFF),
-    ];
-    assert!(rt; wrong_call(&mut device, &calls).is_none());
-    assert!(rt; counts(&device) == (3, 2));
     Ok(())
 }
 

@@ -9,4 +9,6 @@ mod devices;
 #[cfg(test)]
 mod images;
 #[cfg(test)]
+mod orders;
+#[cfg(test)]
 mod tracks;

@@ -48,4 +48,4 @@ module _ (format : Meaning) (laws : IsReadable format) (files : FileMeaning) (st
           let same : broken.directory ≡ is.directory = laws.one_directory store broken.directory is.directory broken.described is.described in
           let first : IsFirstNamed files is.directory path broken.file = subst (λ (d : Directory). IsFirstNamed files d path broken.file) same broken.first in
           let fault_here : OwnFault format is.directory store broken.file = subst (λ (d : Directory). OwnFault format d store broken.file) same broken.fault in
-          is.faultless (subst (OwnFault format is.directory store) (one_first is.directory broken.file is.file first is.first) fault_here)
+          is.read.faultless (subst (OwnFault format is.directory store) (one_first is.directory broken.file is.file first is.first) fault_here)

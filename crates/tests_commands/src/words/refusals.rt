@@ -107,7 +107,7 @@ fn help_is_told_where_it_is_asked_for(rt: HostRuntime) {
         ("help", "List the files of a volume", PROGRAM_USAGE),
         (
             "catalog --help",
-            "a2shop catalog disk.dsk --fs auto --order auto",
+            "a2shop catalog disk.dsk --auto",
             CATALOG_USAGE,
         ),
         (

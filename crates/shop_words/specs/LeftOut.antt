@@ -1,0 +1,66 @@
+-- Of `--fs` and `--order`, what the words of a command leave out is `auto`: where they say `--auto`, and of some commands always.
+use Rattle.std.specs.Prelude.{Bool, false, ◌||◌, ◌&&◌, not, List, [], ◌∷◌, ◌++◌, codes, filter, if◌then◌else◌}
+use Rattle.std.specs.Prelude.{nat_eq}
+use Rattle.std.specs.List.{insert, list_any, position_or_len, starts_with}
+use Rattle.std.specs.Str.{bytes_eq}
+use Rattle.shop_words.specs.declared.auto.AutoOption.{AutoOption}
+use Rattle.shop_words.specs.declared.auto.AutoOption.TheVariants.{FileSystem, Order}
+use Rattle.shop_words.specs.Auto.{option_word}
+use Rattle.shop_words.specs.Front.{Text}
+use Rattle.shop_words.specs.Table.{FormView, forms}
+
+abbrev pub is_auto_word : Text → Bool
+is_auto_word word = bytes_eq word (codes "--auto")
+
+-- the word gives an option a value: the option's own word, or one word with its value
+abbrev pub gives : AutoOption → Text → Bool
+gives option word = bytes_eq word (option_word option) || starts_with nat_eq word (option_word option ++ codes "=")
+
+-- an option's name in the forms
+abbrev pub option_name : AutoOption → Text
+option_name FileSystem = codes "fs"
+option_name Order = codes "order"
+
+-- the form has the option
+abbrev pub has_option : AutoOption → FormView → Bool
+has_option option form = list_any (λ p. bytes_eq p.name (option_name option)) form.parameters
+
+-- a command of the table with this name has the option
+abbrev pub is_option_of : AutoOption → Text → Bool
+is_option_of option command = list_any (λ form. bytes_eq form.name command && has_option option form) forms
+
+-- the words are those of a command that has the option, and do not give it
+abbrev pub leaves_out : AutoOption → List Text → Bool
+leaves_out option [] = false
+leaves_out option (command ∷ words) =
+    is_option_of option command && not (list_any (gives option) (command ∷ words))
+
+-- what stands behind a word `--` is no option
+abbrev pub ends_options : Text → Bool
+ends_options word = bytes_eq word (codes "--")
+
+-- the words with an option whose value is `auto`, behind their last option
+abbrev pub with_option : AutoOption → List Text → List Text
+with_option option words = let end = position_or_len ends_options words in
+    insert (insert words end (codes "auto")) end (option_word option)
+
+-- the same, where they leave it out
+abbrev pub completed : AutoOption → List Text → List Text
+completed option words = if leaves_out option words then with_option option words else words
+
+-- the words are those of a command that may leave both out
+abbrev pub may_leave_out : List Text → Bool
+may_leave_out [] = false
+may_leave_out (command ∷ words) = bytes_eq command (codes "list")
+
+-- one of the words is `--auto` and one is another, or both options may be left out
+abbrev pub asks_to_fill_in : List Text → Bool
+asks_to_fill_in words =
+    list_any is_auto_word words && list_any (λ word. not (is_auto_word word)) words || may_leave_out words
+
+-- The words without `--auto`, and with the file system and the order that they leave out, where they ask for that.
+abbrev pub filled_in : List Text → List Text
+filled_in words =
+    if asks_to_fill_in words
+    then completed Order (completed FileSystem (filter (λ word. not (is_auto_word word)) words))
+    else words

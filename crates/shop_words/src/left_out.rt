@@ -1,0 +1,254 @@
+// `--auto`: the file system and the order that words leave out.
+ghost use Rattle.std.specs.Prelude.{
+  ◌≡◌,
+  ◌≤◌,
+  ◌++◌,
+  ◌&&◌,
+  codes,
+  false,
+  filter,
+  IfOk,
+  length,
+  map,
+  not,
+  OnOk,
+  string_bytes,
+};
+ghost use Rattle.std.specs.List.{list_any, position_or_len};
+ghost use Rattle.std.specs.Str.{bytes_eq};
+ghost use Rattle.shop_words.specs.Auto.{option_word};
+ghost use Rattle.shop_words.specs.LeftOut.{
+  asks_to_fill_in as words_ask_to_fill_in,
+  completed,
+  ends_options as means_to_end,
+  filled_in as filled_in_words,
+  gives as means_to_give,
+  has_option as form_has_option,
+  is_auto_word as means_auto_word,
+  is_option_of as is_option_of_command,
+  leaves_out as words_leave_out,
+  may_leave_out as words_may_leave_out,
+  option_name,
+  with_option,
+};
+ghost use Rattle.shop_words.specs.Table.{form_view};
+
+use crate::auto::AutoOption;
+use crate::table::{Form, Parameter, table};
+use std::alloc::{AllocError, Global};
+
+impl AutoOption {
+    // The option's name in the forms.
+    fn name(self) -> &'static str
+        ensures { result.now ≡ option_name self }
+    {
+        match self {
+            AutoOption::FileSystem => "fs",
+            AutoOption::Order => "order",
+        }
+    }
+
+    // How one word begins that is the option and its value.
+    fn front(self) -> &'static [u8]
+        ensures { result.now ≡ option_word self ++ codes "=" }
+    {
+        match self {
+            AutoOption::FileSystem => b"--fs=",
+            AutoOption::Order => b"--order=",
+        }
+    }
+}
+
+fn is_auto_word(word: &String) -> bool
+    ensures { result ≡ means_auto_word (string_bytes word.now) }
+{
+    word.as_str() == "--auto"
+}
+
+// Whether a word gives an option a value.
+fn gives(option: AutoOption, word: &String) -> bool
+    ensures { result ≡ means_to_give option (string_bytes word.now) }
+{
+    word.as_str() == option.word() || word.as_str().as_bytes().starts_with(option.front())
+}
+
+// Whether one of the words gives an option a value.
+fn one_gives(option: AutoOption, words: &[String]) -> bool
+    ensures { result ≡ list_any (λ word. means_to_give option (string_bytes word)) words.now }
+{
+    words.iter().any(|word| gives(option, word))
+}
+
+// Whether a parameter is an option.
+fn is_option(option: AutoOption, parameter: &Parameter) -> bool
+    ensures { result ≡ bytes_eq parameter.now.name.now (option_name option) }
+{
+    parameter.name == option.name()
+}
+
+// Whether one of the parameters is an option.
+fn one_is_option(option: AutoOption, parameters: &[Parameter]) -> bool
+    ensures { result ≡ list_any (λ parameter. bytes_eq parameter.name.now (option_name option)) parameters.now }
+{
+    parameters
+        .iter()
+        .any(|parameter| is_option(option, parameter))
+}
+
+fn has_option(option: AutoOption, form: &Form) -> bool
+    ensures { result ≡ form_has_option option (form_view form.now) }
+{
+    one_is_option(option, form.parameters)
+}
+
+// Whether a form is that of a command with this name, and has an option.
+fn is_form_with(option: AutoOption, command: &str, form: &Form) -> bool
+    ensures { result ≡ (bytes_eq (form_view form.now).name command.now && form_has_option option (form_view form.now)) }
+{
+    form.name == command && has_option(option, form)
+}
+
+// Whether one of the forms is that of a command with this name, and has an option.
+fn one_is_form_with(option: AutoOption, command: &str, forms: &[Form]) -> bool
+    ensures { result ≡ list_any (λ form.
+        bytes_eq (form_view form).name command.now && form_has_option option (form_view form)) forms.now }
+{
+    forms.iter().any(|form| is_form_with(option, command, form))
+}
+
+// Whether the command with this name has an option.
+fn is_option_of(option: AutoOption, command: &str) -> bool
+    ensures { result ≡ is_option_of_command option command.now }
+{
+    one_is_form_with(option, command, table())
+}
+
+// Whether the words are those of a command that has an option, and do not give it.
+fn leaves_out(option: AutoOption, words: &[String]) -> bool
+    ensures { result ≡ words_leave_out option (map string_bytes words.now) }
+{
+    match words.first() {
+        Some(command) => is_option_of(option, command.as_str()) && !one_gives(option, words),
+        None => false,
+    }
+}
+
+// Whether what stands behind a word is no option.
+fn ends_options(word: &str) -> bool
+    ensures { result ≡ means_to_end word.now }
+{
+    word == "--"
+}
+
+// How many words stand before the first `--`, or that there are.
+fn end_of_options(words: &[String]) -> usize
+    ensures end { result ≡ position_or_len means_to_end (map string_bytes words.now) }
+    ensures within { result ≤ length words.now }
+{
+    let mut end = 0;
+    for word in words {
+        if ends_options(word.as_str()) {
+            return end;
+        }
+        end += 1;
+    }
+    end
+}
+
+// Puts an option whose value is `auto` behind the last option.
+fn put_option(alloc: Global, words: &mut Vec<String>, option: AutoOption) -> Result<(), AllocError>
+    ensures { OnOk result (map string_bytes words.new.items
+        ≡ with_option option (map string_bytes words.old.items)) }
+{
+    let end = end_of_options(words.as_slice());
+    words.insert(end, "auto".to_string(alloc)?)?;
+    words.insert(end, option.word().to_string(alloc)?)?;
+    Ok(())
+}
+
+// Puts an option whose value is `auto` behind the last option, where the words leave it out.
+fn complete(alloc: Global, words: &mut Vec<String>, option: AutoOption) -> Result<(), AllocError>
+    ensures { OnOk result (map string_bytes words.new.items
+        ≡ completed option (map string_bytes words.old.items)) }
+{
+    if leaves_out(option, words.as_slice()) {
+        put_option(alloc, words, option)?;
+    }
+    Ok(())
+}
+
+// Whether the words are those of a command that may leave out the file system and the order.
+fn may_leave_out(words: &[String]) -> bool
+    ensures { result ≡ words_may_leave_out (map string_bytes words.now) }
+{
+    match words.first() {
+        Some(command) => command.as_str() == "list",
+        None => false,
+    }
+}
+
+// Whether one of the words is `--auto`.
+fn has_auto_word(words: &[String]) -> bool
+    ensures { result ≡ list_any (λ word. means_auto_word (string_bytes word)) words.now }
+{
+    words.iter().any(|word| is_auto_word(word))
+}
+
+fn is_other_word(word: &String) -> bool
+    ensures { result ≡ not (means_auto_word (string_bytes word.now)) }
+{
+    !is_auto_word(word)
+}
+
+// Whether one of the words is another.
+fn has_other_word(words: &[String]) -> bool
+    ensures { result ≡ list_any (λ word. not (means_auto_word (string_bytes word))) words.now }
+{
+    words.iter().any(|word| is_other_word(word))
+}
+
+// Whether one of the words is `--auto`, and one is another.
+fn has_auto_beside_others(words: &[String]) -> bool
+    ensures { result ≡ (list_any (λ word. means_auto_word (string_bytes word)) words.now
+        && list_any (λ word. not (means_auto_word (string_bytes word))) words.now) }
+{
+    has_auto_word(words) && has_other_word(words)
+}
+
+// Whether one of the words is `--auto` and one is another, or both options may be left out.
+fn asks_to_fill_in(words: &[String]) -> bool
+    ensures { result ≡ words_ask_to_fill_in (map string_bytes words.now) }
+{
+    has_auto_beside_others(words) || may_leave_out(words)
+}
+
+// The words that are not `--auto`.
+fn without_auto(mut words: Vec<String>) -> Vec<String>
+    ensures { result.items ≡ filter (λ word. not (means_auto_word (string_bytes word))) words.items }
+{
+    words.retain(|word| !is_auto_word(word));
+    words
+}
+
+/// The words without `--auto`, with `auto` for the file system and the order that they leave out,
+/// where they ask for that: by `--auto` beside other words, or as those of a command that may leave
+/// both out.
+///
+/// # Errors
+/// Want of memory.
+pub fn filled_in(alloc: Global, words: Vec<String>) -> Result<Vec<String>, AllocError>
+    ensures filled { IfOk result (λ made.
+        map string_bytes made.items ≡ filled_in_words (map string_bytes words.items)) }
+
+    // words that do not ask for it are left as they are
+    ensures same { words_ask_to_fill_in (map string_bytes words.items) ≡ false
+        → IfOk result (λ made. made.items ≡ words.items) }
+{
+    if !asks_to_fill_in(words.as_slice()) {
+        return Ok(words);
+    }
+    let mut words = without_auto(words);
+    complete(alloc, &mut words, AutoOption::FileSystem)?;
+    complete(alloc, &mut words, AutoOption::Order)?;
+    Ok(words)
+}
