@@ -11,6 +11,8 @@ _a2shop() {
     'catalog --order') mapfile -t COMPREPLY < <(compgen -W "auto dos prodos nibble" -- "$word"); return ;;
     'list --fs') mapfile -t COMPREPLY < <(compgen -W "auto dos prodos" -- "$word"); return ;;
     'list --order') mapfile -t COMPREPLY < <(compgen -W "auto dos prodos nibble" -- "$word"); return ;;
+    'list --format') return ;;
+    'list --most') return ;;
     'check --fs') mapfile -t COMPREPLY < <(compgen -W "auto dos prodos" -- "$word"); return ;;
     'check --order') mapfile -t COMPREPLY < <(compgen -W "auto dos prodos nibble" -- "$word"); return ;;
     'check --reserve') return ;;
@@ -64,7 +66,7 @@ _a2shop() {
   fi
   case "${COMP_WORDS[1]}" in
     catalog) mapfile -t COMPREPLY < <(compgen -W "--fs --order --data-disk --auto --explain --help" -- "$word") ;;
-    list) mapfile -t COMPREPLY < <(compgen -W "--fs --order --data-disk --auto --explain --help" -- "$word") ;;
+    list) mapfile -t COMPREPLY < <(compgen -W "--fs --order --format --digests --most --data-disk --auto --explain --help" -- "$word") ;;
     check) mapfile -t COMPREPLY < <(compgen -W "--fs --order --data-disk --reserve --auto --explain --help" -- "$word") ;;
     read) mapfile -t COMPREPLY < <(compgen -W "--fs --order --whole --data-disk --auto --explain --help" -- "$word") ;;
     convert) mapfile -t COMPREPLY < <(compgen -W "--order --to --out --volume --data-disk --auto --explain --help" -- "$word") ;;

@@ -3,7 +3,7 @@ use crate::explanation::Explanation;
 
 /// The explanations of what a job finds: faults of a volume, faults of a certificate and verdicts; and of words that
 /// are no job.
-pub static FINDINGS: [Explanation; 23] = [
+pub static FINDINGS: [Explanation; 24] = [
     Explanation {
         front: "FAULT Geometry",
         meaning: "The header of the volume is not that of a volume of this size: the table of contents of a DOS disk \
@@ -115,8 +115,9 @@ pub static FINDINGS: [Explanation; 23] = [
         meaning: "The volume is sound: each part of each file stands alone, at a place that is marked as used. What \
             stands in the files was not read, so a file may be damaged all the same. Lost places, if there are any, \
             are marked as used and belong to no file; that is no fault.",
-        advice: "Nothing is to be done. Where places are lost, `a2shop plan` and `optimize` want `--reclaim`, to mark \
-            them as free, or `--reserve`, to keep them.",
+        advice: "Nothing is to be done. `a2shop list --digests` reads each file, and tells which can't be read. Where \
+            places are lost, `a2shop plan` and `optimize` want `--reclaim`, to mark them as free, or `--reserve`, to \
+            keep them.",
     },
     Explanation {
         front: "BEST",
@@ -134,6 +135,13 @@ pub static FINDINGS: [Explanation; 23] = [
         meaning: "There is no DOS 3.3 or ProDOS volume in the image, in none of the ways to read it.",
         advice: "The image may be of another system, as Pascal or CP/M, be damaged, or not be an image of a whole \
             disk.",
+    },
+    Explanation {
+        front: "----------------------------------------------------------------",
+        meaning: "The file has no digest, since it can't be read: one of its pointers leads nowhere, two of its parts \
+            stand at one place, or a sector or block of it can't be read. The other files are told all the same.",
+        advice: "`a2shop check` tells the faults of the volume. Take the files that can be read off the image, and look \
+            for another copy of the disk.",
     },
     Explanation {
         front: "error:",

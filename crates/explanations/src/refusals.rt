@@ -2,7 +2,7 @@
 use crate::explanation::Explanation;
 
 /// The explanations of a job that is not done: refusals and failures.
-pub static REFUSALS: [Explanation; 22] = [
+pub static REFUSALS: [Explanation; 23] = [
     Explanation {
         front: "REFUSED InPlace",
         meaning: "This image is not changed in its own file. That is done where the units of the volume stand in the \
@@ -100,6 +100,12 @@ pub static REFUSALS: [Explanation; 22] = [
         meaning: "A part of a file stands in the wrong place, and every place of the volume has a part, so there is \
             none over which the parts could be moved. Nothing was written.",
         advice: "Take a file off a copy of the disk, or name fewer places behind `--reserve`, and try again.",
+    },
+    Explanation {
+        front: "REFUSED TooLarge",
+        meaning: "The files of the volume that are read have more bytes in all than `--most` allows, or than \
+            1,073,741,824 where it is left out. A file of ProDOS may have many bytes of which the volume holds none.",
+        advice: "Give a greater number behind `--most`, or leave `--digests` out.",
     },
     Explanation {
         front: "REFUSED InputTooLong",

@@ -3,5 +3,7 @@ pub mod Text
 pub mod Read
 pub mod FileList
 pub mod Walked
+pub mod ReadingOn
+pub mod FileText
 pub mod OneFile
 pub mod lemmas

@@ -1,2 +1,3 @@
 pub mod Exclusive
 pub mod FileAlone
+pub mod Reading

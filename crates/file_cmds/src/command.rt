@@ -59,6 +59,8 @@ pub fn read_volume<D: Device, F: FileFormat>(
 
     ensures device { OnlyReads (told_device result) (D.state device.old) (D.state device.new) }
     ensures found { result ≢ Err CmdError.NotFound }
+    ensures places { IfOk result (λ volume.
+        (F.directory format.now volume).places ≡ (D.state device.old).places) }
     ensures described { IsTrue (D.state device.old).honest
         → IfOk result (λ volume. (F.meaning format.now).Describes (D.state device.old).store
         (F.directory format.now volume)) }

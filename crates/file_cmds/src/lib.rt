@@ -2,13 +2,15 @@
 //!
 //! `catalog` reads what a listing shows. `read` gives the units of one file in order, or what is wrong with this file
 //! (`specs/Text.antt`, `specs/Read.antt`), and `read_entry` those of an entry of a volume that was read: the checker of
-//! volumes walks over the volume that has the file alone (`specs/OneFile.antt`).
+//! volumes walks over the volume that has the file alone (`specs/OneFile.antt`). Who reads many files goes on where one can't
+//! be read: `file_text` says why (`specs/FileText.antt`), and `specs/ReadingOn.antt` what such readings do to a device.
 //!
 //! What always holds: a command leaves the device's store as it is.
 #![tactic(auto)]
 
 mod command;
 mod error;
+mod file_texts;
 mod law;
 mod one_file;
 mod reading;
@@ -16,5 +18,6 @@ mod text;
 
 pub use command::{catalog, listing_of, read_volume};
 pub use error::CmdError;
+pub use file_texts::{FileText, file_text};
 pub use law::{a_read_answers_by_the_list_of_files, answers_exclude_one_another};
 pub use reading::{read, read_entry};

@@ -16,8 +16,8 @@ use std::alloc::Allocator;
 use vol_check::check;
 use vol_format::Format;
 
-// The whole text of the file of an entry.
-fn whole_text<D: Device, F: Format, A: Allocator + Copy>(
+/// The whole text of the file of an entry.
+pub(crate) fn whole_text<D: Device, F: Format, A: Allocator + Copy>(
     alloc: A,
     device: &mut D,
     format: &F,

@@ -14,7 +14,10 @@ list_entry entry = record {
   kind = slice_index entry.bytes 2 % 0x80;
   size = slice_index entry.bytes 0x21 + 256 * slice_index entry.bytes 0x22;
   eof = 0;
-  date = no_date;
+  access = 0;
+  aux = 0;
+  created = no_date;
+  modified = no_date;
   directory = false;
   path = slice_range entry.bytes 0x03 0x21;
 }

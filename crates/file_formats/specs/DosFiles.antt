@@ -24,7 +24,10 @@ dos_shown entry = record {
   kind = slice_index entry.bytes 0 % 0x80;
   size = slice_index entry.bytes 0x1f + 256 * slice_index entry.bytes 0x20;
   eof = 0;
-  date = no_date;
+  access = 0;
+  aux = 0;
+  created = no_date;
+  modified = no_date;
   directory = false;
   path = entry.path;
 }

@@ -23,7 +23,10 @@ pro_shown entry = record {
   kind = slice_index entry.bytes 0x10;
   size = word entry.bytes 0x11;
   eof = long entry.bytes 0x13;
-  date = record { 0 = slice_range entry.bytes 0x1f 0x23 };
+  access = slice_index entry.bytes 0x1c;
+  aux = word entry.bytes 0x1d;
+  created = record { 0 = slice_range entry.bytes 0x16 0x1a };
+  modified = record { 0 = slice_range entry.bytes 0x1f 0x23 };
   directory = storage_of entry.bytes == 13;
   path = entry.path;
 }

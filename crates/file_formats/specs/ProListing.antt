@@ -11,7 +11,10 @@ pro_list_entry path entry = record {
   kind = slice_index entry.bytes 0x10;
   size = word entry.bytes 0x13;
   eof = long entry.bytes 0x15;
-  date = record { 0 = slice_range entry.bytes 0x21 0x25 };
+  access = slice_index entry.bytes 0x1e;
+  aux = word entry.bytes 0x1f;
+  created = record { 0 = slice_range entry.bytes 0x18 0x1c };
+  modified = record { 0 = slice_range entry.bytes 0x21 0x25 };
   directory = is_directory entry;
   path = path;
 }

@@ -12,6 +12,9 @@ use std::alloc::{AllocError, Allocator};
 /// The bytes of a name.
 const NAME_BYTES: usize = 30;
 
+/// DOS 3.3 keeps no dates.
+const NO_DATE: ProDate = ProDate([0; 4]);
+
 // A name as it is stored: high bits on, and spaces up to 30 bytes.
 fn stored_name(path: &[u8]) -> [u8; 30]
     requires { length path.now ≤ 30 }
@@ -41,7 +44,10 @@ fn list_entry<A: Allocator>(alloc: A, entry: &Entry) -> Result<ListEntry<A>, All
         kind: entry.kind(),
         size: entry.sectors(),
         eof: 0,
-        date: ProDate([0; 4]),
+        access: 0,
+        aux: 0,
+        created: NO_DATE,
+        modified: NO_DATE,
         directory: false,
         path,
     })
@@ -58,11 +64,18 @@ fn byte_at(text: &[u8], at: usize) -> u8
 }
 
 // A number of two bytes, the low one first; what is behind the text's end is 0.
-fn number_at(text: &[u8], at: usize) -> usize
+fn number_at(text: &[u8], at: usize) -> u16
     requires { at ≤ 2 }
     ensures { result ≡ number_at text.now at }
 {
-    u16::from_le_bytes([byte_at(text, at), byte_at(text, at + 1)]) as usize
+    u16::from_le_bytes([byte_at(text, at), byte_at(text, at + 1)])
+}
+
+/// The address of a binary file of DOS 3.3 that has this whole text.
+pub fn address_of(text: &[u8]) -> u16
+    ensures { result ≡ number_at text.now 0 }
+{
+    number_at(text, 0)
 }
 
 // So many bytes of a text, behind its front.
@@ -81,11 +94,11 @@ fn body_of<A: Allocator>(kind: u8, text: Vec<u8, A>) -> Vec<u8, A>
 {
     match kind {
         0x01 | 0x02 => {
-            let len = number_at(&text, 0);
+            let len = usize::from(number_at(&text, 0));
             part_behind(text, 2, len)
         }
         0x04 => {
-            let len = number_at(&text, 2);
+            let len = usize::from(number_at(&text, 2));
             part_behind(text, 4, len)
         }
         _ => text,

@@ -14,6 +14,7 @@ mod listing;
 mod name;
 mod pro;
 
+pub use dos::address_of;
 pub use finding::find;
 pub use format::FileFormat;
 pub use listing::{ListEntry, Listing};

@@ -13,8 +13,13 @@ pub struct ListEntry<A: Allocator = Global> {
     pub size: u16,
     /// The length in bytes; for DOS 0.
     pub eof: u32,
-    /// The last modification, as it is stored; for DOS the four bytes 0, which name no moment.
-    pub date: ProDate,
+    /// The access byte; for DOS 0.
+    pub access: u8,
+    /// The auxiliary type; for DOS 0.
+    pub aux: u16,
+    /// The creation and the last modification, as they are stored; for DOS the four bytes 0, which name no moment.
+    pub created: ProDate,
+    pub modified: ProDate,
     /// Whether it is a directory's.
     pub directory: bool,
     /// For DOS the 30 bytes of the name, as they are stored.

@@ -20,7 +20,10 @@ fn with_path<A: Allocator>(entry: &Entry, path: Vec<u8, A>) -> ListEntry<A>
         kind: entry.kind(),
         size: entry.blocks_used(),
         eof: entry.eof(),
-        date: entry.modified(),
+        access: entry.access().byte(),
+        aux: entry.aux(),
+        created: entry.created(),
+        modified: entry.modified(),
         directory: entry.is_directory(),
         path: StoredName::of(path),
     }

@@ -1,8 +1,9 @@
 -- The spaces at the end of a text.
-use Rattle.std.proofs.Common.{◌≡◌, ◌∙◌, ℕ, ◌+◌, ◌-◌, ◌<◌, ◌≤◌, sym, ap, refl, true, false, [], ◌∷◌, ◌++◌, ◌==◌, ◌≢◌, map, take, length, get_or, arith, eq-eqb}
-use Rattle.std.proofs.lemmas.List.{map_more, take-map}
+use Rattle.std.proofs.Common.{◌≡◌, ◌∙◌, ℕ, ◌+◌, ◌-◌, ◌<◌, ◌≤◌, sym, ap, refl, true, false, [], ◌∷◌, ◌++◌, ◌==◌, ◌≢◌, map, take, length, length-take, get_or, arith, eq-eqb}
+use Rattle.std.proofs.lemmas.List.{length-map, map_more, take-map}
 use Rattle.std.proofs.lemmas.Bool.Decides.{nat_tests}
-use Rattle.file_listings.specs.DosText.{Text, unless_space, without_last_spaces, shown}
+use Rattle.file_listings.specs.DosText.{Text, name_text, unless_space, without_last_spaces}
+use Rattle.row_text.specs.Shown.{shown}
 
 pub without_last_spaces-space : (xs : Text) (y : ℕ) → (y == 32) ≡ true → without_last_spaces (xs ++ y ∷ []) ≡ without_last_spaces xs
 without_last_spaces-space [] y e = rw e refl
@@ -40,3 +41,8 @@ no_space_left name n pos le e =
     let front = ap (λ (k : ℕ). map shown (take k name)) (sym next) ∙ shown_front name (n - 1) (omega arith) in
     let test : (shown (get_or name (n - 1) 0) == 32) ≡ false = not_equal _ _ e in
     take-map shown n name ∙ front ∙ sym (without_last_spaces-other (map shown (take (n - 1) name)) _ test) ∙ ap without_last_spaces (sym front)
+
+-- as many bytes are shown as the text has
+pub as_many_shown : (name : Text) (n : ℕ) → n ≤ length name → take n (map shown name) ≡ name_text name → n ≡ length (name_text name)
+as_many_shown name n within is =
+    omega (arith, within, length-take n (map shown name), length-map name shown, ap (λ (text : Text). length text) is)

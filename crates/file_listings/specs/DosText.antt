@@ -1,5 +1,5 @@
 -- The text of a listing of a DOS 3.3 volume.
-use Rattle.std.specs.Prelude.{◌≡◌, ℕ, ◌-◌, ◌^◌, ◌%◌, ◌==◌, ◌||◌, nat_lt, false, List, [], ◌∷◌, ◌++◌, map, flat_map, codes, decimal, slice_index, if◌then◌else◌}
+use Rattle.std.specs.Prelude.{◌≡◌, ℕ, ◌-◌, ◌^◌, ◌%◌, ◌==◌, ◌||◌, nat_lt, false, List, [], ◌∷◌, ◌++◌, map, flat_map, codes, decimal, slice_index, if◌then◌else◌, take, length}
 use Rattle.std.specs.Fmt.{padded_integral, format_spec}
 use Rattle.std.specs.declared.alloc.Global.{Global}
 use Rattle.a2_device.specs.Device.{unit_at}
@@ -13,8 +13,7 @@ use Rattle.vol_format.specs.Directory.{Directory}
 use Rattle.file_formats.specs.Catalog.{list_entry}
 use Rattle.file_formats.specs.DosFiles.{dos_shown}
 use Rattle.file_formats.specs.Listing.{free_count}
-use Rattle.file_listings.specs.declared.style.Style.{Style}
-use Rattle.file_listings.specs.declared.style.Style.TheVariants.{Catalog, Names}
+use Rattle.row_text.specs.Shown.{shown}
 
 -- a text, as the bytes of ASCII
 abbrev pub Text : Type 0
@@ -25,10 +24,6 @@ abbrev pub letter_of : ℕ → ℕ
 letter_of kind = if kind == 0 then 84 else (if kind == 1 then 73 else (if kind == 2 then 65
     else (if kind == 4 then 66 else (if kind == 8 then 83 else (if kind == 0x10 then 82
     else (if kind == 0x20 then 97 else (if kind == 0x40 then 98 else 63)))))))
-
--- a byte of a name: its low seven bits, ? where they are no printed character
-abbrev pub shown : ℕ → ℕ
-shown byte = if nat_lt (byte % 128) 0x20 || byte % 128 == 0x7f then 63 else byte % 128
 
 -- a text without the spaces at its end
 abbrev pub unless_space : ℕ → Text → Text
@@ -41,6 +36,10 @@ without_last_spaces (x ∷ xs) = unless_space x (without_last_spaces xs)
 
 abbrev pub name_text : Text → Text
 name_text name = without_last_spaces (map shown name)
+
+-- the bytes of a name that are shown
+abbrev pub name_part : List ℕ → List ℕ
+name_part name = take (length (name_text name)) name
 
 -- a number with at least three digits
 abbrev pub three_digits : ℕ → Text
@@ -62,14 +61,9 @@ lines_of volume files free = line (codes "DISK VOLUME " ++ decimal volume) ++ fl
 abbrev pub listing_text : {A : Type 0} → Listing A → Text
 listing_text listing = lines_of (slice_index listing.volume 0) listing.entries.items listing.free
 
--- the names of some files, a line each
-abbrev pub names_text : {A : Type 0} → List (ListEntry A) → Text
-names_text files = flat_map (λ file. line (name_text file.path)) files
-
--- the listing of a directory: its number, a line for each file, and how many sectors are free; or the names alone
-abbrev pub directory_text : Style → Directory → Text
-directory_text Catalog directory = lines_of {A = Global} (slice_index directory.name 0) (map dos_shown directory.listed) (free_count directory)
-directory_text Names directory = names_text {A = Global} (map dos_shown directory.listed)
+-- the listing of a directory: its number, a line for each file, and how many sectors are free
+abbrev pub catalog_text : Directory → Text
+catalog_text directory = lines_of {A = Global} (slice_index directory.name 0) (map dos_shown directory.listed) (free_count directory)
 
 -- the line of an entry of the catalog
 abbrev pub entry_line : Entry → Text

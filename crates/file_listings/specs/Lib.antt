@@ -1,4 +1,6 @@
 pub mod DosText
+pub mod Rows
+pub mod DosEntries
 pub mod ProText
 pub mod ProLines
 pub mod lemmas

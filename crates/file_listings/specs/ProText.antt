@@ -4,16 +4,16 @@ use Rattle.std.specs.Fmt.{padded_integral, format_spec}
 use Rattle.std.specs.declared.alloc.Global.{Global}
 use Rattle.vol_format.specs.Directory.{Directory, Listed}
 use Rattle.file_formats.specs.declared.listing.ListEntry.{ListEntry}
-use Rattle.file_listings.specs.DosText.{Text, line, shown}
+use Rattle.row_text.specs.Shown.{hex_digit, shown}
+use Rattle.row_text.specs.declared.volume.FileSystem.TheVariants.{Prodos}
+use Rattle.file_listings.specs.DosText.{Text, line}
+use Rattle.file_listings.specs.Rows.{head_line, pro_row, row_line, rows_of, volume_of}
+use Rattle.file_listings.specs.declared.facts.Facts.{Facts}
 use Rattle.file_listings.specs.declared.style.Style.{Style}
-use Rattle.file_listings.specs.declared.style.Style.TheVariants.{Catalog, Names}
+use Rattle.file_listings.specs.declared.style.Style.TheVariants.{Catalog, Entries}
 use Rattle.file_formats.specs.Listing.{free_count}
 use Rattle.file_formats.specs.ProFiles.{pro_shown}
 use Rattle.pro_dates.specs.ShownDates.{date_text}
-
--- a hexadecimal digit: 0 to 9, a to f
-abbrev pub hex_digit : ℕ → ℕ
-hex_digit n = if nat_lt n 10 then 48 + n else 87 + n
 
 -- a number right in so many places
 abbrev pub right_in : ℕ → ℕ → Text
@@ -27,25 +27,32 @@ path_text directory path = if directory then map shown path ++ 47 ∷ [] else ma
 abbrev pub pro_file_line : {A : Type 0} → ListEntry A → Text
 pro_file_line file =
     (if file.locked then 42 else 32) ∷ 36 ∷ hex_digit (file.kind / 16) ∷ hex_digit (file.kind % 16) ∷ 32 ∷ right_in 5 file.size
-    ++ 32 ∷ right_in 8 file.eof ++ 32 ∷ date_text file.date.0 ++ 32 ∷ path_text file.directory file.path
-
--- what is told of an entry: its facts, or its path alone
-abbrev pub entry_text : {A : Type 0} → Style → ListEntry A → Text
-entry_text Catalog file = pro_file_line file
-entry_text Names file = path_text file.directory file.path
+    ++ 32 ∷ right_in 8 file.eof ++ 32 ∷ date_text file.modified.0 ++ 32 ∷ path_text file.directory file.path
 
 -- the line of an entry of a directory
-abbrev pub entry_line : Style → Listed → Text
-entry_line style entry = line (entry_text {A = Global} style (pro_shown entry))
+abbrev pub catalog_line : Listed → Text
+catalog_line entry = line (pro_file_line {A = Global} (pro_shown entry))
 
--- the listing of a directory: the volume's name, a line for each entry, and how many blocks are free; or the lines alone
+-- the line of an entry in a style
+abbrev pub told_line : {A : Type 0} → Style → ListEntry A → Facts → Text
+told_line Catalog entry facts = line (pro_file_line entry)
+told_line (Entries style) entry facts = row_line style (pro_row entry facts)
+
+-- the lines of the entries of a directory in a style, with what is known of each file
+abbrev pub entry_lines : Style → Directory → List Facts → List Text
+entry_lines Catalog directory facts = map catalog_line directory.listed
+entry_lines (Entries style) directory facts =
+    map (row_line style) (rows_of {A = Global} pro_row (map pro_shown directory.listed) facts)
+
+-- the lines before and behind them: the volume's name and how many blocks are free, or what is told of the volume as data
 abbrev pub first_line : Style → Directory → Text
 first_line Catalog directory = line (codes "VOLUME /" ++ map shown directory.name)
-first_line Names directory = []
+first_line (Entries style) directory = head_line style (volume_of Prodos (map shown directory.name) directory)
 
 abbrev pub last_line : Style → Directory → Text
 last_line Catalog directory = line (codes "FREE " ++ decimal (free_count directory))
-last_line Names directory = []
+last_line (Entries style) directory = []
 
-abbrev pub directory_text : Style → Directory → Text
-directory_text style directory = first_line style directory ++ flat_map (entry_line style) directory.listed ++ last_line style directory
+abbrev pub directory_text : Style → Directory → List Facts → Text
+directory_text style directory facts =
+    first_line style directory ++ flat_map (λ text. text) (entry_lines style directory facts) ++ last_line style directory

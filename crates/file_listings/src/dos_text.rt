@@ -1,8 +1,10 @@
 // The text of a listing of a DOS 3.3 volume.
 ghost use Rattle.std.specs.Prelude.{◌≡◌, ◌≤◌, Some, IfOk, take, map, string_bytes, length, slice_index};
-ghost use Rattle.file_listings.specs.DosText.{file_line, letter_of, listing_text, name_text, names_text, shown};
+ghost use Rattle.row_text.specs.Shown.{shown};
+ghost use Rattle.file_listings.specs.DosText.{file_line, letter_of, listing_text, name_part, name_text};
 
 use file_formats::{ListEntry, Listing};
+use row_text::{ShownBytes, shown_byte};
 use std::alloc::{AllocError, Allocator};
 use std::fmt;
 
@@ -23,17 +25,6 @@ fn kind_letter(kind: u8) -> char
     }
 }
 
-/// A byte of a name as a listing shows it: without its highest bit, and `?` for a control character.
-pub fn shown_byte(byte: u8) -> u8
-    ensures value { result ≡ shown byte }
-    ensures ascii { result ≤ 126 }
-{
-    match byte % 128 {
-        low @ 0x20..=0x7e => low,
-        _ => b'?',
-    }
-}
-
 // How many bytes of a name stand before the spaces at its end.
 fn shown_len(name: &[u8]) -> usize
     ensures within { result ≤ length name.now }
@@ -48,25 +39,10 @@ fn shown_len(name: &[u8]) -> usize
 
 /// The bytes of a DOS 3.3 name that a listing shows: those before the spaces at its end.
 pub fn shown_part(name: &[u8]) -> &[u8]
-    ensures { map shown result.now ≡ name_text name.now }
+    ensures text { map shown result.now ≡ name_text name.now }
+    ensures part { result.now ≡ name_part name.now }
 {
     &name[..shown_len(name)]
-}
-
-// A name as it is shown.
-#[derive(Clone, Copy)]
-struct ShownName<'a>(&'a [u8]);
-
-impl fmt::Display for ShownName<'_> {
-    ghost output = { λ n. Some (name_text n.0.now) };
-
-    fn fmt<W: fmt::Write>(&self, f: &mut fmt::Formatter<W>) -> fmt::Result {
-        let name = shown_part(self.0);
-        for byte in name {
-            write!(f, "{}", char::from(shown_byte(*byte)))?;
-        }
-        Ok(())
-    }
 }
 
 // The line of one file.
@@ -81,31 +57,13 @@ impl<A: Allocator> fmt::Display for FileLine<'_, A> {
         let mark = if file.locked { '*' } else { ' ' };
         let letter = kind_letter(file.kind);
         let sectors = file.size;
-        let name = ShownName(file.path.as_bytes());
+        let name = ShownBytes(shown_part(file.path.as_bytes()));
         write!(f, "{mark}{letter} {sectors:03} {name}")
     }
 }
 
-/// The names of the files of a DOS 3.3 volume, a line each.
-///
-/// # Errors
-/// Want of memory alone.
-pub fn dos_names_text<A: Allocator + Copy>(
-    alloc: A,
-    listing: &Listing<A>,
-) -> Result<String<A>, AllocError>
-    ensures { IfOk result (λ text. string_bytes text ≡ names_text listing.now.entries.items) }
-{
-    let mut text = String::new(alloc);
-    for file in &listing.entries {
-        let name = ShownName(file.path.as_bytes());
-        writeln!(text, "{name}")?;
-    }
-    Ok(text)
-}
-
 // The first byte, or 0 where there is none.
-fn first_byte(bytes: &[u8]) -> u8
+pub(crate) fn first_byte(bytes: &[u8]) -> u8
     ensures { result ≡ slice_index bytes.now 0 }
 {
     match bytes {

@@ -1,17 +1,19 @@
 // The lines of a listing of a ProDOS volume.
-ghost use Rattle.std.specs.Prelude.{◌≡◌, ◌<◌, IfOk, OnOk};
-ghost use Rattle.pro_format.specs.Pro.{directory_with};
-ghost use Rattle.pro_format.specs.ProVolume.{map_in, system_of, tree_of};
-ghost use Rattle.vol_format.specs.Directory.{entries, entry_of};
-ghost use Rattle.file_listings.specs.ProLines.{line_in, listed_in, most_path_bytes};
-ghost use Rattle.file_listings.specs.ProText.{entry_line, first_line, last_line};
+ghost use Rattle.std.specs.Prelude.{◌≡◌, ◌<◌, [], length, slice_index_or, IfOk, OnOk, Some};
+ghost use Rattle.pro_format.specs.ProVolume.{tree_of};
+ghost use Rattle.file_listings.specs.ProLines.{directory_in, line_in, lines_of, listed_in, most_path_bytes, pro_volume};
+ghost use Rattle.file_listings.specs.ProText.{first_line, last_line, told_line};
+ghost use Rattle.row_text.specs.Row.{volume_view};
 
-use crate::pro_text::{EntryText, ShownBytes};
+use crate::facts::{Facts, facts_at};
+use crate::pro_text::CatalogLine;
+use crate::rows::{HeadLine, ProRowLine};
 use crate::style::Style;
-use file_formats::listed_entry;
+use file_formats::{ListEntry, listed_entry};
 use pro_format::ProVolume;
+use row_text::{FileSystem, JsonVolume, ShownBytes, VolumeName};
 use std::alloc::{AllocError, Allocator, Global};
-use std::mem;
+use std::{fmt, mem};
 
 /// The most bytes that a name and a slash take in a path.
 const NAME_BYTES: usize = 16;
@@ -19,8 +21,11 @@ const NAME_BYTES: usize = 16;
 /// The most blocks of a volume, and so the most directories that a path leads through.
 const MOST_BLOCKS: usize = 65_535;
 
-/// The most bytes that a line takes beside its path.
-const LINE_BYTES: usize = 64;
+/// The most bytes that a line takes beside its path, and how often a byte of the path may stand in it: as a character
+/// that takes two, and as two digits.
+const LINE_BYTES: usize = 512;
+
+const OF_A_BYTE: usize = 4;
 
 /// The most bytes that the path of a file of a volume has.
 pub fn most_path_bytes<A: Allocator>(volume: &ProVolume<A>) -> usize
@@ -37,28 +42,78 @@ pub struct ProLines<A: Allocator = Global> {
     alloc: A,
     style: Style,
     volume: ProVolume<A>,
+    facts: Vec<Facts, A>,
     path: Vec<u8, A>,
     line: String<A>,
 }
 
+// The line of an entry, with its end.
+#[derive(Drop)]
+struct EntryLine<'a, A: Allocator> {
+    style: Style,
+    entry: &'a ListEntry<A>,
+    facts: Facts,
+}
+
+impl<A: Allocator> fmt::Display for EntryLine<'_, A> {
+    ghost output = { λ l. Some (told_line l.style l.entry.now l.facts) };
+
+    fn fmt<W: fmt::Write>(&self, f: &mut fmt::Formatter<W>) -> fmt::Result {
+        match self.style {
+            Style::Catalog => {
+                let line = CatalogLine(self.entry);
+                writeln!(f, "{line}")
+            }
+            Style::Entries(style) => {
+                let line = ProRowLine {
+                    style,
+                    entry: self.entry,
+                    facts: self.facts,
+                };
+                write!(f, "{line}")
+            }
+        }
+    }
+}
+
+// What is told of a volume.
+fn volume_of<A: Allocator>(volume: &ProVolume<A>) -> JsonVolume<'_>
+    ensures { volume_view result ≡ pro_volume volume.now }
+{
+    JsonVolume {
+        entries: volume.directory().entries().len(),
+        free: volume.map().free_count(),
+        file_system: FileSystem::Prodos,
+        places: volume.directory().total(),
+        volume: VolumeName::Name(volume.directory().name()),
+    }
+}
+
 impl<A: Allocator + Copy> ProLines<A> {
-    /// The lines of a volume, with none made yet.
+    /// The lines of a volume, with what is known of the files of its entries, and none made yet.
     ///
     /// # Errors
     /// Want of memory alone.
-    pub fn new(alloc: A, style: Style, volume: ProVolume<A>) -> Result<ProLines<A>, AllocError>
+    pub fn new(
+        alloc: A,
+        style: Style,
+        volume: ProVolume<A>,
+        facts: Vec<Facts, A>,
+    ) -> Result<ProLines<A>, AllocError>
         ensures { IfOk result (λ lines. listed_in lines ≡ record {
           style = style;
-          directory = directory_with (system_of volume) (tree_of volume) (map_in volume).units;
+          directory = directory_in volume;
+          facts = facts.items;
         }) }
     {
         let most = most_path_bytes(&volume);
         let path = Vec::with_capacity(alloc, most)?;
-        let line = String::with_capacity(alloc, most + LINE_BYTES)?;
+        let line = String::with_capacity(alloc, OF_A_BYTE * most + LINE_BYTES)?;
         Ok(ProLines {
             alloc,
             style,
             volume,
+            facts,
             path,
             line,
         })
@@ -66,7 +121,7 @@ impl<A: Allocator + Copy> ProLines<A> {
 
     /// How many entries have a line, those of directories among them.
     pub fn entries(&self) -> u32
-        ensures { result ≡ entries (listed_in self.now).directory }
+        ensures { result ≡ length (lines_of (listed_in self.now)) }
     {
         self.volume.directory().entries().len() as u32
     }
@@ -78,7 +133,7 @@ impl<A: Allocator + Copy> ProLines<A> {
         self.line.as_bytes()
     }
 
-    /// Makes the first line, the volume's name; of names alone there is none.
+    /// Makes the first line: the volume's name, or what stands before the entries as data.
     ///
     /// # Errors
     /// Want of memory alone.
@@ -93,7 +148,13 @@ impl<A: Allocator + Copy> ProLines<A> {
                 let volume = ShownBytes(self.volume.directory().name());
                 writeln!(self.line, "VOLUME /{volume}")?;
             }
-            Style::Names => {}
+            Style::Entries(style) => {
+                let head = HeadLine {
+                    style,
+                    volume: volume_of(&self.volume),
+                };
+                write!(self.line, "{head}")?;
+            }
         }
         Ok(())
     }
@@ -103,24 +164,25 @@ impl<A: Allocator + Copy> ProLines<A> {
     /// # Errors
     /// Want of memory alone.
     pub fn make_entry(&mut self, entry: u32) -> Result<(), AllocError>
-        requires { entry < entries (listed_in self.old).directory }
+        requires { entry < length (lines_of (listed_in self.old)) }
         ensures line { OnOk result (line_in self.new
-            ≡ entry_line (listed_in self.old).style (entry_of (listed_in self.old).directory entry)) }
+            ≡ slice_index_or (lines_of (listed_in self.old)) entry []) }
         ensures same { listed_in self.new ≡ listed_in self.old }
     {
         let path = mem::replace(&mut self.path, Vec::new(self.alloc));
         let listed = listed_entry(&self.volume, entry, path)?;
-        let text = EntryText {
+        let text = EntryLine {
             style: self.style,
             entry: &listed,
+            facts: facts_at(self.facts.as_slice(), entry as usize),
         };
         self.line.clear();
-        writeln!(self.line, "{text}")?;
+        write!(self.line, "{text}")?;
         self.path = listed.path.into_bytes();
         Ok(())
     }
 
-    /// Makes the last line, how many blocks are free; of names alone there is none.
+    /// Makes the last line, how many blocks are free; behind entries as data there is none.
     ///
     /// # Errors
     /// Want of memory alone.
@@ -135,7 +197,7 @@ impl<A: Allocator + Copy> ProLines<A> {
                 let free = self.volume.map().free_count();
                 writeln!(self.line, "FREE {free}")?;
             }
-            Style::Names => {}
+            Style::Entries(_) => {}
         }
         Ok(())
     }

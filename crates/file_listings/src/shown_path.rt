@@ -1,10 +1,11 @@
 // The paths of files, as a listing shows them.
 ghost use Rattle.std.specs.Prelude.{◌≡◌, Some, map};
-ghost use Rattle.file_listings.specs.DosText.{shown};
+ghost use Rattle.row_text.specs.Shown.{shown};
 ghost use Rattle.file_listings.specs.Steps.{shown_path};
 
-use crate::{shown_byte, shown_part};
+use crate::shown_part;
 use reserved_places::PlaceForm;
+use row_text::ShownBytes;
 use std::fmt;
 
 // The bytes of a path that are shown: a name of DOS is stored with spaces behind it.
@@ -28,10 +29,7 @@ impl fmt::Display for ShownPath<'_> {
     ghost output = { λ p. Some (shown_path p.form p.path.now) };
 
     fn fmt<W: fmt::Write>(&self, f: &mut fmt::Formatter<W>) -> fmt::Result {
-        let shown = path_part(self.form, self.path);
-        for byte in shown {
-            write!(f, "{}", char::from(shown_byte(*byte)))?;
-        }
-        Ok(())
+        let path = ShownBytes(path_part(self.form, self.path));
+        write!(f, "{path}")
     }
 }

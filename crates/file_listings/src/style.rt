@@ -1,10 +1,23 @@
-// How the entries of a volume are listed.
+// How a volume is listed.
 
-/// How the entries of a volume are listed.
+/// How the entries of a volume are told as data, a line each.
+#[derive(Clone, Copy, Debug, PartialEq, Eq)]
+pub enum EntryStyle {
+    /// The path of each, with a slash behind a directory's.
+    Names,
+    /// The digest of each file and its path.
+    Sums,
+    /// An object of JSON for the volume, and one for each entry.
+    Json,
+    /// Comma-separated values, behind a line with the names of the fields.
+    Csv { digests: bool },
+}
+
+/// How a volume is listed.
 #[derive(Clone, Copy, Debug, PartialEq, Eq)]
 pub enum Style {
     /// As the file system does: the volume's name, a line of facts for each entry, and what is free.
     Catalog,
-    /// The path of each entry on a line, and nothing else.
-    Names,
+    /// Its entries as data.
+    Entries(EntryStyle),
 }

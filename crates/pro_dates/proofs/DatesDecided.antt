@@ -9,7 +9,7 @@ use Rattle.pro_dates.specs.Dates.{year_bits, month_bits, day_bits, full_year, ho
 use Rattle.pro_dates.specs.Moments.{IsMoment}
 use Rattle.pro_dates.specs.ShownDates.{is_day, is_moment}
 
-below_10000 : (year : ℕ) → year < 100 → full_year year < 10000
+pub below_10000 : (year : ℕ) → year < 100 → full_year year < 10000
 below_10000 year low = grind (arith, nat_tests)
 
 is_year : (year : ℕ) → year < 100 → IsYear (pos (full_year year))

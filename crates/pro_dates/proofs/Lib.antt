@@ -2,3 +2,4 @@ mod Small
 mod DatesDecided
 mod NoMinutes
 mod SaidDates
+mod Digits

@@ -1,4 +1,5 @@
 pub mod Dates
 pub mod Moments
 pub mod ShownDates
+pub mod Stamps
 pub mod SaidDates

@@ -16,8 +16,8 @@ pub struct Minute {
     pub minute: u8,
 }
 
-// The minute that stored bytes name, if they name one.
-fn minute_of(date: ProDate) -> Option<Minute>
+/// The minute that stored bytes name, if they name one.
+pub(crate) fn minute_of(date: ProDate) -> Option<Minute>
     ensures { result ≡ minute_of date.0 }
 {
     let moment = to_civil(date)?.to_plain();

@@ -55,6 +55,13 @@ impl Access {
         Access(bits)
     }
 
+    /// The access bits, as they are stored.
+    pub fn byte(self) -> u8
+        ensures { result ≡ self.0 }
+    {
+        self.0
+    }
+
     /// Whether the file may be deleted.
     pub fn can_destroy(self) -> bool
         ensures { result ≡ (bit_and self.0 0x80 == 0x80) }

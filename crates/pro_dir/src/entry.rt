@@ -38,6 +38,8 @@ pub(crate) const END: usize = 0x15;
 
 pub(crate) const CREATED: usize = 0x18;
 
+const VERSION: usize = 0x1c;
+
 pub(crate) const ACCESS: usize = 0x1e;
 
 pub(crate) const AUX: usize = 0x1f;
@@ -162,6 +164,15 @@ impl Entry {
         ensures { result ≡ word self.now.bytes 0x1f }
     {
         LittleEndian::read_u16(&self.bytes[AUX..])
+    }
+
+    /// The date and the time of the creation.
+    pub fn created(&self) -> ProDate
+        ensures { result.0 ≡ slice_range self.now.bytes 0x18 0x1c }
+    {
+        let mut bytes = [0; 4];
+        bytes.copy_from_slice(&self.bytes[CREATED..VERSION]);
+        ProDate(bytes)
     }
 
     /// The date and the time of the last modification.

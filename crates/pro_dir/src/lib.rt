@@ -17,6 +17,7 @@ mod slot;
 mod tree;
 mod volume;
 mod waiting;
+mod walk;
 
 pub use access::Access;
 pub use date::ProDate;

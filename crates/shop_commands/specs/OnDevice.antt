@@ -8,7 +8,7 @@ use Rattle.shop_replies.specs.declared.refusal.Refusal.{Refusal}
 use Rattle.shop_replies.specs.declared.reply.Reply.{Reply}
 use Rattle.shop_replies.specs.Reply.{refused}
 use Rattle.shop_replies.specs.Volume.{HasUnitsOf}
-use Rattle.shop_reads.specs.Look.{IsLookReply, shown_by}
+use Rattle.shop_reads.specs.Look.{HasNotFailed, IsLookReply, ReadsFor, shown_by}
 use Rattle.shop_reads.specs.Reserving.{IsDeviceReply}
 use Rattle.shop_changes.specs.Changing.{IsChangeOutcome, IsWorkOutcome}
 use Rattle.shop_changes.specs.EditRules.{changed_by}
@@ -27,6 +27,15 @@ abbrev pub IsToldOnDevice : AskView → List ℕ → DeviceState → Reply → T
 IsToldOnDevice (LookAt volume reserve look) bytes device reply =
     IsDeviceReply volume.file_system reserve (λ reserved. IsLookReply look bytes (shown_by volume reserved) device reply) reply
 IsToldOnDevice ask bytes device reply = ⊥
+
+-- what its own look does to the device, and that nothing failed under it, or is not told so
+abbrev pub ReadsForAsk : AskView → Reply → DeviceState → DeviceState → Type 0
+ReadsForAsk (LookAt volume reserve look) reply old new = ReadsFor look reply old new
+ReadsForAsk ask reply old new = ⊥
+
+abbrev pub HasNotFailedIn : AskView → Reply → DeviceState → DeviceState → Type 0
+HasNotFailedIn (LookAt volume reserve look) reply old new = HasNotFailed look reply old new
+HasNotFailedIn ask reply old new = ⊥
 
 -- A job that changes its volume, with these bytes of a file beside it: its words are refused, and the device is as it was;
 -- or the work that it asks for was done on the device, on the volume and with the reserved places of its words.

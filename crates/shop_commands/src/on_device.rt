@@ -1,12 +1,8 @@
 // Jobs on the device that has their volume.
-ghost use Rattle.std.specs.Prelude.{◌≡◌, ◌≢◌, IsTrue};
-ghost use Rattle.a2_device.specs.Device.{OnlyReads};
+ghost use Rattle.std.specs.Prelude.{◌≡◌, IsTrue};
 ghost use Rattle.shop_jobs.specs.Job.{ask_view};
-ghost use Rattle.shop_replies.specs.declared.refusal.Failure.TheVariants.{Device as OfDevice};
-ghost use Rattle.shop_replies.specs.Reply.{failed};
-ghost use Rattle.shop_reads.specs.TellingFailures.{tells_device};
 ghost use Rattle.shop_commands.specs.Answer.{ChangesVolume, ReadsVolume};
-ghost use Rattle.shop_commands.specs.OnDevice.{HasUnitsFor, IsJobOutcome, IsToldOnDevice};
+ghost use Rattle.shop_commands.specs.OnDevice.{HasNotFailedIn, HasUnitsFor, IsJobOutcome, IsToldOnDevice, ReadsForAsk};
 
 use crate::work::change_work;
 use a2_device::Device;
@@ -26,8 +22,9 @@ pub fn read_job_on_device<D: Device>(
 ) -> Reply
     requires reading { ReadsVolume (ask_view job.now.ask) }
     requires units { HasUnitsFor (ask_view job.now.ask) (D.state device.old) }
-    ensures reads { OnlyReads (tells_device result) (D.state device.old) (D.state device.new) }
-    ensures told { IsTrue (D.state device.old).honest → result ≢ failed OfDevice
+    ensures reads { ReadsForAsk (ask_view job.now.ask) result (D.state device.old) (D.state device.new) }
+    ensures told { IsTrue (D.state device.old).honest
+        → HasNotFailedIn (ask_view job.now.ask) result (D.state device.old) (D.state device.new)
         → IsToldOnDevice (ask_view job.now.ask) extra.now (D.state device.old) result }
 {
     match &job.ask {

@@ -17,7 +17,6 @@ use Rattle.shop_jobs.specs.declared.job.FileSystem.TheVariants.{Dos}
 use Rattle.shop_jobs.specs.declared.job.VolumeOptions.{VolumeOptions}
 use Rattle.shop_replies.specs.declared.reply.Reply.{Reply}
 use Rattle.shop_replies.specs.Volume.{device_of}
-use Rattle.file_listings.specs.declared.style.Style.TheVariants as styles
 use Rattle.shop_reads.specs.CatalogReply.{IsListed}
 use Rattle.shop_reads.specs.Look.{IsLookReply, shown_by}
 use Rattle.shop_image.specs.DosCatalogReply.{IsDosCatalogReply, IsDosListed}
@@ -28,7 +27,7 @@ unfolding sectors_by_place
 length-disk image = length-stored_units 256 (sectors_by_place image.sectors) ∙ length-map-range_with_len (sector_at image.sectors) 0 560
 
 listed-dos : (data_disk : Bool) (reserved : List Bool) (device : DeviceState) (reply : Reply) → length device.store ≡ 560
-    → IsListed styles.Catalog Sector (dos_meaning data_disk reserved) device reply → IsDosListed device reply
+    → IsListed Sector (dos_meaning data_disk reserved) device reply → IsDosListed device reply
 listed-dos data_disk reserved device reply size is = elim is [
   | inl shown ↦ elim shown.told [
     | inl told ↦ inl (told.0, subst (λ (text : List ℕ). IsListingText device.store text) (sym told.1) (dos_listing_text data_disk reserved device.store shown.directory shown.described))

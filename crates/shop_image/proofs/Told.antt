@@ -1,12 +1,13 @@
 -- What is told of the device of an image is told of the image.
 use Rattle.std.proofs.Common.{◌≡◌, ℕ, Bool, List, inl, inr, subst}
 use Rattle.std.specs.Prelude.{◌⊎◌, IsTrue, Option}
-use Rattle.a2_device.specs.Device.{DeviceState, OnlyReads}
+use Rattle.a2_device.specs.Device.{DeviceState}
 use Rattle.shop_jobs.specs.declared.job.VolumeOptions.{VolumeOptions}
 use Rattle.shop_replies.specs.declared.refusal.Failure.TheVariants as failures
 use Rattle.shop_replies.specs.declared.reply.Reply.{Reply}
 use Rattle.shop_replies.specs.Reply.{failed}
-use Rattle.shop_reads.specs.TellingFailures.{FailsForLack, tells_device}
+use Rattle.shop_jobs.specs.Job.{LookView}
+use Rattle.shop_reads.specs.Look.{FailsForLackIn, ReadsFor}
 use Rattle.shop_changes.specs.Changing.{IsWorkOutcome, LacksMemory}
 use Rattle.shop_changes.specs.EditRules.{ChangedMeaning, changed_by}
 use Rattle.shop_changes.specs.Work.{WorkView, Optimize, EditOf, Save}
@@ -14,7 +15,7 @@ use Rattle.shop_changes.specs.declared.outcome.Outcome.{Outcome}
 use Rattle.shop_image.specs.ChangeReply.{IsChangeReply, TellsOutcome}
 use Rattle.shop_image.specs.VolumeReply.{IsVolumeIn, IsVolumeReply}
 use Rattle.shop_image.proofs.Edited.{edited_told}
-use Rattle.shop_image.proofs.Fresh.{IsFresh, fails_for_lack, image_fresh}
+use Rattle.shop_image.proofs.Fresh.{IsFresh, failed_for_lack, image_fresh}
 use Rattle.shop_image.proofs.Optimized.{optimized}
 use Rattle.shop_image.proofs.Saved.{saved_told}
 
@@ -31,10 +32,10 @@ module _ (volume : VolumeOptions) (reserve : Option (List ℕ)) (image : List �
   lacks_memory Tells memory = inl (inr (inr memory))
 
   -- of a look
-  pub looked : (Tells : List Bool → DeviceState → Reply → Type 0) (new : DeviceState) → OnlyReads (tells_device reply) device new
-      → (IsTrue device.honest → FailsForLack device reply → (reply ≡ failed failures.Memory) ⊎ Tells reserved device reply)
+  pub looked : (look : LookView) (Tells : List Bool → DeviceState → Reply → Type 0) (new : DeviceState) → ReadsFor look reply device new
+      → (IsTrue device.honest → FailsForLackIn look reply device new → (reply ≡ failed failures.Memory) ⊎ Tells reserved device reply)
       → IsVolumeReply volume reserve image Tells reply
-  looked Tells new reads told = elim (told fresh.honest (fails_for_lack device new reply fresh reads)) [
+  looked look Tells new reads told = elim (told fresh.honest (failed_for_lack device new reply fresh look reads)) [
     | inl memory ↦ lacks_memory Tells memory
     | inr tells ↦ tells_of_image Tells tells
   ]

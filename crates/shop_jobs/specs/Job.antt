@@ -2,6 +2,7 @@
 use Rattle.std.specs.Prelude.{ℕ, Bool, List, Option, string_bytes, option_map}
 use Rattle.a2_device.specs.declared.order.Order.{Order}
 use Rattle.shop_jobs.specs.declared.job.VolumeOptions.{VolumeOptions}
+use Rattle.shop_jobs.specs.declared.job.ListOptions.{ListOptions}
 use Rattle.shop_jobs.specs.declared.job.Edit.{Edit}
 use Rattle.shop_jobs.specs.declared.job.Edit.TheVariants as edits
 use Rattle.shop_jobs.specs.declared.job.SaveAttributes.{SaveAttributes}
@@ -49,11 +50,11 @@ pub record AttributesView : Type 0 where
 abbrev pub attributes_view : SaveAttributes → AttributesView
 attributes_view a = record { kind = option_map string_bytes a.kind; aux = a.aux; date = option_map string_bytes a.date }
 
--- what is asked of a volume that is only read: of a file its name, and whether it is read whole; of a plan whether it
+-- what is asked of a volume that is only read: of its entries how they are told; of a file its name, and whether it is read whole; of a plan whether it
 -- reclaims, and whether it is told in words; of a certificate the path of its file, and whether it reclaims
 pub data LookView : Type 0 where
   Catalog : LookView
-  Names : LookView
+  Entries : ListOptions → LookView
   Check : LookView
   Read : Text → Bool → LookView
   Plan : Bool → Bool → LookView
@@ -61,7 +62,7 @@ pub data LookView : Type 0 where
 
 abbrev pub look_view : Look → LookView
 look_view looks.Catalog = Catalog
-look_view looks.Names = Names
+look_view (looks.Entries options) = Entries options
 look_view looks.Check = Check
 look_view (looks.Read name whole) = Read (string_bytes name) whole
 look_view (looks.Plan reclaim in_words) = Plan reclaim in_words

@@ -52,13 +52,34 @@ pub enum Target {
     InPlace,
 }
 
+/// In which form the entries of a volume are told.
+#[derive(Clone, Copy, Debug, PartialEq, Eq)]
+pub enum ListForm {
+    /// The path of each on a line.
+    Names,
+    /// An object of JSON on a line.
+    Json,
+    /// Comma-separated values.
+    Csv,
+}
+
+/// How the entries of a volume are told as data.
+#[derive(Clone, Copy, Debug, PartialEq, Eq)]
+pub struct ListOptions {
+    pub form: ListForm,
+    /// Whether the digest of each file is told.
+    pub digests: bool,
+    /// How many bytes the files that are read for their digests may have in all.
+    pub most: u64,
+}
+
 /// What is asked of a volume that is only read.
 #[derive(Debug, PartialEq, Eq, Drop)]
 pub enum Look {
     /// Its files, listed.
     Catalog,
-    /// The paths of its entries.
-    Names,
+    /// Its entries, as data.
+    Entries(ListOptions),
     /// Whether it is accepted, or what is wrong with it.
     Check,
     /// The contents of a file.

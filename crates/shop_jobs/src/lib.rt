@@ -8,7 +8,10 @@
 mod job;
 mod paths;
 
-pub use job::{Ask, Change, Edit, FileSystem, Job, Look, SaveAttributes, Target, VolumeOptions};
+pub use job::{
+    Ask, Change, Edit, FileSystem, Job, ListForm, ListOptions, Look, SaveAttributes, Target,
+    VolumeOptions,
+};
 pub use paths::{
     certificate_path, from_path, image_order, is_in_place, is_on_standard_input, out_path,
     reserve_of, volume_of,

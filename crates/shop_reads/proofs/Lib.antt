@@ -5,3 +5,4 @@ pub mod Unopened
 mod Quiet
 pub mod NotMade
 pub mod Fronts
+mod FirstFiles

@@ -7,16 +7,16 @@ use Rattle.vol_layout.specs.Layouts.{Placement}
 use Rattle.vol_mover.specs.declared.error.OpenError.{OpenError}
 use Rattle.vol_mover.specs.declared.error.OpenError.TheVariants as opens
 use Rattle.file_formats.specs.Files.{FileMeaning}
-use Rattle.shop_jobs.specs.Job.{LookView, Catalog, Names, Check, Read, Plan, Verify}
+use Rattle.shop_jobs.specs.Job.{LookView, Catalog, Entries, Check, Read, Plan, Verify}
 use Rattle.shop_replies.specs.declared.refusal.Refusal.TheVariants as refusals
 use Rattle.shop_replies.specs.declared.refusal.Failure.TheVariants as failures
 use Rattle.shop_replies.specs.declared.reply.Reply.{Reply}
 use Rattle.shop_replies.specs.declared.reply.Status.TheVariants.{Done, Refused, Wrong}
 use Rattle.shop_replies.specs.Reply.{IsMade}
 use Rattle.shop_replies.proofs.NotMade.{failed_not_made, refused_not_made, told_not_made}
-use Rattle.file_listings.specs.declared.style.Style.{Style}
-use Rattle.file_listings.specs.declared.style.Style.TheVariants as styles
+use Rattle.shop_jobs.specs.declared.job.ListOptions.{ListOptions}
 use Rattle.shop_reads.specs.CatalogReply.{IsListed}
+use Rattle.shop_reads.specs.EntriesReply.{IsEntriesTold, list_status}
 use Rattle.shop_reads.specs.CheckReply.{IsChecked}
 use Rattle.shop_reads.specs.Look.{IsLookReply, ShownMeaning}
 use Rattle.shop_reads.specs.PlanReply.{IsPlanned, TellsOpening}
@@ -81,8 +81,8 @@ verified_not_made reclaim bytes format device reply is made = elim is [
   ]
 ]
 
-listed_not_made : (style : Style) (form : PlaceForm) (format : Meaning) (device : DeviceState) (reply : Reply) → IsListed style form format device reply → ¬ IsMade reply
-listed_not_made style form format device reply is made = elim is [
+listed_not_made : (form : PlaceForm) (format : Meaning) (device : DeviceState) (reply : Reply) → IsListed form format device reply → ¬ IsMade reply
+listed_not_made form format device reply is made = elim is [
   | inl listed ↦ elim listed.told [
     | inl told ↦ told_not_made Done reply told.0 made
     | inr failed ↦ failed_not_made failures.Memory reply failed made
@@ -90,6 +90,19 @@ listed_not_made style form format device reply is made = elim is [
   | inr (inl refused) ↦ refused_not_made refusals.Check reply refused.0 made
   | inr (inr (inl failed)) ↦ failed_not_made failures.Device reply failed.0 made
   | inr (inr (inr failed)) ↦ failed_not_made failures.Memory reply failed made
+]
+
+entries_not_made : (options : ListOptions) (form : PlaceForm) (files : FileMeaning) (format : Meaning) (device : DeviceState) (reply : Reply)
+    → IsEntriesTold options form files format device reply → ¬ IsMade reply
+entries_not_made options form files format device reply is made = elim is [
+  | inl listed ↦ elim listed.told [
+    | inl told ↦ told_not_made (list_status listed.complete) reply told.0 made
+    | inr failed ↦ failed_not_made failures.Memory reply failed made
+  ]
+  | inr (inl refused) ↦ refused_not_made refusals.Check reply refused.0 made
+  | inr (inr (inl refused)) ↦ refused_not_made refusals.TooLarge reply refused.0 made
+  | inr (inr (inr (inl failed))) ↦ failed_not_made failures.Device reply failed.0 made
+  | inr (inr (inr (inr failed))) ↦ failed_not_made failures.Memory reply failed made
 ]
 
 read_not_made : (name : List ℕ) (whole : Bool) (files : FileMeaning) (format : Meaning) (device : DeviceState) (reply : Reply) → IsRead name whole files format device reply → ¬ IsMade reply
@@ -102,8 +115,8 @@ read_not_made name whole files format device reply is made = elim is [
 ]
 
 pub look_not_made : (look : LookView) (bytes : List ℕ) (format : ShownMeaning) (device : DeviceState) (reply : Reply) → IsLookReply look bytes format device reply → ¬ IsMade reply
-look_not_made Catalog bytes format device reply is = listed_not_made styles.Catalog format.form format.units device reply is
-look_not_made Names bytes format device reply is = listed_not_made styles.Names format.form format.units device reply is
+look_not_made Catalog bytes format device reply is = listed_not_made format.form format.units device reply is
+look_not_made (Entries options) bytes format device reply is = entries_not_made options format.form format.files format.units device reply is
 look_not_made Check bytes format device reply is = checked_not_made format.form format.units device reply is
 look_not_made (Read name whole) bytes format device reply is = read_not_made name whole format.files format.units device reply is
 look_not_made (Plan reclaim false) bytes format device reply is = planned_not_made reclaim format.units device reply is

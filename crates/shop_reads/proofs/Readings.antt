@@ -1,27 +1,42 @@
 -- What is told of a listing and of a read that are refused.
 use Rattle.std.proofs.Common.{◌≡◌, ◌≢◌, ℕ, List, inl, inr, refl}
-use Rattle.std.specs.Prelude.{Bool}
-use Rattle.a2_device.specs.Device.{DeviceState}
+use Rattle.std.specs.Prelude.{Bool, true, Err, IsTrue}
+use Rattle.a2_device.specs.Device.{DeviceState, OnlyReads}
 use Rattle.reserved_places.specs.declared.form.PlaceForm.{PlaceForm}
 use Rattle.vol_format.specs.Meaning.{Meaning}
 use Rattle.file_formats.specs.Files.{FileMeaning}
 use Rattle.file_formats.specs.Listing.{HasHeaderFault}
+use Rattle.file_cmds.specs.ReadingOn.{FailedBetween}
+use Rattle.file_cmds.specs.Refusal.{told_device}
+use Rattle.file_cmds.specs.lemmas.Reading.{one_failed}
+use Rattle.shop_jobs.specs.Job.{LookView, Catalog, Entries, Check, Read, Plan, Verify}
+use Rattle.shop_replies.specs.declared.reply.Reply.{Reply}
+use Rattle.shop_reads.specs.Look.{FailsForLackIn, HasNotFailed}
 use Rattle.file_cmds.specs.Read.{HasNoFile, IsUnreadable}
 use Rattle.file_cmds.specs.declared.error.CmdError.{CmdError}
 use Rattle.file_cmds.specs.declared.error.CmdError.TheVariants as commands
-use Rattle.file_listings.specs.declared.style.Style.{Style}
+use Rattle.shop_jobs.specs.declared.job.ListOptions.{ListOptions}
 use Rattle.shop_reads.specs.CatalogReply.{IsListed}
+use Rattle.shop_reads.specs.EntriesReply.{IsEntriesTold}
 use Rattle.shop_reads.specs.ReadReply.{IsRead}
-use Rattle.shop_reads.specs.TellingFailures.{FailsForLack}
+use Rattle.shop_reads.specs.TellingFailures.{FailsForLack, tells_device}
 use Rattle.shop_reads.specs.Refusals.{reply_to_refusal}
 
 module _ (files : FileMeaning) (format : Meaning) (device : DeviceState) where
-  pub not_listed : (style : Style) (form : PlaceForm) (error : CmdError) → error ≢ commands.NotFound → (error ≡ commands.Check → HasHeaderFault format device.store)
-      → FailsForLack device (reply_to_refusal error) → IsListed style form format device (reply_to_refusal error)
-  not_listed style form commands.Check found fault lack = inr (inl (refl, fault refl))
-  not_listed style form commands.NotFound found fault lack = absurd (found refl)
-  not_listed style form commands.Device found fault lack = inr (inr (inl (refl, lack refl)))
-  not_listed style form commands.Memory found fault lack = inr (inr (inr refl))
+  pub not_listed : (form : PlaceForm) (error : CmdError) → error ≢ commands.NotFound → (error ≡ commands.Check → HasHeaderFault format device.store)
+      → FailsForLack device (reply_to_refusal error) → IsListed form format device (reply_to_refusal error)
+  not_listed form commands.Check found fault lack = inr (inl (refl, fault refl))
+  not_listed form commands.NotFound found fault lack = absurd (found refl)
+  not_listed form commands.Device found fault lack = inr (inr (inl (refl, lack refl)))
+  not_listed form commands.Memory found fault lack = inr (inr (inr refl))
+
+  pub not_told : (options : ListOptions) (form : PlaceForm) (error : CmdError) → error ≢ commands.NotFound
+      → (error ≡ commands.Check → HasHeaderFault format device.store) → FailsForLack device (reply_to_refusal error)
+      → IsEntriesTold options form files format device (reply_to_refusal error)
+  not_told options form commands.Check found fault lack = inr (inl (refl, fault refl))
+  not_told options form commands.NotFound found fault lack = absurd (found refl)
+  not_told options form commands.Device found fault lack = inr (inr (inr (inl (refl, lack refl))))
+  not_told options form commands.Memory found fault lack = inr (inr (inr (inr refl)))
 
   pub not_read : (name : List ℕ) (whole : Bool) (error : CmdError) → (error ≡ commands.Check → IsUnreadable format files device.store name)
       → (error ≡ commands.NotFound → HasNoFile format files device.store name) → FailsForLack device (reply_to_refusal error)
@@ -30,3 +45,19 @@ module _ (files : FileMeaning) (format : Meaning) (device : DeviceState) where
   not_read name whole commands.NotFound broken missing lack = inr (inr (inl (refl, missing refl)))
   not_read name whole commands.Device broken missing lack = inr (inr (inr (inl (refl, lack refl))))
   not_read name whole commands.Memory broken missing lack = inr (inr (inr (inr refl)))
+
+-- where the reply to a refusal tells a failure of the device, a read failed
+pub refusal_failed : (T : Type 0) (old new : DeviceState) (error : CmdError) → IsTrue old.honest → OnlyReads (told_device {T = T} (Err error)) old new
+    → tells_device (reply_to_refusal error) ≡ true → FailedBetween old new
+refusal_failed T old new commands.Check honest reads tells = cc
+refusal_failed T old new commands.NotFound honest reads tells = cc
+refusal_failed T old new commands.Device honest reads tells = one_failed old new honest reads
+refusal_failed T old new commands.Memory honest reads tells = cc
+
+pub not_failed : (look : LookView) (reply : Reply) (old new : DeviceState) → HasNotFailed look reply old new → FailsForLackIn look reply old new
+not_failed (Entries options) reply old new works = works
+not_failed Catalog reply old new works = λ is. absurd (works is)
+not_failed Check reply old new works = λ is. absurd (works is)
+not_failed (Read name whole) reply old new works = λ is. absurd (works is)
+not_failed (Plan reclaim in_words) reply old new works = λ is. absurd (works is)
+not_failed (Verify from reclaim) reply old new works = λ is. absurd (works is)

@@ -1,6 +1,7 @@
 pub mod Refusals
 pub mod TellingFailures
 pub mod CatalogReply
+pub mod EntriesReply
 pub mod CheckText
 pub mod CheckReply
 pub mod PlanReply

@@ -1,8 +1,10 @@
 // The job that lists the files of a volume.
-ghost use Rattle.std.specs.Prelude.{◌≡◌, IfOk, IsTrue, string_bytes};
-ghost use Rattle.file_listings.specs.DosText.{directory_text as dos_text};
+ghost use Rattle.std.specs.Prelude.{◌≡◌, [], IfOk, IsTrue, string_bytes};
+ghost use Rattle.file_listings.specs.DosEntries.{directory_text as dos_text};
+ghost use Rattle.file_listings.specs.declared.style.Style.TheVariants.{Catalog as AsCatalog};
+ghost use Rattle.shop_replies.specs.declared.reply.Status.TheVariants.{Done as IsDone};
 ghost use Rattle.a2_device.specs.Device.{OnlyReads};
-ghost use Rattle.shop_reads.specs.CatalogReply.{IsListed};
+ghost use Rattle.shop_reads.specs.CatalogReply.{IsListed, TellsListing};
 ghost use Rattle.shop_reads.specs.TellingFailures.{FailsForLack, tells_device};
 ghost use Rattle.shop_reads.specs.Refusals.{reply_to_refusal};
 ghost use Rattle.vol_format.specs.Fits.{Fits};
@@ -12,10 +14,10 @@ use a2_device::Device;
 use dos_format::{Dos33, DosVolume};
 use file_cmds::{CmdError, listing_of, read_volume};
 use file_formats::FileFormat;
-use file_listings::{ProLines, ProSteps, Step, Style, dos_listing_text, dos_names_text};
+use file_listings::{Facts, ProLines, ProSteps, Step, Style, dos_entries_text, dos_listing_text};
 use pro_format::{ProVolume, Prodos};
 use reserved_places::PlaceForm;
-use shop_replies::{Failure, Refusal, Reply};
+use shop_replies::{Failure, Refusal, Reply, Status, Told};
 use std::alloc::{AllocError, Global};
 use vol_format::Format;
 
@@ -37,23 +39,25 @@ fn dos_listing(
     format: &Dos33,
     volume: &DosVolume,
     style: Style,
+    facts: &[Facts],
 ) -> Result<String, AllocError>
     ensures { IfOk result (λ text. string_bytes text
-        ≡ dos_text style (⟦<Dos33 as Format>⟧.directory format.now volume.now)) }
+        ≡ dos_text style (⟦<Dos33 as Format>⟧.directory format.now volume.now) facts.now) }
 {
     let listing = listing_of(alloc, format, volume)?;
     match style {
         Style::Catalog => dos_listing_text(alloc, &listing),
-        Style::Names => dos_names_text(alloc, &listing),
+        Style::Entries(style) => dos_entries_text(alloc, style, &listing, facts),
     }
 }
 
 /// A format whose volumes are told of: what its places are called, and how the listing of a volume and a plan are told.
 pub trait ShownFormat: FileFormat {
-    ghost use Rattle.std.specs.Prelude.{◌≡◌, ◌<◌, All};
+    ghost use Rattle.std.specs.Prelude.{◌≡◌, ◌<◌, All, IfOk};
     ghost use Rattle.reserved_places.specs.declared.form.PlaceForm.{PlaceForm};
     ghost use Rattle.vol_format.specs.Directory.{entries};
-    ghost use Rattle.shop_reads.specs.CatalogReply.{TellsListing};
+    ghost use Rattle.shop_replies.specs.Reply.{told_text};
+    ghost use Rattle.shop_reads.specs.CatalogReply.{text_by};
     ghost use Rattle.shop_reads.specs.PlanWords.{TellsSteps};
 
     ghost form: { Self → PlaceForm };
@@ -62,9 +66,19 @@ pub trait ShownFormat: FileFormat {
     fn form(&self) -> PlaceForm
         ensures { result ≡ form self.now };
 
-    /// The listing of a volume that was read, or want of memory.
-    fn listing(&self, alloc: Global, volume: Self::Volume, style: Style) -> Reply
-        ensures { TellsListing style (form self.now) (Self.directory self.now volume) result };
+    /// The listing of a volume that was read, with what is known of the files of its entries.
+    ///
+    /// # Errors
+    /// Want of memory alone.
+    fn listing(
+        &self,
+        alloc: Global,
+        volume: Self::Volume,
+        style: Style,
+        facts: Vec<Facts>,
+    ) -> Result<Told, AllocError>
+        ensures { IfOk result (λ told. told_text told
+            ≡ text_by style (form self.now) (Self.directory self.now volume) facts.items) };
 
     /// The steps of a plan of a volume that was read, in words, or want of memory.
     fn plan(&self, alloc: Global, volume: Self::Volume, steps: Vec<Step>) -> Reply
@@ -82,11 +96,15 @@ impl ShownFormat for Dos33 {
         PlaceForm::Sector
     }
 
-    fn listing(&self, alloc: Global, volume: DosVolume, style: Style) -> Reply {
-        match dos_listing(alloc, self, &volume, style) {
-            Ok(text) => Reply::done(text),
-            Err(_) => Reply::failed(Failure::Memory),
-        }
+    fn listing(
+        &self,
+        alloc: Global,
+        volume: DosVolume,
+        style: Style,
+        facts: Vec<Facts>,
+    ) -> Result<Told, AllocError> {
+        let text = dos_listing(alloc, self, &volume, style, facts.as_slice())?;
+        Ok(Told::Text(text))
     }
 
     fn plan(&self, alloc: Global, volume: DosVolume, steps: Vec<Step>) -> Reply {
@@ -106,11 +124,15 @@ impl ShownFormat for Prodos {
         PlaceForm::Block
     }
 
-    fn listing(&self, alloc: Global, volume: ProVolume, style: Style) -> Reply {
-        match ProLines::new(alloc, style, volume) {
-            Ok(lines) => Reply::listing(lines),
-            Err(_) => Reply::failed(Failure::Memory),
-        }
+    fn listing(
+        &self,
+        alloc: Global,
+        volume: ProVolume,
+        style: Style,
+        facts: Vec<Facts>,
+    ) -> Result<Told, AllocError> {
+        let lines = ProLines::new(alloc, style, volume, facts)?;
+        Ok(Told::Listing(lines))
     }
 
     fn plan(&self, alloc: Global, volume: ProVolume, steps: Vec<Step>) -> Reply {
@@ -121,20 +143,25 @@ impl ShownFormat for Prodos {
     }
 }
 
-/// The listing of the volume on a device.
-pub fn listing_reply<D: Device, F: ShownFormat>(
-    alloc: Global,
-    device: &mut D,
-    format: &F,
-    style: Style,
-) -> Reply
+// The listing of a volume that was read, as its file system does.
+fn catalog_reply<F: ShownFormat>(alloc: Global, format: &F, volume: F::Volume) -> Reply
+    ensures { TellsListing IsDone AsCatalog (F.form format.now) (F.directory format.now volume) [] result }
+{
+    match format.listing(alloc, volume, Style::Catalog, Vec::new(alloc)) {
+        Ok(told) => Reply::told(Status::Done, told),
+        Err(_) => Reply::failed(Failure::Memory),
+    }
+}
+
+/// The listing of the volume on a device, as its file system does.
+pub fn listing_reply<D: Device, F: ShownFormat>(alloc: Global, device: &mut D, format: &F) -> Reply
     requires fits { Fits (F.meaning format.now) (D.state device.old) }
     ensures reads { OnlyReads (tells_device result) (D.state device.old) (D.state device.new) }
     ensures told { IsTrue (D.state device.old).honest → FailsForLack (D.state device.old) result
-        → IsListed style (F.form format.now) (F.meaning format.now) (D.state device.old) result }
+        → IsListed (F.form format.now) (F.meaning format.now) (D.state device.old) result }
 {
     match read_volume(device, format) {
-        Ok(volume) => format.listing(alloc, volume, style),
+        Ok(volume) => catalog_reply(alloc, format, volume),
         Err(error) => refusal_reply(error),
     }
 }

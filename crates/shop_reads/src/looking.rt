@@ -1,17 +1,16 @@
 // Looking at the volume of a device.
 ghost use Rattle.std.specs.Prelude.{◌≡◌, ◌≢◌, ◌⊎◌, false, IsTrue, option_map};
-ghost use Rattle.a2_device.specs.Device.{OnlyReads};
 ghost use Rattle.shop_jobs.specs.Job.{look_view};
 ghost use Rattle.shop_jobs.specs.declared.job.FileSystem.TheVariants.{Dos as OfDos, Prodos as OfProdos};
 ghost use Rattle.shop_replies.specs.declared.refusal.Failure.TheVariants.{Device as OfDevice, Memory as OfMemory};
 ghost use Rattle.shop_replies.specs.Reply.{failed};
 ghost use Rattle.shop_replies.specs.Volume.{HasUnitsOf, meaning_of};
-ghost use Rattle.shop_reads.specs.Look.{IsLookReply, shown_by, shown_in};
+ghost use Rattle.shop_reads.specs.Look.{FailsForLackIn, HasNotFailed, IsLookReply, ReadsFor, shown_by, shown_in};
 ghost use Rattle.shop_reads.specs.Reserving.{IsDeviceReply};
-ghost use Rattle.shop_reads.specs.TellingFailures.{FailsForLack, tells_device};
 ghost use Rattle.vol_format.specs.Fits.{Fits};
 
 use crate::check::check_reply;
+use crate::entries::entries_reply;
 use crate::listing::{ShownFormat, listing_reply};
 use crate::plan::plan_reply;
 use crate::plan_words::plan_words_reply;
@@ -20,7 +19,6 @@ use crate::reserving::{reserve_reply, reserved_by};
 use crate::verify::verify_reply;
 use a2_device::Device;
 use dos_format::Dos33;
-use file_listings::Style;
 use pro_format::Prodos;
 use reserved_places::Reserved;
 use shop_jobs::{FileSystem, Look, VolumeOptions};
@@ -28,7 +26,7 @@ use shop_replies::{Failure, Reply, form_of};
 use std::alloc::Global;
 
 /// What is told of a look at the volume of a device, by its format, with the bytes of a file beside it. Each failure of
-/// the device is told, and nothing else is told as one.
+/// the device is told, and nothing else is told as one; a list goes on behind a file that can't be read.
 pub fn look_reply<D: Device, F: ShownFormat>(
     alloc: Global,
     look: &Look,
@@ -37,15 +35,16 @@ pub fn look_reply<D: Device, F: ShownFormat>(
     format: &F,
 ) -> Reply
     requires fits { Fits (F.meaning format.now) (D.state device.old) }
-    ensures reads { OnlyReads (tells_device result) (D.state device.old) (D.state device.new) }
-    ensures told { IsTrue (D.state device.old).honest → FailsForLack (D.state device.old) result
+    ensures reads { ReadsFor (look_view look.now) result (D.state device.old) (D.state device.new) }
+    ensures told { IsTrue (D.state device.old).honest
+        → FailsForLackIn (look_view look.now) result (D.state device.old) (D.state device.new)
         → IsLookReply (look_view look.now) extra.now
         (record { form = F.form format.now; files = F.files format.now; units = F.meaning format.now })
         (D.state device.old) result }
 {
     match look {
-        Look::Catalog => listing_reply(alloc, device, format, Style::Catalog),
-        Look::Names => listing_reply(alloc, device, format, Style::Names),
+        Look::Catalog => listing_reply(alloc, device, format),
+        Look::Entries(options) => entries_reply(alloc, device, format, *options),
         Look::Check => check_reply(alloc, device, format, format.form()),
         Look::Read { name, whole } => read_reply(alloc, device, format, name.as_bytes(), *whole),
         Look::Plan {
@@ -70,8 +69,9 @@ fn look_at_dos<D: Device>(
     reserved: Reserved,
 ) -> Reply
     requires { HasUnitsOf OfDos (D.state device.old) }
-    ensures reads { OnlyReads (tells_device result) (D.state device.old) (D.state device.new) }
-    ensures told { IsTrue (D.state device.old).honest → FailsForLack (D.state device.old) result
+    ensures reads { ReadsFor (look_view look.now) result (D.state device.old) (D.state device.new) }
+    ensures told { IsTrue (D.state device.old).honest
+        → FailsForLackIn (look_view look.now) result (D.state device.old) (D.state device.new)
         → (result ≡ failed OfMemory) ⊎ IsLookReply (look_view look.now) extra.now
         (shown_in OfDos (meaning_of OfDos data_disk reserved)) (D.state device.old) result }
 {
@@ -90,8 +90,9 @@ fn look_at_prodos<D: Device>(
     reserved: Reserved,
 ) -> Reply
     requires { HasUnitsOf OfProdos (D.state device.old) }
-    ensures reads { OnlyReads (tells_device result) (D.state device.old) (D.state device.new) }
-    ensures told { IsTrue (D.state device.old).honest → FailsForLack (D.state device.old) result
+    ensures reads { ReadsFor (look_view look.now) result (D.state device.old) (D.state device.new) }
+    ensures told { IsTrue (D.state device.old).honest
+        → FailsForLackIn (look_view look.now) result (D.state device.old) (D.state device.new)
         → IsLookReply (look_view look.now) extra.now (shown_in OfProdos (meaning_of OfProdos false reserved))
         (D.state device.old) result }
 {
@@ -110,8 +111,9 @@ pub fn look_at_volume<D: Device>(
     reserved: Reserved,
 ) -> Reply
     requires { HasUnitsOf options.file_system (D.state device.old) }
-    ensures reads { OnlyReads (tells_device result) (D.state device.old) (D.state device.new) }
-    ensures told { IsTrue (D.state device.old).honest → FailsForLack (D.state device.old) result
+    ensures reads { ReadsFor (look_view look.now) result (D.state device.old) (D.state device.new) }
+    ensures told { IsTrue (D.state device.old).honest
+        → FailsForLackIn (look_view look.now) result (D.state device.old) (D.state device.new)
         → (result ≡ failed OfMemory) ⊎ IsLookReply (look_view look.now) extra.now (shown_by options reserved)
         (D.state device.old) result }
 {
@@ -132,8 +134,9 @@ pub fn look_on_device<D: Device>(
     reserve: Option<&str>,
 ) -> Reply
     requires { HasUnitsOf options.file_system (D.state device.old) }
-    ensures reads { OnlyReads (tells_device result) (D.state device.old) (D.state device.new) }
-    ensures told { IsTrue (D.state device.old).honest → result ≢ failed OfDevice
+    ensures reads { ReadsFor (look_view look.now) result (D.state device.old) (D.state device.new) }
+    ensures told { IsTrue (D.state device.old).honest
+        → HasNotFailed (look_view look.now) result (D.state device.old) (D.state device.new)
         → IsDeviceReply options.file_system (option_map (λ s. s.now) reserve.entry)
         (λ reserved. IsLookReply (look_view look.now) extra.now (shown_by options reserved)
         (D.state device.old) result) result }

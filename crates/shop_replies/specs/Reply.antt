@@ -30,6 +30,7 @@ refusal_line refusals.TooLong = codes "REFUSED TooLong\n"
 refusal_line refusals.DirFull = codes "REFUSED DirFull\n"
 refusal_line refusals.VolumeFull = codes "REFUSED VolumeFull\n"
 refusal_line refusals.NoFreePlace = codes "REFUSED NoFreePlace\n"
+refusal_line refusals.TooLarge = codes "REFUSED TooLarge\n"
 refusal_line refusals.InputTooLong = codes "REFUSED InputTooLong\n"
 refusal_line refusals.NoSector = codes "REFUSED NoSector\n"
 

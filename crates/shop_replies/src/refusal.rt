@@ -33,6 +33,8 @@ pub enum Refusal {
     VolumeFull,
     /// Some part is misplaced, and each place has a part.
     NoFreePlace,
+    /// The files that are read have too many bytes in all.
+    TooLarge,
     /// The file that is read beside the image is too long.
     InputTooLong,
     /// A track of the image lacks a sector.
@@ -69,6 +71,7 @@ impl Refusal {
             Refusal::DirFull => b"REFUSED DirFull\n",
             Refusal::VolumeFull => b"REFUSED VolumeFull\n",
             Refusal::NoFreePlace => b"REFUSED NoFreePlace\n",
+            Refusal::TooLarge => b"REFUSED TooLarge\n",
             Refusal::InputTooLong => b"REFUSED InputTooLong\n",
             Refusal::NoSector => b"REFUSED NoSector\n",
         }

@@ -131,8 +131,8 @@ impl Told {
 }
 
 impl Reply {
-    // What is told, with no image.
-    fn told(status: Status, told: Told) -> Reply
+    /// What is told, with no image.
+    pub fn told(status: Status, told: Told) -> Reply
         ensures { result ≡ record { status = status; told = told; image = None } }
     {
         Reply {
@@ -168,13 +168,6 @@ impl Reply {
         ensures { result ≡ record { status = Status.Done; told = Told.Bytes bytes; image = None } }
     {
         Reply::told(Status::Done, Told::Bytes(bytes))
-    }
-
-    /// The lines of a listing.
-    pub fn listing(lines: ProLines) -> Reply
-        ensures { result ≡ record { status = Status.Done; told = Told.Listing lines; image = None } }
-    {
-        Reply::told(Status::Done, Told::Listing(lines))
     }
 
     /// The steps of a plan in words.

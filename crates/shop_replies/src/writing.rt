@@ -1,9 +1,8 @@
 // Bytes and listings, written to writers that may fail.
-ghost use Rattle.std.specs.Prelude.{◌<◌, ◌≡◌, ◌++◌, IsTrue, flat_map};
+ghost use Rattle.std.specs.Prelude.{◌<◌, ◌≡◌, ◌++◌, [], IsTrue, flat_map, length, slice_index_or};
 ghost use Rattle.std.specs.Io.KnownBytes.{Appends};
-ghost use Rattle.vol_format.specs.Directory.{entries, entry_of};
-ghost use Rattle.file_listings.specs.ProLines.{listed_in, listed_text};
-ghost use Rattle.file_listings.specs.ProText.{entry_line, first_line, last_line};
+ghost use Rattle.file_listings.specs.ProLines.{lines_of, listed_in, listed_text};
+ghost use Rattle.file_listings.specs.ProText.{first_line, last_line};
 ghost use Rattle.shop_replies.specs.Reply.{AppendsFront, IsWritten};
 
 use crate::reply::FAILED;
@@ -54,11 +53,11 @@ pub(crate) fn write_both<W: Write>(first: &[u8], other: &[u8], writer: &mut W) -
 
 // Writes the line of an entry of a listing, or as much of it as the writer takes, and answers whether it took all.
 fn write_entry<W: Write>(lines: &mut ProLines, entry: u32, writer: &mut W) -> bool
-    requires { entry < entries (listed_in lines.old).directory }
+    requires { entry < length (lines_of (listed_in lines.old)) }
     ensures whole { IsTrue result → Appends (W.contents writer.old) (W.contents writer.new)
-        (entry_line (listed_in lines.old).style (entry_of (listed_in lines.old).directory entry)) }
+        (slice_index_or (lines_of (listed_in lines.old)) entry []) }
     ensures front { AppendsFront (W.contents writer.old) (W.contents writer.new)
-        (entry_line (listed_in lines.old).style (entry_of (listed_in lines.old).directory entry)) }
+        (slice_index_or (lines_of (listed_in lines.old)) entry []) }
     ensures lines { listed_in lines.new ≡ listed_in lines.old }
 {
     lines.make_entry(entry).is_ok() && write_whole(lines.line(), writer)
@@ -68,9 +67,9 @@ fn write_entry<W: Write>(lines: &mut ProLines, entry: u32, writer: &mut W) -> bo
 // all.
 fn write_entries<W: Write>(lines: &mut ProLines, writer: &mut W) -> bool
     ensures whole { IsTrue result → Appends (W.contents writer.old) (W.contents writer.new)
-        (flat_map (entry_line (listed_in lines.old).style) (listed_in lines.old).directory.listed) }
+        (flat_map (λ text. text) (lines_of (listed_in lines.old))) }
     ensures front { AppendsFront (W.contents writer.old) (W.contents writer.new)
-        (flat_map (entry_line (listed_in lines.old).style) (listed_in lines.old).directory.listed) }
+        (flat_map (λ text. text) (lines_of (listed_in lines.old))) }
     ensures lines { listed_in lines.new ≡ listed_in lines.old }
 {
     for entry in 0..lines.entries() {

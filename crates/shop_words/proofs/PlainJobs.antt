@@ -21,10 +21,10 @@ use Rattle.shop_words.proofs.PlainValues.{Test, flag_same, leaves_off, option_sa
 
 -- the names by which a job is said, and those of its flags
 abbrev pub option_names : List Text
-option_names = codes "image" ∷ codes "fs" ∷ codes "order" ∷ codes "to" ∷ codes "out" ∷ codes "volume" ∷ codes "reserve" ∷ codes "name" ∷ codes "new" ∷ codes "stop-after" ∷ codes "cert" ∷ codes "from" ∷ codes "type" ∷ codes "aux" ∷ codes "date" ∷ []
+option_names = codes "image" ∷ codes "fs" ∷ codes "order" ∷ codes "to" ∷ codes "out" ∷ codes "volume" ∷ codes "reserve" ∷ codes "name" ∷ codes "new" ∷ codes "stop-after" ∷ codes "cert" ∷ codes "from" ∷ codes "type" ∷ codes "aux" ∷ codes "date" ∷ codes "format" ∷ codes "most" ∷ []
 
 abbrev pub flag_names : List Text
-flag_names = codes "data-disk" ∷ codes "whole" ∷ codes "reclaim" ∷ codes "words" ∷ codes "in-place" ∷ []
+flag_names = codes "data-disk" ∷ codes "whole" ∷ codes "reclaim" ∷ codes "words" ∷ codes "in-place" ∷ codes "digests" ∷ []
 
 abbrev pub leaves_all_off : FormView → Test → List Text → Bool
 leaves_all_off f q names = list_all (λ id. list_all (leaves_off q id) (shape_named f.name).rules) names
@@ -57,11 +57,14 @@ job_by-same command s t options flags =
       options (codes "type") refl,
       options (codes "aux") refl,
       options (codes "date") refl,
+      options (codes "format") refl,
+      options (codes "most") refl,
       flags (codes "data-disk") refl,
       flags (codes "whole") refl,
       flags (codes "reclaim") refl,
       flags (codes "words") refl,
       flags (codes "in-place") refl,
+      flags (codes "digests") refl,
     ) refl
 
 -- what clap finds under a name

@@ -26,12 +26,15 @@ use Rattle.clap.specs.Walk.{Row, first_of}
 use Rattle.a2_device.specs.declared.order.Order.{Order}
 use Rattle.a2_device.specs.declared.order.Order.TheVariants as orders
 use Rattle.shop_words.specs.Grammar.{shop}
-use Rattle.shop_words.specs.Table.{Text, FormView, most_writes}
+use Rattle.shop_words.specs.Table.{Text, FormView, greatest_number, most_writes}
 use Rattle.shop_words.specs.Plain.{Use, alone, valued, use_name, positional_names, is_number}
+use Rattle.shop_jobs.specs.declared.job.ListForm.{ListForm}
+use Rattle.shop_jobs.specs.declared.job.ListForm.TheVariants as list_forms
+use Rattle.shop_jobs.specs.declared.job.ListOptions.{ListOptions}
 use Rattle.shop_jobs.specs.declared.job.FileSystem.{FileSystem}
 use Rattle.shop_jobs.specs.declared.job.FileSystem.TheVariants as file_systems
 use Rattle.shop_jobs.specs.declared.job.VolumeOptions.{VolumeOptions}
-use Rattle.shop_jobs.specs.Job.{AskView, AttributesView, Catalog, ChangeOf, ChangeView, Check, Convert, Delete, EditOf, EditView, Identify, InPlace, JobView, Lock, LookAt, LookView, Names, Optimize, Plan, Read, Rename, Save, TargetView, ToFile, Unlock, Verify}
+use Rattle.shop_jobs.specs.Job.{AskView, AttributesView, Catalog, ChangeOf, ChangeView, Check, Convert, Delete, EditOf, EditView, Identify, InPlace, JobView, Lock, Entries, LookAt, LookView, Optimize, Plan, Read, Rename, Save, TargetView, ToFile, Unlock, Verify}
 
 -- ---- what a word names
 
@@ -65,6 +68,22 @@ abbrev pub aux_named : Option Text → Option ℕ
 aux_named None = Some 0
 aux_named (Some word) = number_named 65535 word
 
+-- the form of a list that is said, the names where none is
+abbrev pub form_named : Text → Option ListForm
+form_named word =
+    if bytes_eq word (codes "names") then Some list_forms.Names else
+    if bytes_eq word (codes "json") then Some list_forms.Json else
+    if bytes_eq word (codes "csv") then Some list_forms.Csv else None
+
+abbrev pub form_said : Option Text → Option ListForm
+form_said None = Some list_forms.Names
+form_said (Some word) = form_named word
+
+-- the bytes that files may have in all, 2 to the power of 30 where none are said
+abbrev pub most_bytes : Option Text → Option ℕ
+most_bytes None = Some 1073741824
+most_bytes (Some word) = number_named greatest_number word
+
 -- ---- what is said under each parameter's name; a flag says `true`
 
 abbrev pub Said : Type 0
@@ -95,6 +114,14 @@ abbrev pub target_by : Said → Option TargetView
 target_by said = target_named (said (codes "out")) (is_on (said (codes "in-place")))
 
 -- ---- what is asked of a volume that is only read
+
+-- a list in the form that is said, with digests where a flag says so
+abbrev pub list_of : Option ListForm → Bool → Option ℕ → Option LookView
+list_of (Some form) digests (Some most) = Some (Entries (record { form = form; digests = digests; most = most }))
+list_of _ digests _ = None
+
+abbrev pub list_by : Said → Option LookView
+list_by said = list_of (form_said (said (codes "format"))) (is_on (said (codes "digests"))) (most_bytes (said (codes "most")))
 
 -- the whole of a file is read where a flag says so
 abbrev pub read_by : Said → Option LookView
@@ -164,7 +191,7 @@ convert_by said = conversion_of (option_and_then order_named (said (codes "order
 abbrev pub ask_by : Text → Said → Option AskView
 ask_by command said =
     if bytes_eq command (codes "catalog") then look_by (Some Catalog) None said else
-    if bytes_eq command (codes "list") then look_by (Some Names) None said else
+    if bytes_eq command (codes "list") then look_by (list_by said) None said else
     if bytes_eq command (codes "check") then look_by (Some Check) (said (codes "reserve")) said else
     if bytes_eq command (codes "read") then look_by (read_by said) None said else
     if bytes_eq command (codes "convert") then convert_by said else

@@ -48,9 +48,13 @@ parameter_view p = record { name = p.name.now; kind = kind_view p.kind }
 abbrev pub form_view : Form → FormView
 form_view f = record { name = f.name.now; parameters = map parameter_view f.parameters.now }
 
+-- the greatest number that an option takes, where it takes any
+abbrev pub greatest_number : ℕ
+greatest_number = 18446744073709551615
+
 -- the greatest limit of writes
 abbrev pub most_writes : ℕ
-most_writes = 18446744073709551615
+most_writes = greatest_number
 
 abbrev pub parameter : Text → KindView → ParameterView
 parameter name kind = record { name = name; kind = kind }
@@ -77,10 +81,20 @@ catalog_form = record {
   parameters = image ∷ file_system ∷ order ∷ data_disk ∷ [];
 }
 
+-- `--format FORM`, `--digests` and `--most BYTES`
+abbrev pub format : ParameterView
+format = parameter (codes "format") (optional (one_of (codes "names" ∷ codes "json" ∷ codes "csv" ∷ [])))
+
+abbrev pub digests : ParameterView
+digests = parameter (codes "digests") flag
+
+abbrev pub most : ParameterView
+most = parameter (codes "most") (optional (number greatest_number))
+
 abbrev pub list_form : FormView
 list_form = record {
   name = codes "list";
-  parameters = image ∷ file_system ∷ order ∷ data_disk ∷ [];
+  parameters = image ∷ file_system ∷ order ∷ format ∷ digests ∷ most ∷ data_disk ∷ [];
 }
 
 -- `--reserve LIST`

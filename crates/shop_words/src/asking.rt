@@ -8,11 +8,11 @@ ghost use Rattle.shop_words.specs.Job.{ask_by, found_job, job_by, rows_say};
 
 use crate::changing::{edit_in, optimize_in, rename_in};
 use crate::converting::convert_in;
-use crate::looking::{check_in, listing_in, plan_in, read_in, verify_in};
+use crate::looking::{catalog_in, check_in, list_in, plan_in, read_in, verify_in};
 use crate::reading::said;
 use crate::saving::save_in;
 use clap::ArgMatches;
-use shop_jobs::{Ask, Edit, Job, Look};
+use shop_jobs::{Ask, Edit, Job};
 use std::alloc::{AllocError, Global};
 
 /// What a command asks; `None` where the words are not its own.
@@ -21,8 +21,8 @@ fn ask_in(alloc: Global, command: &str, matches: &ArgMatches<'_>) -> Result<Opti
         ≡ ask_by command.now (rows_say (rows_of (found_of matches.now)))) }
 {
     match command {
-        "catalog" => Ok(listing_in(matches, Look::Catalog)),
-        "list" => Ok(listing_in(matches, Look::Names)),
+        "catalog" => Ok(catalog_in(matches)),
+        "list" => Ok(list_in(matches)),
         "check" => check_in(alloc, matches),
         "read" => read_in(alloc, matches),
         "convert" => convert_in(alloc, matches),

@@ -25,6 +25,9 @@ pub enum Help {
     Aux,
     Date,
     Whole,
+    Format,
+    Digests,
+    Most,
 }
 
 impl Help {
@@ -59,6 +62,10 @@ impl Help {
                 "Auxiliary type, 0 to 65535; for DOS 3.3 the address of a binary file; 0 if left out",
             Help::Date =>
                 "Date and time of its creation, for ProDOS, as 1986-05-01T12:30; none if left out",
+            Help::Format => "What a line tells: names, json or csv; names if left out",
+            Help::Digests => "Tell the SHA-256 of the contents of each file too",
+            Help::Most =>
+                "How many bytes the files that are read for --digests may have in all; 1073741824 if left out",
             Help::Whole => "Take all bytes of the file's sectors, and not its content alone",
         }
     }
@@ -68,7 +75,7 @@ impl Help {
 pub fn of(command: &str) -> &'static str {
     match command {
         "catalog" => "List the files of a volume",
-        "list" => "Tell the paths of the files of a volume, a line each",
+        "list" => "Tell the files of a volume, a line each: their names, or all about them as data",
         "check" => "Tell whether a volume is sound, or what is wrong with it",
         "read" => "Write the bytes of a file of a volume to standard output",
         "convert" =>

@@ -3,15 +3,18 @@ ghost use Rattle.std.specs.Prelude.{◌≡◌, codes, IfOk, None, option_map, So
 ghost use Rattle.clap.specs.Matches.{found_of};
 ghost use Rattle.clap.specs.Walk.{rows_of};
 ghost use Rattle.shop_jobs.specs.Job.{ask_view, look_view};
-ghost use Rattle.shop_words.specs.Job.{ask_by, look_by, rows_say};
+ghost use Rattle.shop_words.specs.Job.{ask_by, form_said, look_by, most_bytes, rows_say};
 
-use crate::reading::{has_flag, said, text_said, volume_in};
+use crate::reading::{has_flag, number_named, said, text_said, volume_in};
 use clap::ArgMatches;
-use shop_jobs::{Ask, Look};
+use shop_jobs::{Ask, ListForm, ListOptions, Look};
 use std::alloc::{AllocError, Global};
 
+/// How many bytes the files that are read for a list may have in all, where the words say nothing.
+const MOST_BYTES: u64 = 1 << 30;
+
 /// What is asked by a command that looks for this, and reserves no places.
-pub fn listing_in(matches: &ArgMatches<'_>, look: Look) -> Option<Ask>
+fn listing_in(matches: &ArgMatches<'_>, look: Look) -> Option<Ask>
     ensures { option_map ask_view result
         ≡ look_by (Some (look_view look)) None (rows_say (rows_of (found_of matches.now))) }
 {
@@ -20,6 +23,45 @@ pub fn listing_in(matches: &ArgMatches<'_>, look: Look) -> Option<Ask>
         reserve: None,
         look,
     })
+}
+
+pub fn catalog_in(matches: &ArgMatches<'_>) -> Option<Ask>
+    ensures { option_map ask_view result ≡ ask_by (codes "catalog") (rows_say (rows_of (found_of matches.now))) }
+{
+    listing_in(matches, Look::Catalog)
+}
+
+// The form of a list, the names where none is said.
+fn form_said(word: Option<&str>) -> Option<ListForm>
+    ensures { result ≡ form_said (option_map (λ s. s.now) word.entry) }
+{
+    match word {
+        None | Some("names") => Some(ListForm::Names),
+        Some("json") => Some(ListForm::Json),
+        Some("csv") => Some(ListForm::Csv),
+        Some(_) => None,
+    }
+}
+
+// How many bytes files may have in all.
+fn most_bytes(word: Option<&str>) -> Option<u64>
+    ensures { result ≡ most_bytes (option_map (λ s. s.now) word.entry) }
+{
+    match word {
+        Some(digits) => number_named(digits, u64::MAX),
+        None => Some(MOST_BYTES),
+    }
+}
+
+pub fn list_in(matches: &ArgMatches<'_>) -> Option<Ask>
+    ensures { option_map ask_view result ≡ ask_by (codes "list") (rows_say (rows_of (found_of matches.now))) }
+{
+    let options = ListOptions {
+        form: form_said(said(matches, "format"))?,
+        digests: has_flag(matches, "digests"),
+        most: most_bytes(said(matches, "most"))?,
+    };
+    listing_in(matches, Look::Entries(options))
 }
 
 /// What is asked by a command that looks for this, and may reserve places.

@@ -26,15 +26,20 @@ Status:
   4  FAILED Input, Device or Memory: the file, a sector of the image or memory failed";
 
 const LIST: &str = "\
-Example:
+Examples:
   a2shop list disk.dsk
+  a2shop list disk.po --format json
+  a2shop list disk.po --format csv --digests
 
---fs and --order are auto where they are left out. A directory has a slash behind its path.
+--fs and --order are auto where they are left out. A name of a directory has a slash behind it.
+With --digests each file is read; one that can't be read has no digest, and the others are told.
 
 Status:
-  0  the paths are listed
-  3  REFUSED Length  the image has another length than one in its order
-     REFUSED Check   the header, the directory or the map's pointer has a fault
+  0  the entries are listed
+  1  they are, and a file has no digest, since it can't be read
+  3  REFUSED Length    the image has another length than one in its order
+     REFUSED Check     the header, the directory or the map's pointer has a fault
+     REFUSED TooLarge  the files have more bytes than --most
   4  FAILED Input, Device or Memory: the file, a sector of the image or memory failed";
 
 const CHECK: &str = "\

@@ -189,6 +189,24 @@ const EDIT: &[Parameter] = &[
     RESERVE,
 ];
 
+const FORMAT: Parameter = Parameter {
+    name: "format",
+    kind: Kind::Optional(Values::OneOf(&["names", "json", "csv"])),
+    help: Help::Format,
+};
+
+const DIGESTS: Parameter = Parameter {
+    name: "digests",
+    kind: Kind::Flag,
+    help: Help::Digests,
+};
+
+const MOST: Parameter = Parameter {
+    name: "most",
+    kind: Kind::Optional(Values::Number { greatest: u64::MAX }),
+    help: Help::Most,
+};
+
 const FORMS: &[Form] = &[
     Form {
         name: "catalog",
@@ -196,7 +214,7 @@ const FORMS: &[Form] = &[
     },
     Form {
         name: "list",
-        parameters: &[IMAGE, FILE_SYSTEM, ORDER, DATA_DISK],
+        parameters: &[IMAGE, FILE_SYSTEM, ORDER, FORMAT, DIGESTS, MOST, DATA_DISK],
     },
     Form {
         name: "check",

@@ -1,7 +1,7 @@
 // The words of commands: `parse_words`.
 use crate::answer::words_of;
 use a2_device::Order;
-use shop_jobs::{Ask, FileSystem, Job, Look, VolumeOptions};
+use shop_jobs::{Ask, FileSystem, Job, ListForm, ListOptions, Look, VolumeOptions};
 use shop_words::{WordsFault, parse_words};
 use std::alloc::Global;
 use std::process::Abort;
@@ -128,7 +128,11 @@ fn a_list_names_an_image(rt: HostRuntime) -> Result<(), Fail> {
             data_disk: false,
         },
         reserve: None,
-        look: Look::Names,
+        look: Look::Entries(ListOptions {
+            form: ListForm::Names,
+            digests: false,
+            most: 1 << 30,
+        }),
     };
     let line = "list a.dsk --order dos --fs prodos";
     asks(&rt, rt.alloc(), line, "a.dsk", names)?;

@@ -5,7 +5,7 @@ ghost use Rattle.a2_device.specs.Device.{DeviceState};
 use crate::runs::are_runs;
 use a2_device::Device;
 use file_cmds::{CmdError, read, read_volume};
-use file_listings::{ProLines, Style};
+use file_listings::{EntryStyle, ProLines, Style};
 use pro_format::Prodos;
 use refusing::Refusing;
 use reserved_places::Reserved;
@@ -49,7 +49,7 @@ fn listing_on<A: Allocator + Copy, D: Device>(
 {
     let format = Prodos::new(alloc, Reserved::none(alloc));
     let volume = read_volume(device, &format)?;
-    Ok(text_of_lines(alloc, ProLines::new(alloc, style, volume)?)?)
+    Ok(text_of_lines(alloc, ProLines::new(alloc, style, volume, Vec::new(alloc))?)?)
 }
 
 /// The text of the listing of a volume in ProDOS order.
@@ -63,7 +63,7 @@ fn listing_of<A: Allocator + Copy>(alloc: A, image: Vec<u8>) -> Result<Vec<u8, A
 /// The paths of the entries of a volume in ProDOS order, a line each.
 fn names_of(alloc: Global, image: Vec<u8>) -> Result<Vec<u8>, CmdError> {
     match block_device(image) {
-        Some(mut device) => listing_on(alloc, &mut device, Style::Names),
+        Some(mut device) => listing_on(alloc, &mut device, Style::Entries(EntryStyle::Names)),
         None => Err(CmdError::NotFound),
     }
 }
@@ -195,13 +195,17 @@ fn each_refused_block_is_memory(rt: HostRuntime) -> Result<(), Fail> {
 }
 
 /// How many blocks are asked for while the lines of the listing of a volume are made.
-fn asked_for_lines<D: Device>(heap: &Refusing<Global>, device: &mut D) -> Result<u64, CmdError>
+fn asked_for_lines<D: Device>(
+    heap: &Refusing<Global>,
+    device: &mut D,
+    style: Style,
+) -> Result<u64, CmdError>
     requires unit { (D.state device.old).unit_size ≡ 512 }
     requires places { (16 ≤ (D.state device.old).places) × ((D.state device.old).places < 65536) }
 {
     let format = Prodos::new(heap, Reserved::none(heap));
     let volume = read_volume(device, &format)?;
-    let mut lines = ProLines::new(heap, Style::Catalog, volume)?;
+    let mut lines = ProLines::new(heap, style, volume, Vec::new(heap))?;
     let before = heap.asked();
     lines.make_first()?;
     for entry in 0..lines.entries() {
@@ -212,17 +216,28 @@ fn asked_for_lines<D: Device>(heap: &Refusing<Global>, device: &mut D) -> Result
 }
 
 /// How many blocks are asked for while the lines of the listing of a volume in ProDOS order are made.
-fn asked_for_lines_of(heap: &Refusing<Global>, image: Vec<u8>) -> Result<u64, CmdError> {
+fn asked_for_lines_of(
+    heap: &Refusing<Global>,
+    image: Vec<u8>,
+    style: Style,
+) -> Result<u64, CmdError> {
     match block_device(image) {
-        Some(mut device) => asked_for_lines(heap, &mut device),
+        Some(mut device) => asked_for_lines(heap, &mut device, style),
         None => Err(CmdError::NotFound),
     }
 }
 
 #[test]
 fn no_line_takes_memory(rt: HostRuntime) -> Result<(), Fail> {
-    let heap = Refusing::none(rt.alloc());
-    let asked = asked_for_lines_of(&heap, tree_and_subdirectory(rt.alloc())?)?;
-    assert!(rt; asked == 0);
+    for style in [
+        Style::Catalog,
+        Style::Entries(EntryStyle::Names),
+        Style::Entries(EntryStyle::Json),
+        Style::Entries(EntryStyle::Csv { digests: true }),
+    ] {
+        let heap = Refusing::none(rt.alloc());
+        let asked = asked_for_lines_of(&heap, tree_and_subdirectory(rt.alloc())?, style)?;
+        assert!(rt; asked == 0);
+    }
     Ok(())
 }

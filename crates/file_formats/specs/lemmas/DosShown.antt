@@ -25,7 +25,10 @@ list_entry-dos {A} file entry =
       kind = kind % 0x80;
       size = low + 256 * high;
       eof = 0;
-      date = no_date;
+      access = 0;
+      aux = 0;
+      created = no_date;
+      modified = no_date;
       directory = false;
       path = take 30 (drop 3 entry.bytes);
     }

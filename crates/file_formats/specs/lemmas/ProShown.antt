@@ -50,32 +50,61 @@ long_behind bytes =
     ∙ ap (λ middle. slice_index bytes 0x15 + 256 * middle + 65536 * slice_index (without_key bytes) 0x15) (behind_key 0x14 0x16 bytes (omega arith) (omega arith))
     ∙ ap (λ high. slice_index bytes 0x15 + 256 * slice_index bytes 0x16 + 65536 * high) (behind_key 0x15 0x17 bytes (omega arith) (omega arith))
 
-word_behind : (bytes : List ℕ) → word (without_key bytes) 0x11 ≡ word bytes 0x13
-word_behind bytes =
-    ap (λ low. low + 256 * slice_index (without_key bytes) 0x12) (behind_key 0x11 0x13 bytes (omega arith) (omega arith))
-    ∙ ap (λ high. slice_index bytes 0x13 + 256 * high) (behind_key 0x12 0x14 bytes (omega arith) (omega arith))
+word_behind : (i j : ℕ) (bytes : List ℕ) → 0x11 ≤ i → i + 2 ≡ j → word (without_key bytes) i ≡ word bytes j
+word_behind i j bytes behind same =
+    ap (λ low. low + 256 * slice_index (without_key bytes) (i + 1)) (behind_key i j bytes behind same)
+    ∙ ap (λ high. slice_index bytes j + 256 * high) (behind_key (i + 1) (j + 1) bytes (omega (arith, behind)) (omega (arith, same)))
+
+date_behind : (i j : ℕ) (bytes : List ℕ) → 0x11 ≤ i → i + 2 ≡ j → take 4 (drop i (without_key bytes)) ≡ take 4 (drop j bytes)
+date_behind i j bytes behind same = ap (take 4) (rest_behind 0x11 0x13 i j bytes behind (omega arith) (omega (arith, same)))
 
 -- what is shown of an entry is what its bytes and its path say
 pub list_entry-pro : {A : Type 0} (places file : ℕ) (path : List ℕ) (entry : Entry)
     → pro_list_entry {A = A} path entry ≡ pro_shown (pro_entry places file path entry)
 list_entry-pro {A} places file path entry = sym (
-    ap (λ access. shown_of access (slice_index bytes 0x10) (word bytes 0x11) (long bytes 0x13) (slice_range bytes 0x1f 0x23) (slice_index bytes 0)) (behind_key 0x1c 0x1e entry.bytes (omega arith) (omega arith))
-    ∙ ap (λ kind. shown_of (slice_index entry.bytes 0x1e) kind (word bytes 0x11) (long bytes 0x13) (slice_range bytes 0x1f 0x23) (slice_index bytes 0)) (byte_before 0x11 0x13 0x10 entry.bytes (omega arith) (omega arith))
-    ∙ ap (λ size. shown_of (slice_index entry.bytes 0x1e) (slice_index entry.bytes 0x10) size (long bytes 0x13) (slice_range bytes 0x1f 0x23) (slice_index bytes 0)) (word_behind entry.bytes)
-    ∙ ap (λ eof. shown_of (slice_index entry.bytes 0x1e) (slice_index entry.bytes 0x10) (word entry.bytes 0x13) eof (slice_range bytes 0x1f 0x23) (slice_index bytes 0)) (long_behind entry.bytes)
-    ∙ ap (λ rest. shown_of (slice_index entry.bytes 0x1e) (slice_index entry.bytes 0x10) (word entry.bytes 0x13) (long entry.bytes 0x15) (take 4 rest) (slice_index bytes 0)) (rest_behind 0x11 0x13 0x1f 0x21 entry.bytes (omega arith) (omega arith) (omega arith))
-    ∙ ap (shown_of (slice_index entry.bytes 0x1e) (slice_index entry.bytes 0x10) (word entry.bytes 0x13) (long entry.bytes 0x15) (slice_range entry.bytes 0x21 0x25)) (byte_before 0x11 0x13 0 entry.bytes (omega arith) (omega arith)))
+    ap (λ access. shown_of access (slice_index less 0x10) (word less 0x11) (long less 0x13) (word less 0x1d) (slice_range less 0x16 0x1a) (slice_range less 0x1f 0x23) (slice_index less 0)) (behind_key 0x1c 0x1e bytes (omega arith) (omega arith))
+    ∙ ap (λ kind. shown_of access kind (word less 0x11) (long less 0x13) (word less 0x1d) (slice_range less 0x16 0x1a) (slice_range less 0x1f 0x23) (slice_index less 0)) (byte_before 0x11 0x13 0x10 bytes (omega arith) (omega arith))
+    ∙ ap (λ size. shown_of access kind size (long less 0x13) (word less 0x1d) (slice_range less 0x16 0x1a) (slice_range less 0x1f 0x23) (slice_index less 0)) (word_behind 0x11 0x13 bytes (omega arith) (omega arith))
+    ∙ ap (λ eof. shown_of access kind size eof (word less 0x1d) (slice_range less 0x16 0x1a) (slice_range less 0x1f 0x23) (slice_index less 0)) (long_behind bytes)
+    ∙ ap (λ aux. shown_of access kind size eof aux (slice_range less 0x16 0x1a) (slice_range less 0x1f 0x23) (slice_index less 0)) (word_behind 0x1d 0x1f bytes (omega arith) (omega arith))
+    ∙ ap (λ created. shown_of access kind size eof aux created (slice_range less 0x1f 0x23) (slice_index less 0)) (date_behind 0x16 0x18 bytes (omega arith) (omega arith))
+    ∙ ap (λ modified. shown_of access kind size eof aux created modified (slice_index less 0)) (date_behind 0x1f 0x21 bytes (omega arith) (omega arith))
+    ∙ ap (shown_of access kind size eof aux created (slice_range bytes 0x21 0x25)) (byte_before 0x11 0x13 0 bytes (omega arith) (omega arith)))
   where
     bytes : List ℕ
-    bytes = without_key entry.bytes
+    bytes = entry.bytes
 
-    shown_of : ℕ → ℕ → ℕ → ℕ → List ℕ → ℕ → ListEntry A
-    shown_of access kind size eof date first = record {
+    less : List ℕ
+    less = without_key entry.bytes
+
+    access : ℕ
+    access = slice_index entry.bytes 0x1e
+
+    kind : ℕ
+    kind = slice_index entry.bytes 0x10
+
+    size : ℕ
+    size = word entry.bytes 0x13
+
+    eof : ℕ
+    eof = long entry.bytes 0x15
+
+    aux : ℕ
+    aux = word entry.bytes 0x1f
+
+    created : List ℕ
+    created = slice_range entry.bytes 0x18 0x1c
+
+    shown_of : ℕ → ℕ → ℕ → ℕ → ℕ → List ℕ → List ℕ → ℕ → ListEntry A
+    shown_of access kind size eof aux created modified first = record {
       locked = is_locked access;
       kind = kind;
       size = size;
       eof = eof;
-      date = record { 0 = date };
+      access = access;
+      aux = aux;
+      created = record { 0 = created };
+      modified = record { 0 = modified };
       directory = first / 16 == 13;
       path = path;
     }

@@ -13,8 +13,7 @@ use Rattle.file_formats.specs.declared.listing.ListEntry.{ListEntry}
 use Rattle.file_formats.specs.Catalog.{list_entry, HasNoCatalog}
 use Rattle.file_formats.specs.Listing.{free_count, HasHeaderFault}
 use Rattle.file_formats.specs.lemmas.DosShown.{shown_numbered, free_count-dos}
-use Rattle.file_listings.specs.DosText.{Text, IsListingText, directory_text, file_line, line, lines_of}
-use Rattle.file_listings.specs.declared.style.Style.TheVariants.{Catalog}
+use Rattle.file_listings.specs.DosText.{Text, IsListingText, catalog_text, file_line, line, lines_of}
 
 module _ (data_disk : Bool) (reserved : List Bool) (store : List (List ℕ)) where
   pub no_dos_listing : length store ≡ 560 → HasHeaderFault (dos_meaning data_disk reserved) store → HasNoCatalog store
@@ -22,7 +21,7 @@ module _ (data_disk : Bool) (reserved : List Bool) (store : List (List ℕ)) whe
       (dos_is_readable data_disk reserved).header_fault store (dos_directory data_disk reserved (unit_at store 272) (entries_in store sectors)) fault.0 fault.1
       (record { size = size; geometry = geometry; sectors = sectors; catalog = catalog; says = refl })
 
-  pub dos_listing_text : (directory : Directory) → (dos_meaning data_disk reserved).Describes store directory → IsListingText store (directory_text Catalog directory)
+  pub dos_listing_text : (directory : Directory) → (dos_meaning data_disk reserved).Describes store directory → IsListingText store (catalog_text directory)
   dos_listing_text directory is =
       let described : DescribesDos data_disk reserved store directory = is in
       let vtoc = unit_at store 272 in
@@ -31,7 +30,7 @@ module _ (data_disk : Bool) (reserved : List Bool) (store : List (List ℕ)) whe
         geometry = described.geometry;
         sectors = described.sectors;
         catalog = described.catalog;
-        is = ap (directory_text Catalog) described.says
+        is = ap catalog_text described.says
             ∙ ap (λ (files : List (ListEntry Global)). lines_of (volume_number vtoc) files (free_count (dos_directory data_disk reserved vtoc entries))) (shown_numbered 0 entries)
             ∙ ap (lines_of (volume_number vtoc) (map (list_entry {A = Global}) entries)) (sym (free_count-dos data_disk reserved vtoc entries))
             ∙ ap (λ (text : Text). line (codes "DISK VOLUME " ++ decimal (volume_number vtoc)) ++ text ++ line (codes "FREE " ++ decimal (free_count_of vtoc)))

@@ -1,5 +1,6 @@
 use Rattle.std.proofs.Common.{◌≡◌, ◌≤◌, map, take, length}
-use Rattle.file_listings.specs.DosText.{shown, without_last_spaces, name_text}
+use Rattle.file_listings.specs.DosText.{without_last_spaces, name_text}
+use Rattle.row_text.specs.Shown.{shown}
 use Rattle.file_listings.proofs.dos_text.shown_len.Given as goal
 
 abbrev pub invariant-loop-len : goal.invariant-loop-len

@@ -9,5 +9,5 @@ pub returns-in-Ok : goal.returns-in-Ok
 returns-in-Ok c =
     let reserve : Option (List ℕ) = option_map (λ s. s.now) c.args.reserve in
     looked c.args.options reserve c.args.image.items _ c.in-Ok.reserved c.in-Ok.ensures.volume c.look_at_volume.result
-    (λ (reserved : List Bool). IsLookReply (look_view c.args.look.now) c.args.extra.now (shown_by c.args.options reserved)) _
+    (look_view c.args.look.now) (λ (reserved : List Bool). IsLookReply (look_view c.args.look.now) c.args.extra.now (shown_by c.args.options reserved)) _
     c.look_at_volume.ensures.reads c.look_at_volume.ensures.told

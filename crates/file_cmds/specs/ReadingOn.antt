@@ -1,0 +1,20 @@
+-- Readings that go on where a unit can't be read.
+use Rattle.std.specs.Prelude.{◌≡◌, ◌≤◌, ℕ, Some, IsTrue}
+use Rattle.a2_device.specs.Device.{DeviceState, FailsRead, IsSameDevice}
+
+-- Calls that read alone, some of which may have failed: the failures of a device are counted and used up, and nothing else
+-- of it changes.
+pub record ReadsOn (old new : DeviceState) : Type 0 where
+  pub same : IsSameDevice old new
+  pub faults : old.faults ≤ new.faults
+  pub kept : IsTrue old.honest → new ≡ record old { faults = new.faults; read_failures = new.read_failures }
+  pub quiet : IsTrue old.honest → old.read_failures ≡ Some 0 → new.read_failures ≡ Some 0
+
+-- among such calls there was a read that failed
+pub record FailedBetween (old new : DeviceState) : Type 0 where
+  pub place : ℕ
+  pub before : DeviceState
+  pub after : DeviceState
+  pub reached : ReadsOn old before
+  pub failed : FailsRead place before after
+  pub left : ReadsOn after new

@@ -1,0 +1,103 @@
+-- Readings that go on, one after the other.
+use Rattle.std.specs.Prelude.{◌≡◌, ◌≤◌, ◌==◌, ℕ, ◌+◌, Bool, true, false, if◌then◌else◌, Contains, IsTrue, IsFalse, Option, Some}
+use Rattle.std.proofs.Common.{refl, sym, ◌∙◌, ap, subst, arith, ⊎_elim}
+use Rattle.a2_device.specs.Device.{DeviceState, FailsRead, MeetsReadFailure, IsSameDevice, OnlyReads, UsesRead, counted, last_count}
+use Rattle.file_cmds.specs.ReadingOn.{FailedBetween, ReadsOn}
+
+pub none_read : (device : DeviceState) → ReadsOn device device
+none_read device = record {
+  same = record { places = refl; unit_size = refl; image = refl; honest = refl; unreadable = refl };
+  faults = omega arith;
+  kept = λ honest. refl;
+  quiet = λ honest is. is;
+}
+
+same_twice : (first second third : DeviceState) → IsSameDevice first second → IsSameDevice second third → IsSameDevice first third
+same_twice first second third is later = record {
+  places = later.places ∙ is.places;
+  unit_size = later.unit_size ∙ is.unit_size;
+  image = later.image ∙ is.image;
+  honest = later.honest ∙ is.honest;
+  unreadable = later.unreadable ∙ is.unreadable;
+}
+
+pub still_honest : (old new : DeviceState) → ReadsOn old new → IsTrue old.honest → IsTrue new.honest
+still_honest old new reads honest = subst IsTrue (sym reads.same.honest) honest
+
+pub read_twice : (first second third : DeviceState) → ReadsOn first second → ReadsOn second third → ReadsOn first third
+read_twice first second third reads later = record {
+  same = same_twice first second third reads.same later.same;
+  faults = omega (arith, reads.faults, later.faults);
+  kept = λ honest. later.kept (still_honest first second reads honest)
+      ∙ ap (λ (d : DeviceState). record d { faults = third.faults; read_failures = third.read_failures }) (reads.kept honest);
+  quiet = λ honest is. later.quiet (still_honest first second reads honest) (reads.quiet honest is);
+}
+
+module _ (old new : DeviceState) where
+  as_read : (faults : ℕ) (failures : Option ℕ) → new ≡ record old { faults = faults; read_failures = failures }
+      → new ≡ record old { faults = new.faults; read_failures = new.read_failures }
+  as_read faults failures is =
+      subst (λ (d : DeviceState). d ≡ record old { faults = d.faults; read_failures = d.read_failures }) (sym is) refl
+
+  failing_kept : (place : ℕ) → FailsRead place old new → new ≡ record old { faults = new.faults; read_failures = new.read_failures }
+  failing_kept place fails =
+      ⊎_elim (λ met. as_read (counted old.faults) new.read_failures met.1) (λ lacks. as_read (counted old.faults) old.read_failures lacks.1) fails
+
+  failing_quiet : (place : ℕ) → FailsRead place old new → old.read_failures ≡ Some 0 → new.read_failures ≡ Some 0
+  failing_quiet place fails never =
+      ⊎_elim
+      (λ met. let used = subst (λ failures. UsesRead failures new.read_failures) never met.0 in absurd (omega (arith, used.1)))
+      (λ lacks. ap (λ (d : DeviceState). d.read_failures) lacks.1 ∙ never)
+      fails
+
+  not_fewer : (failed : Bool) → new.faults ≡ (if failed then counted old.faults else old.faults) → old.faults ≤ new.faults
+  not_fewer false is = omega (arith, is)
+  not_fewer true is = by_last (old.faults == last_count) refl is
+    where
+      by_last : (b : Bool) → (old.faults == last_count) ≡ b → new.faults ≡ counted old.faults → old.faults ≤ new.faults
+      by_last true at is = let same : new.faults ≡ old.faults = is ∙ rw at refl in omega (arith, same)
+      by_last false at is = let more : new.faults ≡ old.faults + 1 = is ∙ rw at refl in omega (arith, more)
+
+  -- calls that read alone, of which one failed or none
+  pub one_reading : (failed : Bool) → OnlyReads failed old new → ReadsOn old new
+  one_reading false reads = record {
+    same = reads.same;
+    faults = not_fewer false reads.faults;
+    kept = λ honest. subst (λ (d : DeviceState). d ≡ record old { faults = d.faults; read_failures = d.read_failures }) (sym (reads.kept honest refl)) refl;
+    quiet = λ honest is. ap (λ (d : DeviceState). d.read_failures) (reads.kept honest refl) ∙ is;
+  }
+  one_reading true reads = record {
+    same = reads.same;
+    faults = not_fewer true reads.faults;
+    kept = λ honest. let met = reads.met honest refl in failing_kept met.0 met.1;
+    quiet = λ honest is. let met = reads.met honest refl in failing_quiet met.0 met.1 is;
+  }
+
+  pub one_failed : IsTrue old.honest → OnlyReads true old new → FailedBetween old new
+  one_failed honest reads = let met = reads.met honest refl in record {
+    place = met.0;
+    before = old;
+    after = new;
+    reached = none_read old;
+    failed = met.1;
+    left = none_read new;
+  }
+
+  -- where no failure is to come, a read fails at a place that can't be read
+  pub lacks_where_quiet : IsTrue old.honest → old.read_failures ≡ Some 0 → FailedBetween old new → (place : ℕ) × Contains old.unreadable place
+  lacks_where_quiet honest never failed =
+      ⊎_elim
+      (λ met. let used = subst (λ failures. UsesRead failures failed.after.read_failures) (failed.reached.quiet honest never) met.0 in absurd (omega (arith, used.1)))
+      (λ lacks. (failed.place, subst (λ places. Contains places failed.place) failed.reached.same.unreadable lacks.0))
+      failed.failed
+
+-- a read that failed among some calls failed among more of them
+pub failed_among : (first before after last : DeviceState) → ReadsOn first before → ReadsOn after last → FailedBetween before after → FailedBetween first last
+failed_among first before after last reads later failed = record {
+  place = failed.place;
+  before = failed.before;
+  after = failed.after;
+  reached = read_twice first before failed.before reads failed.reached;
+  failed = failed.failed;
+  left = read_twice failed.after after last failed.left later;
+}

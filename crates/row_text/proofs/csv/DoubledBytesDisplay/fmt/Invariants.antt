@@ -1,0 +1,10 @@
+use Rattle.std.proofs.Common.{map, take}
+use Rattle.std.specs.Prelude.{flat_map}
+use Rattle.std.specs.Fmt.{HasWritten, IsPlainFormatter}
+use Rattle.row_text.specs.Csv.{doubled}
+use Rattle.row_text.specs.Shown.{shown}
+use Rattle.row_text.proofs.csv.DoubledBytesDisplay.fmt.Given as goal
+
+abbrev pub invariant-loop-byte : goal.invariant-loop-byte
+invariant-loop-byte g l =
+    IsPlainFormatter l.initial.f → HasWritten g.W.Write.write_str_gives l.initial.f (flat_map doubled (map shown (take l.byte-index l.text))) l.f

@@ -1,0 +1,4 @@
+pub mod Shown
+pub mod Row
+pub mod Csv
+pub mod Laws

@@ -1,0 +1,239 @@
+-- What is known of files, one after the other.
+use Rattle.std.specs.Prelude.{IsTrue, ◌≡◌, ◌⊎◌, ◌<◌, ◌≤◌, ◌&&◌, not, nat_lt, ℕ, Bool, true, false, List, [], ◌∷◌, ◌++◌, Option, Some, None, Result, Ok, Err, IfOk, length, slice_index_or, if◌then◌else◌}
+use Rattle.std.proofs.Common.{refl, sym, ◌∙◌, ap, subst, ◌+◌, arith, inl, inr, ⊎_elim, get_or, length-append}
+use Rattle.std.proofs.lemmas.Bool.Decides.{nat_tests}
+use Rattle.std.proofs.Math.Seq.{get_or-append_seam}
+use Rattle.std.proofs.Math.ListN.{get_or-append}
+use Rattle.std.proofs.lemmas.List.Sums.{sum_by-append}
+use Rattle.a2_device.specs.Device.{DeviceState}
+use Rattle.reserved_places.specs.declared.form.PlaceForm.{PlaceForm}
+use Rattle.vol_format.specs.Meaning.{Meaning}
+use Rattle.file_formats.specs.Files.{FileMeaning}
+use Rattle.file_cmds.specs.ReadingOn.{FailedBetween, ReadsOn}
+use Rattle.file_cmds.specs.lemmas.Reading.{failed_among, none_read}
+use Rattle.vol_format.specs.Directory.{Directory, entries, entry_of, is_directory}
+use Rattle.file_formats.specs.DosFiles.{number_at}
+use Rattle.file_cmds.specs.Text.{IsEntryText, IsWholeTextOf}
+use Rattle.row_text.specs.declared.row.Digested.{Digested}
+use Rattle.row_text.specs.declared.row.Digested.TheVariants.{Untold, Missing, Of}
+use Rattle.file_listings.specs.Rows.{no_facts}
+use Rattle.file_listings.specs.declared.facts.Facts.{Facts}
+use Rattle.shop_jobs.specs.declared.job.ListOptions.{ListOptions}
+use Rattle.shop_reads.specs.EntriesReply.{AddressIs, AreFacts, AreFactsUpTo, DigestIs, IsAddress, IsCompleteUpTo, IsDigest, IsUnread, ReadTooMuch, ReadVolume, WantsNothing, bytes_of, bytes_read, digest_by, is_missing, lacks_digest, no_digest, unread_facts, volume_in, wants_address, wants_digest}
+
+module _ (volume : ReadVolume) (options : ListOptions) (file : ℕ) where
+  -- ---- of one file
+
+  unread_address : (failed : Type 0) → IsUnread volume failed file → (b : Bool) → AddressIs b volume failed file None
+  unread_address failed unread true = unread
+  unread_address failed unread false = refl
+
+  unread_digest : (failed : Type 0) → IsUnread volume failed file → (b : Bool) → DigestIs b volume failed file (no_digest b)
+  unread_digest failed unread true = inr unread
+  unread_digest failed unread false = refl
+
+  -- a file that could not be read
+  pub unread_are : (failed : Type 0) → IsUnread volume failed file → AreFacts volume options failed file (unread_facts options.digests)
+  unread_are failed unread = record {
+    address = unread_address failed unread (wants_address volume options file);
+    digest = unread_digest failed unread options.digests;
+  }
+
+  unwanted_digest : (failed : Type 0) (b d : Bool) → is_directory (entry_of volume.directory file) ≡ d → (b && not d) ≡ false
+      → DigestIs b volume failed file (no_digest b)
+  unwanted_digest failed false d same unwanted = refl
+  unwanted_digest failed true true same unwanted = inl same
+  unwanted_digest failed true false same unwanted = cc
+
+  -- a file of which nothing is wanted
+  pub unwanted_are : (failed : Type 0) → wants_address volume options file ≡ false → wants_digest volume options file ≡ false
+      → AreFacts volume options failed file (unread_facts options.digests)
+  unwanted_are failed address digest = record {
+    address = subst (λ b. AddressIs b volume failed file None) (sym address) refl;
+    digest = unwanted_digest failed options.digests (is_directory (entry_of volume.directory file)) refl digest;
+  }
+
+  module _ (failed : Type 0) (whole : List ℕ) (is : IsWholeTextOf volume.meaning volume.directory volume.store file whole) where
+    abbrev body : List ℕ
+    body = volume.files.body (entry_of volume.directory file).bytes whole
+
+    body_is : IsEntryText volume.meaning volume.files volume.directory volume.store file false body
+    body_is = record {
+      faultless = is.faultless;
+      units = is.units;
+      are_units = is.are_units;
+      is = ap (volume.files.body (entry_of volume.directory file).bytes) is.is;
+    }
+
+    read_address : (b : Bool) (address : Option ℕ) → address ≡ (if b then Some (number_at whole 0) else None) → AddressIs b volume failed file address
+    read_address true address told = subst (λ (a : Option ℕ). IsAddress volume failed file a) (sym told) (whole, is, refl)
+    read_address false address told = told
+
+    read_digest : (b d : Bool) (digest : Digested) → is_directory (entry_of volume.directory file) ≡ d
+        → digest ≡ (if b && not d then digest_by body else no_digest b) → DigestIs b volume failed file digest
+    read_digest false d digest same told = told
+    read_digest true true digest same told = subst (λ (x : Digested). IsDigest volume failed file x) (sym told) (inl same)
+    read_digest true false digest same told = subst (λ (x : Digested). IsDigest volume failed file x) (sym told) (same, body, body_is, refl, refl)
+
+    -- a file that was read
+    pub read_are : (facts : Facts) → facts.address ≡ (if wants_address volume options file then Some (number_at whole 0) else None)
+        → facts.digest ≡ (if wants_digest volume options file then digest_by body else no_digest options.digests)
+        → AreFacts volume options failed file facts
+    read_are facts address digest = record {
+      address = read_address (wants_address volume options file) facts.address address;
+      digest = read_digest options.digests (is_directory (entry_of volume.directory file)) facts.digest refl digest;
+    }
+
+  -- what failed among some calls failed among more
+  module _ (failed more : Type 0) (on : failed → more) where
+    wider_unread : IsUnread volume failed file → IsUnread volume more file
+    wider_unread unread = ⊎_elim (λ fault. inl fault) (λ fails. inr (on fails)) unread
+
+    wider_address : (b : Bool) (address : Option ℕ) → AddressIs b volume failed file address → AddressIs b volume more file address
+    wider_address true None is = wider_unread is
+    wider_address true (Some x) is = is
+    wider_address false address is = is
+
+    wider_digest : (b : Bool) (digest : Digested) → DigestIs b volume failed file digest → DigestIs b volume more file digest
+    wider_digest true Untold is = is
+    wider_digest true Missing is = ⊎_elim (λ directory. inl directory) (λ unread. inr (wider_unread unread)) is
+    wider_digest true (Of digest) is = is
+    wider_digest false digest is = is
+
+    pub wider : (facts : Facts) → AreFacts volume options failed file facts → AreFacts volume options more file facts
+    wider facts are = record {
+      address = wider_address (wants_address volume options file) facts.address are.address;
+      digest = wider_digest options.digests facts.digest are.digest;
+    }
+
+-- ---- of the first files
+
+facts_on : (facts : List Facts) (known : Facts) (many file : ℕ) → length facts ≡ many → file < many
+    → slice_index_or (facts ++ known ∷ []) file no_facts ≡ slice_index_or facts file no_facts
+facts_on facts known many file as_many low = get_or-append facts (known ∷ []) no_facts file (omega (arith, as_many, low))
+
+facts_last : (facts : List Facts) (known : Facts) (many : ℕ) → length facts ≡ many → slice_index_or (facts ++ known ∷ []) many no_facts ≡ known
+facts_last facts known many as_many =
+    ap (λ (n : ℕ). get_or (facts ++ known ∷ []) n no_facts) (sym as_many) ∙ get_or-append_seam facts known [] no_facts
+
+module _ (volume : ReadVolume) (options : ListOptions) where
+  pub wider_up_to : (failed more : Type 0) → (failed → more) → (many : ℕ) (facts : List Facts) → AreFactsUpTo volume options failed many facts
+      → AreFactsUpTo volume options more many facts
+  wider_up_to failed more on many facts are = record {
+    within = are.within;
+    each = λ file low. wider volume options file failed more on (slice_index_or facts file no_facts) (are.each file low);
+  }
+
+  -- nothing is wanted, and nothing known
+  pub nothing_known : (failed : Type 0) → ((file : ℕ) → WantsNothing volume options file)
+      → AreFactsUpTo volume options failed (entries volume.directory) []
+  nothing_known failed nothing = record {
+    within = omega arith;
+    each = λ file low. record {
+      address = subst (λ b. AddressIs b volume failed file None) (sym (nothing file).0) refl;
+      digest = subst (λ b. DigestIs b volume failed file Untold) (sym (nothing file).1) refl;
+    };
+  }
+
+  pub none_yet : (failed : Type 0) → AreFactsUpTo volume options failed 0 []
+  none_yet failed = record { within = omega arith; each = λ file low. absurd (omega (arith, low)) }
+
+  pub more_known : (failed : Type 0) (many : ℕ) (facts : List Facts) (known : Facts) → length facts ≡ many → many < entries volume.directory
+      → AreFactsUpTo volume options failed many facts → AreFacts volume options failed many known
+      → AreFactsUpTo volume options failed (many + 1) (facts ++ known ∷ [])
+  more_known failed many facts known as_many low are is = record {
+    within = omega (arith, low);
+    each = λ file lower. by_test file (nat_lt file many) refl lower;
+  }
+    where
+      by_test : (file : ℕ) (b : Bool) → nat_lt file many ≡ b → file < many + 1
+          → AreFacts volume options failed file (slice_index_or (facts ++ known ∷ []) file no_facts)
+      by_test file true test lower =
+          let before : file < many = grind (arith, nat_tests) in
+          subst (λ (f : Facts). AreFacts volume options failed file f) (sym (facts_on facts known many file as_many before)) (are.each file before)
+      by_test file false test lower =
+          let last : many ≡ file = grind (arith, nat_tests) in
+          subst (λ n. AreFacts volume options failed n (slice_index_or (facts ++ known ∷ []) n no_facts)) last
+          (subst (λ (f : Facts). AreFacts volume options failed many f) (sym (facts_last facts known many as_many)) is)
+
+pub bytes_more : (facts : List Facts) (known : Facts) → bytes_read (facts ++ known ∷ []) ≡ bytes_read facts + bytes_of known.digest
+bytes_more facts known = sum_by-append (λ (f : Facts). bytes_of f.digest) facts (known ∷ []) ∙ omega arith
+
+-- ---- whether each has a digest
+
+pub nothing_lacks : (directory : Directory) (many : ℕ) → IsCompleteUpTo directory [] many true
+nothing_lacks directory many file low = by_cases (is_directory (entry_of directory file))
+  where
+    by_cases : (b : Bool) → (not b && false) ≡ false
+    by_cases true = refl
+    by_cases false = refl
+
+module _ (directory : Directory) (facts : List Facts) (known : Facts) (many : ℕ) (as_many : length facts ≡ many) where
+  abbrev lacks_before : ℕ → Bool
+  lacks_before file = lacks_digest directory facts file
+
+  abbrev lacks_after : ℕ → Bool
+  lacks_after file = lacks_digest directory (facts ++ known ∷ []) file
+
+  same_lack : (file : ℕ) → file < many → lacks_after file ≡ lacks_before file
+  same_lack file low =
+      ap (λ (f : Facts). not (is_directory (entry_of directory file)) && is_missing f.digest) (facts_on facts known many file as_many low)
+
+  own_lack : (b : Bool) → b ≡ (not (is_directory (entry_of directory many)) && is_missing known.digest) → lacks_after many ≡ b
+  own_lack b is =
+      ap (λ (f : Facts). not (is_directory (entry_of directory many)) && is_missing f.digest) (facts_last facts known many as_many) ∙ sym is
+
+  pub more_complete : (complete lack : Bool) → lack ≡ (not (is_directory (entry_of directory many)) && is_missing known.digest)
+      → IsCompleteUpTo directory facts many complete → IsCompleteUpTo directory (facts ++ known ∷ []) (many + 1) (complete && not lack)
+  more_complete true true is before = (many, omega arith, own_lack true is)
+  more_complete true false is before = λ file lower. by_test file (nat_lt file many) refl lower
+    where
+      by_test : (file : ℕ) (b : Bool) → nat_lt file many ≡ b → file < many + 1 → lacks_after file ≡ false
+      by_test file true test lower = let low : file < many = grind (arith, nat_tests) in same_lack file low ∙ before file low
+      by_test file false test lower =
+          let last : many ≡ file = grind (arith, nat_tests) in subst (λ n. lacks_after n ≡ false) last (own_lack false is)
+  more_complete false lack is before = (before.0, omega (arith, before.1), same_lack before.0 before.1 ∙ before.2)
+
+-- ---- what a reading of one file tells
+
+pub off : (b : Bool) → not b ≡ true → b ≡ false
+off false is = refl
+off true is = cc
+
+-- two things that hold of what is there give a third
+pub both_ok : {A E : Type 0} (P Q R : A → Type 0) (result : Result A E) → ((x : A) → P x → Q x → R x) → IfOk result P → IfOk result Q → IfOk result R
+both_ok P Q R (Ok x) on p q = on x p q
+both_ok P Q R (Err e) on p q = tt
+
+-- one file more is read
+pub step_known : (form : PlaceForm) (files : FileMeaning) (meaning : Meaning) (directory : Directory) (options : ListOptions)
+    (start now after : DeviceState) (many : ℕ) (facts : List Facts) (known : Facts) → IsTrue start.honest → ReadsOn start now → ReadsOn now after
+    → length facts ≡ many → many < entries directory
+    → AreFactsUpTo (volume_in form files meaning start.store directory) options (FailedBetween start now) many facts
+    → AreFacts (volume_in form files meaning now.store directory) options (FailedBetween now after) many known
+    → AreFactsUpTo (volume_in form files meaning start.store directory) options (FailedBetween start after) (many + 1) (facts ++ known ∷ [])
+step_known form files meaning directory options start now after many facts known honest reads later as_many low are is =
+    let volume : ReadVolume = volume_in form files meaning start.store directory in
+    let same : now.store ≡ start.store = ap (λ (device : DeviceState). device.store) (reads.kept honest) in
+    let here : AreFacts volume options (FailedBetween now after) many known =
+    subst (λ (store : List (List ℕ)). AreFacts (volume_in form files meaning store directory) options (FailedBetween now after) many known) same is in
+    more_known volume options (FailedBetween start after) many facts known as_many low
+    (wider_up_to volume options (FailedBetween start now) (FailedBetween start after) (failed_among start start now after (none_read start) later) many facts are)
+    (wider volume options many (FailedBetween now after) (FailedBetween start after) (failed_among start now after after reads (none_read after)) known here)
+
+pub too_much : (volume : ReadVolume) (options : ListOptions) (failed : Type 0) (many left : ℕ) (facts : List Facts) (known : Facts)
+    → length facts ≡ many → left + bytes_read facts ≡ options.most → left < bytes_of known.digest
+    → AreFactsUpTo volume options failed (many + 1) (facts ++ known ∷ []) → ReadTooMuch volume options failed
+too_much volume options failed many left facts known as_many rest over are = record {
+  facts = facts ++ known ∷ [];
+  are = subst (λ (n : ℕ). AreFactsUpTo volume options failed n (facts ++ known ∷ [])) (sym (length-append facts (known ∷ []))) (subst (λ (n : ℕ). AreFactsUpTo volume options failed n (facts ++ known ∷ [])) (ap (λ (n : ℕ). n + 1) (sym as_many)) are);
+  many = omega (arith, rest, over, bytes_more facts known);
+}
+
+pub wider_too_much : (volume : ReadVolume) (options : ListOptions) (failed more : Type 0) → (failed → more) → ReadTooMuch volume options failed
+    → ReadTooMuch volume options more
+wider_too_much volume options failed more on read = record {
+  facts = read.facts;
+  are = wider_up_to volume options failed more on (length read.facts) read.facts read.are;
+  many = read.many;
+}

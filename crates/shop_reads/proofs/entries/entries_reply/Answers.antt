@@ -1,0 +1,77 @@
+use Rattle.std.proofs.Common.{◌∙◌, ap, inl, inr, refl, subst, sym}
+use Rattle.std.specs.Prelude.{Err, IsTrue, true}
+use Rattle.a2_device.specs.Device.{DeviceState}
+use Rattle.file_cmds.specs.ReadingOn.{FailedBetween}
+use Rattle.vol_format.specs.Directory.{entries}
+use Rattle.shop_replies.specs.declared.reply.Reply.{Reply}
+use Rattle.shop_replies.specs.Volume.{LacksUnit}
+use Rattle.shop_reads.specs.EntriesReply.{AreFactsUpTo, IsEntriesTold, ReadTooMuch, ReadVolume, volume_in}
+use Rattle.shop_reads.specs.TellingFailures.{tells_device}
+use Rattle.shop_reads.proofs.FirstFiles.{wider_too_much, wider_up_to}
+use Rattle.shop_reads.proofs.Readings.{not_told, refusal_failed}
+use Rattle.shop_reads.proofs.entries.entries_reply.Goals as goal
+
+pub returns-in-Err-clause-failed : goal.returns-in-Err-clause-failed
+returns-in-Err-clause-failed g c = λ tells honest.
+    let old = g.D.Device.state c.args.device.now in
+    let new = g.D.Device.state c.read_volume.new.device in
+    refusal_failed g.row.F-Volume.Denot old new c.in-Err.error honest c.in-Err.ensures.device
+    (subst (λ (reply : Reply). IsTrue (tells_device reply)) c.refusal_reply.ensures tells)
+
+pub returns-in-Err-clause-told : goal.returns-in-Err-clause-told
+returns-in-Err-clause-told g c = λ honest lack.
+    let old = g.D.Device.state c.args.device.now in
+    let new = g.D.Device.state c.read_volume.new.device in
+    let form = g.F.ShownFormat.form c.args.format.now in
+    let files = g.F.FileFormat.files c.args.format.now in
+    let meaning = g.F.Format.meaning c.args.format.now in
+    subst (λ (reply : Reply). IsEntriesTold c.args.options form files meaning old reply) (sym c.refusal_reply.ensures)
+    (not_told files meaning old c.args.options form c.in-Err.error (λ is. c.in-Err.ensures.found (ap Err is)) (λ is. c.in-Err.ensures.check honest (ap Err is))
+    (λ is. lack (refusal_failed g.row.F-Volume.Denot old new c.in-Err.error honest c.in-Err.ensures.device (ap tells_device is))))
+
+pub returns-in-Ok-known_of-clause-told : goal.returns-in-Ok-known_of-clause-told
+returns-in-Ok-known_of-clause-told g c = λ honest lack.
+    let old = g.D.Device.state c.args.device.now in
+    let mid = g.D.Device.state c.read_volume.new.device in
+    let new = g.D.Device.state c.known_of.new.device in
+    let form = g.F.ShownFormat.form c.args.format.now in
+    let files = g.F.FileFormat.files c.args.format.now in
+    let meaning = g.F.Format.meaning c.args.format.now in
+    let directory = g.F.Format.directory c.args.format.now c.in-Ok.volume in
+    let facts = c.in-Ok-known_of.known.facts.items in
+    let read = c.in-Ok.ensures.device in
+    let are : AreFactsUpTo (volume_in form files meaning old.store directory) c.args.options (FailedBetween old new) (entries directory) facts =
+    subst (λ (d : DeviceState). AreFactsUpTo (volume_in form files meaning d.store directory) c.args.options (FailedBetween d new) (entries directory) facts)
+    (read.kept honest refl) (c.in-Ok-known_of.ensures.facts (subst IsTrue (sym read.same.honest) honest)) in
+    inl (record {
+      directory = directory;
+      described = c.in-Ok.ensures.described honest;
+      facts = facts;
+      are = wider_up_to (volume_in form files meaning old.store directory) c.args.options (FailedBetween old new) (LacksUnit old) lack (entries directory) facts are;
+      few = c.in-Ok-known_of.ensures.few;
+      complete = c.in-Ok-known_of.known.complete;
+      ended = c.in-Ok-known_of.ensures.complete;
+      told = c.known_reply.ensures;
+    })
+
+pub returns-in-Err-TooLarge-clause-told : goal.returns-in-Err-TooLarge-clause-told
+returns-in-Err-TooLarge-clause-told g c = λ honest lack.
+    let old = g.D.Device.state c.args.device.now in
+    let mid = g.D.Device.state c.read_volume.new.device in
+    let new = g.D.Device.state c.known_of.new.device in
+    let form = g.F.ShownFormat.form c.args.format.now in
+    let files = g.F.FileFormat.files c.args.format.now in
+    let meaning = g.F.Format.meaning c.args.format.now in
+    let directory = g.F.Format.directory c.args.format.now c.in-Ok.volume in
+    let read = c.in-Ok.ensures.device in
+    let much : ReadTooMuch (volume_in form files meaning old.store directory) c.args.options (FailedBetween old new) =
+    subst (λ (d : DeviceState). ReadTooMuch (volume_in form files meaning d.store directory) c.args.options (FailedBetween d new))
+    (read.kept honest refl) (c.in-Err-TooLarge.ensures.many (subst IsTrue (sym read.same.honest) honest) (ap Err c.in-Err-TooLarge.field-0-is)) in
+    inr (inr (inl (
+      c.refused.ensures,
+      record {
+        directory = directory;
+        described = c.in-Ok.ensures.described honest;
+        read = wider_too_much (volume_in form files meaning old.store directory) c.args.options (FailedBetween old new) (LacksUnit old) lack much;
+      },
+    )))

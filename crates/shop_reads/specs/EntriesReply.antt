@@ -1,0 +1,195 @@
+-- What is told of a volume whose entries are told as data.
+use Rattle.std.specs.Prelude.{◌≡◌, ◌⊎◌, ◌<◌, ◌≤◌, ◌==◌, ◌||◌, ◌&&◌, not, ℕ, Bool, true, false, List, Option, Some, None, length, sum_by, slice_index_or, if◌then◌else◌}
+use Rattle.std.specs.declared.alloc.Global.{Global}
+use Rattle.sha2.specs.Sha256.{sha256}
+use Rattle.a2_device.specs.Device.{DeviceState}
+use Rattle.reserved_places.specs.declared.form.PlaceForm.{PlaceForm}
+use Rattle.reserved_places.specs.declared.form.PlaceForm.TheVariants.{Sector, Block}
+use Rattle.vol_format.specs.Directory.{Directory, entries, entry_of, is_directory}
+use Rattle.vol_format.specs.Meaning.{Meaning}
+use Rattle.file_formats.specs.DosFiles.{number_at}
+use Rattle.file_formats.specs.Files.{FileMeaning}
+use Rattle.file_formats.specs.Listing.{HasHeaderFault}
+use Rattle.file_formats.specs.declared.listing.ListEntry.{ListEntry}
+use Rattle.file_cmds.specs.Text.{IsEntryText, IsWholeTextOf, OwnFault}
+use Rattle.row_text.specs.declared.row.Digested.{Digested}
+use Rattle.row_text.specs.declared.row.Digested.TheVariants.{Untold, Missing, Of}
+use Rattle.file_listings.specs.Rows.{no_facts}
+use Rattle.file_listings.specs.declared.facts.Facts.{Facts}
+use Rattle.file_listings.specs.declared.style.EntryStyle.{EntryStyle}
+use Rattle.file_listings.specs.declared.style.EntryStyle.TheVariants as styles
+use Rattle.file_listings.specs.declared.style.Style.TheVariants.{Entries}
+use Rattle.shop_jobs.specs.declared.job.ListForm.{ListForm}
+use Rattle.shop_jobs.specs.declared.job.ListForm.TheVariants as forms
+use Rattle.shop_jobs.specs.declared.job.ListOptions.{ListOptions}
+use Rattle.shop_replies.specs.declared.refusal.Refusal.TheVariants as refusals
+use Rattle.shop_replies.specs.declared.refusal.Failure.TheVariants as failures
+use Rattle.shop_replies.specs.declared.reply.Reply.{Reply}
+use Rattle.shop_replies.specs.declared.reply.Status.{Status}
+use Rattle.shop_replies.specs.declared.reply.Status.TheVariants.{Done, Wrong}
+use Rattle.shop_replies.specs.Reply.{failed, refused}
+use Rattle.shop_replies.specs.Volume.{LacksUnit}
+use Rattle.shop_reads.specs.CatalogReply.{TellsListing}
+
+-- ---- what is wanted
+
+abbrev pub is_names : ListForm → Bool
+is_names forms.Names = true
+is_names form = false
+
+-- how entries are told that are asked for so
+abbrev pub names_style : Bool → EntryStyle
+names_style digests = if digests then styles.Sums else styles.Names
+
+abbrev pub style_in : ListForm → Bool → EntryStyle
+style_in forms.Names digests = names_style digests
+style_in forms.Json digests = styles.Json
+style_in forms.Csv digests = styles.Csv digests
+
+abbrev pub style_of : ListOptions → EntryStyle
+style_of options = style_in options.form options.digests
+
+-- a binary file of DOS 3.3 has an address
+abbrev pub is_binary : {A : Type 0} → PlaceForm → ListEntry A → Bool
+is_binary Sector entry = entry.kind == 4
+is_binary Block entry = false
+
+-- ---- what is known of a file
+
+-- a volume that was read: how its places are named, its files, what its units mean, what they say, and they themselves
+pub record ReadVolume : Type 1 where
+  pub form : PlaceForm
+  pub files : FileMeaning
+  pub meaning : Meaning
+  pub directory : Directory
+  pub store : List (List ℕ)
+
+abbrev pub wants_address : ReadVolume → ListOptions → ℕ → Bool
+wants_address volume options file =
+    not (is_names options.form) && is_binary volume.form (volume.files.shown {A = Global} (entry_of volume.directory file))
+
+-- The file has a fault of its own, or a unit of it could not be read, which `failed` says.
+abbrev pub IsUnread : ReadVolume → Type 0 → ℕ → Type 0
+IsUnread volume failed file = OwnFault volume.meaning volume.directory volume.store file ⊎ failed
+
+-- the first two bytes of the whole text, where this can be read
+abbrev pub IsAddress : ReadVolume → Type 0 → ℕ → Option ℕ → Type 0
+IsAddress volume failed file (Some address) =
+    (text : List ℕ) × IsWholeTextOf volume.meaning volume.directory volume.store file text × (address ≡ number_at text 0)
+IsAddress volume failed file None = IsUnread volume failed file
+
+-- how many bytes the text has, and their SHA-256; a directory has none, nor what can't be read
+abbrev pub IsDigest : ReadVolume → Type 0 → ℕ → Digested → Type 0
+IsDigest volume failed file (Of digest) =
+    (is_directory (entry_of volume.directory file) ≡ false)
+    × (text : List ℕ) × IsEntryText volume.meaning volume.files volume.directory volume.store file false text
+    × (digest.count ≡ length text) × (digest.sha256 ≡ sha256 text)
+IsDigest volume failed file Missing =
+    (is_directory (entry_of volume.directory file) ≡ true) ⊎ IsUnread volume failed file
+IsDigest volume failed file Untold = ⊥
+
+abbrev pub AddressIs : Bool → ReadVolume → Type 0 → ℕ → Option ℕ → Type 0
+AddressIs true volume failed file address = IsAddress volume failed file address
+AddressIs false volume failed file address = address ≡ None
+
+abbrev pub DigestIs : Bool → ReadVolume → Type 0 → ℕ → Digested → Type 0
+DigestIs true volume failed file digest = IsDigest volume failed file digest
+DigestIs false volume failed file digest = digest ≡ Untold
+
+-- nothing of a file is wanted beside its entry
+abbrev pub WantsNothing : ReadVolume → ListOptions → ℕ → Type 0
+WantsNothing volume options file = (wants_address volume options file ≡ false) × (options.digests ≡ false)
+
+-- what is told of a file beside its entry, where it is wanted
+pub record AreFacts (volume : ReadVolume) (options : ListOptions) (failed : Type 0) (file : ℕ) (facts : Facts) : Type 0 where
+  pub address : AddressIs (wants_address volume options file) volume failed file facts.address
+  pub digest : DigestIs options.digests volume failed file facts.digest
+
+-- those of the files of the first entries
+pub record AreFactsUpTo (volume : ReadVolume) (options : ListOptions) (failed : Type 0) (many : ℕ) (facts : List Facts) : Type 0 where
+  pub within : many ≤ entries volume.directory
+  pub each : (file : ℕ) → file < many → AreFacts volume options failed file (slice_index_or facts file no_facts)
+
+-- ---- what is made of the texts of a file
+
+-- whether its address and its digest are wanted
+abbrev pub wants_digest : ReadVolume → ListOptions → ℕ → Bool
+wants_digest volume options file = options.digests && not (is_directory (entry_of volume.directory file))
+
+abbrev pub digest_by : List ℕ → Digested
+digest_by text = Of (record { count = length text; sha256 = sha256 text })
+
+-- that of a file that is not read
+abbrev pub no_digest : Bool → Digested
+no_digest digests = if digests then Missing else Untold
+
+abbrev pub unread_facts : Bool → Facts
+unread_facts digests = record { address = None; digest = no_digest digests }
+
+-- ---- how many bytes were read, and whether each file was
+
+abbrev pub bytes_of : Digested → ℕ
+bytes_of (Of digest) = digest.count
+bytes_of Missing = 0
+bytes_of Untold = 0
+
+abbrev pub bytes_read : List Facts → ℕ
+bytes_read facts = sum_by (λ (known : Facts). bytes_of known.digest) facts
+
+abbrev pub is_missing : Digested → Bool
+is_missing Missing = true
+is_missing digest = false
+
+-- a file has no digest
+abbrev pub lacks_digest : Directory → List Facts → ℕ → Bool
+lacks_digest directory facts file =
+    not (is_directory (entry_of directory file)) && is_missing (slice_index_or facts file no_facts).digest
+
+-- whether each of the first files has a digest, where digests are told
+abbrev pub IsCompleteUpTo : Directory → List Facts → ℕ → Bool → Type 0
+IsCompleteUpTo directory facts many true = (file : ℕ) → file < many → lacks_digest directory facts file ≡ false
+IsCompleteUpTo directory facts many false = (file : ℕ) × (file < many) × (lacks_digest directory facts file ≡ true)
+
+-- a job that told a file without a digest has found something wrong
+abbrev pub list_status : Bool → Status
+list_status complete = if complete then Done else Wrong
+
+-- the files of the first entries have more bytes than they may
+pub record ReadTooMuch (volume : ReadVolume) (options : ListOptions) (failed : Type 0) : Type 0 where
+  pub facts : List Facts
+  pub are : AreFactsUpTo volume options failed (length facts) facts
+  pub many : options.most < bytes_read facts
+
+-- ---- the reply
+
+-- the volume that a store has
+abbrev pub volume_in : PlaceForm → FileMeaning → Meaning → List (List ℕ) → Directory → ReadVolume
+volume_in form files meaning store directory =
+    record { form = form; files = files; meaning = meaning; directory = directory; store = store }
+
+-- the entries of what the header, the directory and the map of the volume say, with what is known of each file
+pub record IsEntriesReply (options : ListOptions) (form : PlaceForm) (files : FileMeaning) (format : Meaning) (device : DeviceState) (reply : Reply) : Type 0 where
+  pub directory : Directory
+  pub described : format.Describes device.store directory
+  pub facts : List Facts
+  pub are : AreFactsUpTo (volume_in form files format device.store directory) options (LacksUnit device) (entries directory) facts
+  pub few : bytes_read facts ≤ options.most
+  pub complete : Bool
+  pub ended : IsCompleteUpTo directory facts (entries directory) complete
+  pub told : TellsListing (list_status complete) (Entries (style_of options)) form directory facts reply
+
+-- the files of what they say have more bytes than they may
+pub record IsTooLarge (options : ListOptions) (form : PlaceForm) (files : FileMeaning) (format : Meaning) (device : DeviceState) : Type 0 where
+  pub directory : Directory
+  pub described : format.Describes device.store directory
+  pub read : ReadTooMuch (volume_in form files format device.store directory) options (LacksUnit device)
+
+-- The reply to `list`: the entries; `Check` where the header, the directory or the map's pointer has a fault; `TooLarge`
+-- where the files that are read have too many bytes; a failure where a unit of these can't be read; or want of memory.
+abbrev pub IsEntriesTold : ListOptions → PlaceForm → FileMeaning → Meaning → DeviceState → Reply → Type 0
+IsEntriesTold options form files format device reply =
+    IsEntriesReply options form files format device reply
+    ⊎ ((reply ≡ refused refusals.Check) × HasHeaderFault format device.store)
+    ⊎ ((reply ≡ refused refusals.TooLarge) × IsTooLarge options form files format device)
+    ⊎ ((reply ≡ failed failures.Device) × LacksUnit device)
+    ⊎ (reply ≡ failed failures.Memory)
