@@ -1,6 +1,6 @@
 -- Which replies tell a failure of the device.
 use Rattle.std.proofs.Common.{◌≡◌, ◌∙◌, refl, sym, ap, subst, inl, inr}
-use Rattle.std.specs.Prelude.{◌⊎◌, Bool, false, Err}
+use Rattle.std.specs.Prelude.{◌⊎◌, Bool, true, false, Err}
 use Rattle.a2_device.specs.Device.{DeviceState, OnlyReads}
 use Rattle.reserved_places.specs.declared.form.PlaceForm.{PlaceForm}
 use Rattle.vol_check.specs.Answer.{is_device_error as check_failed}
@@ -16,6 +16,7 @@ use Rattle.shop_replies.specs.declared.reply.Status.TheVariants.{Done, Refused, 
 use Rattle.shop_replies.specs.declared.reply.Told.{Told}
 use Rattle.shop_replies.specs.Reply.{IsTold, failed}
 use Rattle.shop_reads.specs.CheckReply.{TellsRefusal}
+use Rattle.shop_reads.specs.EntriesReply.{list_status}
 use Rattle.shop_reads.specs.PlanReply.{TellsOpening}
 use Rattle.shop_reads.specs.TellingFailures.{fails_device, tells_device}
 
@@ -29,6 +30,17 @@ text_quiet reply is = elim is [
   | inl told ↦ told_quiet Done reply (λ told. refl) told.0
   | inr failed ↦ ap tells_device failed
 ]
+
+-- and that of a list
+list_quiet : {P : Type 0} (complete : Bool) (reply : Reply) → (IsTold (list_status complete) reply × P) ⊎ (reply ≡ failed failures.Memory) → tells_device reply ≡ false
+list_quiet complete reply is = elim is [
+  | inl told ↦ told_quiet (list_status complete) reply (never complete) told.0
+  | inr failed ↦ ap tells_device failed
+]
+  where
+    never : (complete : Bool) (told : Told) → fails_device (list_status complete) told ≡ false
+    never true told = refl
+    never false told = refl
 
 -- that of a check that did not accept, where the check met the failure
 check_told : {A : Type 0} (form : PlaceForm) (error : CheckError A) (reply : Reply) → TellsRefusal form error reply → tells_device reply ≡ check_failed {T = Bool} (Err error)
@@ -54,6 +66,11 @@ opening_told opens.Memory reply is = ap tells_device is
 module _ (reply : Reply) (old new : DeviceState) where
   pub text_reads : {P : Type 0} → (IsTold Done reply × P) ⊎ (reply ≡ failed failures.Memory) → OnlyReads false old new → OnlyReads (tells_device reply) old new
   text_reads is reads = subst (λ (met : Bool). OnlyReads met old new) (sym (text_quiet reply is)) reads
+
+  -- that of a list, whatever it found
+  pub list_reads : {P : Type 0} (complete : Bool) → (IsTold (list_status complete) reply × P) ⊎ (reply ≡ failed failures.Memory) → OnlyReads false old new
+      → OnlyReads (tells_device reply) old new
+  list_reads complete is reads = subst (λ (met : Bool). OnlyReads met old new) (sym (list_quiet complete reply is)) reads
 
   pub check_reads : {A : Type 0} (form : PlaceForm) (error : CheckError A) → TellsRefusal form error reply → OnlyReads (check_failed {T = Bool} (Err error)) old new
       → OnlyReads (tells_device reply) old new

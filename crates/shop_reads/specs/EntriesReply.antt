@@ -37,6 +37,10 @@ abbrev pub is_names : ListForm → Bool
 is_names forms.Names = true
 is_names form = false
 
+-- files are read, for their digests or their addresses
+abbrev pub reads_files : ListOptions → Bool
+reads_files options = options.digests || not (is_names options.form)
+
 -- how entries are told that are asked for so
 abbrev pub names_style : Bool → EntryStyle
 names_style digests = if digests then styles.Sums else styles.Names

@@ -17,7 +17,7 @@ use Rattle.shop_replies.specs.Reply.{failed}
 use Rattle.shop_replies.specs.Volume.{LacksUnit, form_of, meaning_of}
 use Rattle.shop_reads.specs.CatalogReply.{IsListed}
 use Rattle.shop_reads.specs.CheckReply.{IsChecked}
-use Rattle.shop_reads.specs.EntriesReply.{IsEntriesTold}
+use Rattle.shop_reads.specs.EntriesReply.{IsEntriesTold, reads_files}
 use Rattle.shop_reads.specs.PlanReply.{IsPlanned}
 use Rattle.shop_reads.specs.PlanWords.{IsPlannedInWords}
 use Rattle.shop_reads.specs.ReadReply.{IsRead}
@@ -55,9 +55,14 @@ IsLookReply (Verify from reclaim) bytes format device reply = IsVerified reclaim
 
 -- ---- what a look does to a device
 
--- Calls that read alone, of which one failed where the reply tells it. Who reads many files goes on where one fails.
+-- who reads many files goes on where one fails, and tells a failure of the device only where there was one
+abbrev pub ReadsMany : Bool → Reply → DeviceState → DeviceState → Type 0
+ReadsMany true reply old new = ReadsOn old new × (IsTrue (tells_device reply) → IsTrue old.honest → FailedBetween old new)
+ReadsMany false reply old new = OnlyReads (tells_device reply) old new
+
+-- Calls that read alone, of which one failed where the reply tells it.
 abbrev pub ReadsFor : LookView → Reply → DeviceState → DeviceState → Type 0
-ReadsFor (Entries options) reply old new = ReadsOn old new × (IsTrue (tells_device reply) → IsTrue old.honest → FailedBetween old new)
+ReadsFor (Entries options) reply old new = ReadsMany (reads_files options) reply old new
 ReadsFor look reply old new = OnlyReads (tells_device reply) old new
 
 -- what failed under a look failed since a unit can't be read

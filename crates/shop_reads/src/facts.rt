@@ -14,6 +14,7 @@ ghost use Rattle.std.specs.Prelude.{
   IfOk,
   IsFalse,
   IsTrue,
+  false,
   List,
   None,
   Some,
@@ -36,6 +37,7 @@ ghost use Rattle.shop_reads.specs.EntriesReply.{
   is_binary,
   is_missing,
   no_digest,
+  reads_files,
   unread_facts,
   volume_in,
   wants_address,
@@ -259,7 +261,8 @@ fn bytes_of(digest: Digested) -> u64
 
 // Whether anything of a file is wanted beside its entry.
 fn wants_any<F: ShownFormat>(format: &F, options: ListOptions) -> bool
-    ensures { IsFalse result → (store : List (List ℕ)) (directory : Directory) (file : ℕ)
+    ensures none { reads_files options ≡ false → IsFalse result }
+    ensures nothing { IsFalse result → (store : List (List ℕ)) (directory : Directory) (file : ℕ)
         → WantsNothing (volume_in (F.form format.now) (F.files format.now) (F.meaning format.now) store directory)
         options file }
 {
@@ -320,6 +323,7 @@ pub fn known_of<D: Device, F: ShownFormat>(
     requires fits { Fits (F.meaning format.now) (D.state device.old) }
     requires places { (F.directory format.now volume.now).places ≡ (D.state device.old).places }
 
+    ensures alone { reads_files options ≡ false → D.state device.new ≡ D.state device.old }
     ensures reads { ReadsOn (D.state device.old) (D.state device.new) }
     ensures facts { IsTrue (D.state device.old).honest → IfOk result (λ known. AreFactsUpTo
         (volume_in (F.form format.now) (F.files format.now) (F.meaning format.now) (D.state device.old).store

@@ -12,4 +12,4 @@ returns-else-wants_any-clause-facts g c = λ honest.
     let directory = g.F.Format.directory c.args.format.now c.args.volume.now in
     let volume : ReadVolume = volume_in (g.F.ShownFormat.form c.args.format.now) (g.F.FileFormat.files c.args.format.now) (g.F.Format.meaning c.args.format.now) old.store directory in
     subst (λ (facts : List Facts). AreFactsUpTo volume c.args.options (FailedBetween old old) (entries directory) facts) (sym c.new.ensures.items)
-    (nothing_known volume c.args.options (FailedBetween old old) (λ file. c.wants_any.ensures c.if-wants_any.false old.store directory file))
+    (nothing_known volume c.args.options (FailedBetween old old) (λ file. c.wants_any.ensures.nothing c.if-wants_any.false old.store directory file))
