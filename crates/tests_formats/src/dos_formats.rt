@@ -2,7 +2,7 @@
 ghost use Rattle.std.specs.Prelude.{◌≡◌, ◌<◌, ◌≤◌};
 ghost use Rattle.dos_format.specs.Dos.{HasDosSlot};
 
-use crate::gaps::gaps;
+use crate::dos_gaps::gaps;
 use a2_device::{Part, PartKind};
 use dos_format::Dos33;
 use reserved_places::Reserved;

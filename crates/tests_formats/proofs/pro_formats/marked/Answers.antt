@@ -1,5 +1,5 @@
 use Rattle.std.proofs.Common.{arith}
-use Rattle.tests_prodos.proofs.formats.marked.Goals as goal
+use Rattle.tests_formats.proofs.pro_formats.marked.Goals as goal
 
 pub mark-requires-clause-place : goal.mark-requires-clause-place
 mark-requires-clause-place c = (8192, (omega arith, omega arith), omega arith)

@@ -1,7 +1,7 @@
 //! Refused memory: each call that takes memory answers want of it, whichever of its blocks is refused.
-use crate::directories::volume_of;
-use crate::files::{self, walked};
-use crate::maps::bitmap_of;
+use crate::pro_directories::volume_of;
+use crate::pro_files::{self, walked};
+use crate::pro_maps::bitmap_of;
 use a2_device::WalkError;
 use pro_format::Prodos;
 use refusing::Refusing;
@@ -31,7 +31,7 @@ fn reading_error<A: Allocator + Copy>(alloc: A, image: Vec<u8>) -> Option<WalkEr
 fn image_for(alloc: Global, call: Call) -> Result<Vec<u8>, AllocError> {
     match call {
         Call::Map | Call::Volume => tree(alloc),
-        Call::File => files::tree(alloc),
+        Call::File => pro_files::tree(alloc),
         Call::Directories => tree_and_subdirectory(alloc),
     }
 }

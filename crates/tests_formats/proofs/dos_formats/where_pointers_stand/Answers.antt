@@ -1,7 +1,7 @@
 use Rattle.std.proofs.Common.{◌≡◌, ◌∙◌, Bool, List, length, ap, refl, sym, [], false}
 use Rattle.vol_layout.specs.Layouts.{Placement}
 use Rattle.dos_format.specs.Dos.{DosRules, first_available, dos_available}
-use Rattle.tests_dos.proofs.formats.where_pointers_stand.Goals as goal
+use Rattle.tests_formats.proofs.dos_formats.where_pointers_stand.Goals as goal
 
 -- all places but those of tracks 0, 1, 2 and 17
 all_available : length (dos_available false []) ≡ 496

@@ -1,5 +1,5 @@
 //! The paths of entries.
-use crate::directories::volume_of;
+use crate::pro_directories::volume_of;
 use pro_dir::VolumeDir;
 use std::alloc::Global;
 use std::test::Fail;

@@ -1,7 +1,7 @@
 //! Track/sector lists: the walk over those of one file, and their pointers.
 ghost use Rattle.std.specs.Prelude.{◌≡◌, ◌<◌, ◌≤◌, ◌+◌, vec_len};
 
-use crate::gaps::gaps;
+use crate::dos_gaps::gaps;
 use a2_device::{Device, Fault, FaultDevice, Part, PartKind, WalkError};
 use dos_catalog::Entry;
 use dos_tslist::{next, pair, set_next, set_pair, walk};

@@ -1,7 +1,7 @@
 //! Refused memory: each call that takes memory answers want of it, whichever of its blocks is refused.
-use crate::catalogs::catalog_of;
-use crate::gaps::gaps;
-use crate::lists::parts_of;
+use crate::dos_catalogs::catalog_of;
+use crate::dos_gaps::gaps;
+use crate::dos_lists::parts_of;
 use a2_device::WalkError;
 use refusing::Refusing;
 use std::alloc::{AllocError, Global};

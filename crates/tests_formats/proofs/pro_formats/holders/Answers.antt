@@ -5,7 +5,7 @@ use Rattle.a2_device.specs.declared.part.Part.{Part}
 use Rattle.vol_format.specs.Directory.{entries}
 use Rattle.pro_format.specs.Pro.{directory_with}
 use Rattle.pro_format.specs.ProVolume.{tree_of, map_in, system_of}
-use Rattle.tests_prodos.proofs.formats.holders.Goals as goal
+use Rattle.tests_formats.proofs.pro_formats.holders.Goals as goal
 
 pub holder-requires-clause-files : goal.holder-requires-clause-files
 holder-requires-clause-files c =

@@ -1,0 +1,43 @@
+//! The tests of both file systems: of `reserved_places`; of `dos_vtoc`, `dos_catalog`, `dos_tslist` and `dos_format`; of
+//! `pro_bitmap`, `pro_dir`, `pro_dates`, `pro_tree` and `pro_format`; and of `new_files` for each of the two. They hold the
+//! worked rows with literal values, printed text, each public call on its happy path, refused memory, and reads that fail.
+#![tactic(auto)]
+
+#[cfg(test)]
+mod dos_catalogs;
+#[cfg(test)]
+mod dos_formats;
+#[cfg(test)]
+mod dos_gaps;
+#[cfg(test)]
+mod dos_lists;
+#[cfg(test)]
+mod dos_maps;
+#[cfg(test)]
+mod dos_memory;
+#[cfg(test)]
+mod dos_new_parts;
+#[cfg(test)]
+mod dos_reserved;
+#[cfg(test)]
+mod pro_checks;
+#[cfg(test)]
+mod pro_civil_dates;
+#[cfg(test)]
+mod pro_directories;
+#[cfg(test)]
+mod pro_files;
+#[cfg(test)]
+mod pro_formats;
+#[cfg(test)]
+mod pro_maps;
+#[cfg(test)]
+mod pro_memory;
+#[cfg(test)]
+mod pro_new_parts;
+#[cfg(test)]
+mod pro_paths;
+#[cfg(test)]
+mod pro_pointers;
+#[cfg(test)]
+mod pro_slots;
