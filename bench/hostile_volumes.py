@@ -156,7 +156,7 @@ def edits(path, file, folder, words):
 
 def measure(command):
     status, memory = peak(command)
-    said = [word for word in command if word == command[0] or word in ("--explain", "--words", "auto")]
+    said = [word for word in command if word == command[0] or word in ("--explain", "--words", "--digests", "--bodies", "auto")]
     print(f"  {' '.join(said):17} status {status}, peak {memory >> 10:,} MB")
 
 
@@ -182,6 +182,9 @@ def main():
                             ["read", path, "NONE", *words], ["plan", path, *words, "--reclaim"],
                             ["plan", path, *words, "--reclaim", "--words"],
                             ["optimize", path, *words, "--reclaim", "--out", f"{folder}/out.po"], ["identify", path]):
+                measure(command)
+            for command in (["list", path, *words], ["list", path, *words, "--format", "json", "--digests"], ["map", path, *words],
+                            ["check", path, *words, "--bodies"]):
                 measure(command)
             for command in (["check", path, *AUTO], ["check", path, *AUTO, "--explain"]):
                 measure(command)

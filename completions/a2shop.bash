@@ -3,7 +3,7 @@ _a2shop() {
   local word=${COMP_WORDS[COMP_CWORD]} before=${COMP_WORDS[COMP_CWORD-1]}
   COMPREPLY=()
   if [ "$COMP_CWORD" -eq 1 ]; then
-    mapfile -t COMPREPLY < <(compgen -W "catalog list check read convert plan optimize lock unlock delete rename save verify identify help --help --version" -- "$word")
+    mapfile -t COMPREPLY < <(compgen -W "catalog list map check read convert plan optimize lock unlock delete rename save verify identify help --help --version" -- "$word")
     return
   fi
   case "${COMP_WORDS[1]} $before" in
@@ -13,6 +13,9 @@ _a2shop() {
     'list --order') mapfile -t COMPREPLY < <(compgen -W "auto dos prodos nibble" -- "$word"); return ;;
     'list --format') return ;;
     'list --most') return ;;
+    'map --fs') mapfile -t COMPREPLY < <(compgen -W "auto dos prodos" -- "$word"); return ;;
+    'map --order') mapfile -t COMPREPLY < <(compgen -W "auto dos prodos nibble" -- "$word"); return ;;
+    'map --reserve') return ;;
     'check --fs') mapfile -t COMPREPLY < <(compgen -W "auto dos prodos" -- "$word"); return ;;
     'check --order') mapfile -t COMPREPLY < <(compgen -W "auto dos prodos nibble" -- "$word"); return ;;
     'check --reserve') return ;;
@@ -67,15 +70,16 @@ _a2shop() {
   case "${COMP_WORDS[1]}" in
     catalog) mapfile -t COMPREPLY < <(compgen -W "--fs --order --data-disk --auto --explain --help" -- "$word") ;;
     list) mapfile -t COMPREPLY < <(compgen -W "--fs --order --format --digests --most --data-disk --auto --explain --help" -- "$word") ;;
-    check) mapfile -t COMPREPLY < <(compgen -W "--fs --order --data-disk --reserve --auto --explain --help" -- "$word") ;;
-    read) mapfile -t COMPREPLY < <(compgen -W "--fs --order --whole --data-disk --auto --explain --help" -- "$word") ;;
+    map) mapfile -t COMPREPLY < <(compgen -W "--fs --order --data-disk --reserve --auto --explain --help" -- "$word") ;;
+    check) mapfile -t COMPREPLY < <(compgen -W "--fs --order --bodies --data-disk --reserve --auto --explain --help" -- "$word") ;;
+    read) mapfile -t COMPREPLY < <(compgen -W "--fs --order --whole --data-disk --stored --auto --explain --help" -- "$word") ;;
     convert) mapfile -t COMPREPLY < <(compgen -W "--order --to --out --volume --data-disk --auto --explain --help" -- "$word") ;;
     plan) mapfile -t COMPREPLY < <(compgen -W "--fs --order --data-disk --reserve --reclaim --words --auto --explain --help" -- "$word") ;;
     optimize) mapfile -t COMPREPLY < <(compgen -W "--fs --order --out --in-place --data-disk --reserve --reclaim --stop-after --cert --auto --explain --help" -- "$word") ;;
-    lock) mapfile -t COMPREPLY < <(compgen -W "--fs --order --out --in-place --data-disk --reserve --auto --explain --help" -- "$word") ;;
-    unlock) mapfile -t COMPREPLY < <(compgen -W "--fs --order --out --in-place --data-disk --reserve --auto --explain --help" -- "$word") ;;
-    delete) mapfile -t COMPREPLY < <(compgen -W "--fs --order --out --in-place --data-disk --reserve --auto --explain --help" -- "$word") ;;
-    rename) mapfile -t COMPREPLY < <(compgen -W "--fs --order --out --in-place --data-disk --reserve --auto --explain --help" -- "$word") ;;
+    lock) mapfile -t COMPREPLY < <(compgen -W "--fs --order --out --in-place --data-disk --reserve --stored --auto --explain --help" -- "$word") ;;
+    unlock) mapfile -t COMPREPLY < <(compgen -W "--fs --order --out --in-place --data-disk --reserve --stored --auto --explain --help" -- "$word") ;;
+    delete) mapfile -t COMPREPLY < <(compgen -W "--fs --order --out --in-place --data-disk --reserve --stored --auto --explain --help" -- "$word") ;;
+    rename) mapfile -t COMPREPLY < <(compgen -W "--fs --order --out --in-place --data-disk --reserve --stored --auto --explain --help" -- "$word") ;;
     save) mapfile -t COMPREPLY < <(compgen -W "--fs --order --from --out --in-place --type --aux --date --data-disk --reserve --auto --explain --help" -- "$word") ;;
     verify) mapfile -t COMPREPLY < <(compgen -W "--fs --order --from --data-disk --reserve --reclaim --auto --explain --help" -- "$word") ;;
     identify) mapfile -t COMPREPLY < <(compgen -W " --auto --explain --help" -- "$word") ;;

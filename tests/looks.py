@@ -14,6 +14,7 @@ import itertools
 import json
 import operator
 import os
+import re
 import sys
 from typing import NamedTuple, Optional
 
@@ -375,6 +376,10 @@ class DosVolume(Volume):
         """The stored bytes that a name stands for; one that is too long stands for none."""
         return bytes(ord(letter) | 0x80 for letter in name.ljust(30)) if name.isascii() and len(name) <= 30 else None
 
+    def filled(self, stored):
+        """Bytes of a stored name, filled with spaces; none or too many are no name."""
+        return stored.ljust(30, b"\xa0") if 1 <= len(stored) <= 30 else None
+
     def attributes(self, entry):
         """What is compared of an entry beside its text."""
         return entry.raw[2]
@@ -514,6 +519,10 @@ class ProVolume(Volume):
     def stored_name(self, path):
         """The stored bytes that a path stands for."""
         return path.upper().encode("ascii") if path.isascii() else None
+
+    def filled(self, stored):
+        """Bytes of a stored path; none are no path."""
+        return stored or None
 
     def attributes(self, entry):
         """What is compared of an entry beside its text: type, EOF, creation, access, aux type and modification."""
@@ -699,7 +708,7 @@ VALUES_OF = {"--fs": FILE_SYSTEMS, "--order": ORDERS, "--other-order": ORDERS[:3
 COMMANDS = {
     "identify": (1, set(), set()),
     "catalog": (1, {"--fs", "--order"}, {"--data-disk"}),
-    "read": (2, {"--fs", "--order"}, {"--data-disk", "--whole"}),
+    "read": (2, {"--fs", "--order"}, {"--data-disk", "--whole", "--stored"}),
     "check": (1, {"--fs", "--order", "--reserve"}, {"--data-disk", "--bodies"}),
     "list": (1, {"--fs", "--order", "--format", "--most"}, {"--data-disk", "--digests", "--places"}),
     "compare": (2, {"--fs", "--order", "--other-order", "--most"}, {"--data-disk", "--all"}),
@@ -738,6 +747,8 @@ def parsed(words):
     if command in LEFT_OUT or "--auto" in words:
         said = {"--fs": "auto", "--order": "auto", **said}
     if len(positional) != count or options >= {"--fs", "--order"} and not {"--fs", "--order"} <= said.keys():
+        raise Words
+    if "--stored" in said and re.fullmatch("([0-9A-Fa-f]{2})*", positional[1]) is None:
         raise Words
     if "--places" in said and said.get("--format") != "json" or command == "compare" and positional == ["-", "-"]:
         raise Words
@@ -846,7 +857,7 @@ class Looks:
 
     def read(self, path, name, said):
         volume, _ = self.opened(path, said)
-        entry = volume.find(volume.stored_name(name))
+        entry = volume.find(volume.filled(bytes.fromhex(name)) if "--stored" in said else volume.stored_name(name))
         units = volume.units_of(entry)
         return 0, bytes(volume.whole(units) if "--whole" in said else volume.body(entry, units))
 

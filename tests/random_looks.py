@@ -24,8 +24,9 @@ import tempfile
 import looks
 import make_samples
 
-# The command lines by their switch. IMAGE and OTHER are the two images, WAY is the file system and the order, NAME the name of a file;
-# RESERVE is a list of places, DATA the flag of a data disk and WHOLE that of a whole text, each of which may be left out.
+# The command lines by their switch. IMAGE and OTHER are the two images, WAY is the file system and the order, NAME the name of a file
+# and STORED the digits of its stored bytes; RESERVE is a list of places, DATA the flag of a data disk and WHOLE that of a whole text,
+# each of which may be left out.
 COMMANDS = {
     "standing": [
         "identify IMAGE", "catalog IMAGE WAY", "check IMAGE WAY DATA RESERVE", "list IMAGE FREE_WAY DATA", "read IMAGE NAME WAY WHOLE"],
@@ -41,6 +42,7 @@ COMMANDS = {
         "compare IMAGE OTHER FREE_WAY OTHER_WAY DATA", "compare IMAGE OTHER FREE_WAY OTHER_WAY --all",
         "compare IMAGE IMAGE FREE_WAY --all", "compare OTHER IMAGE FREE_WAY OTHER_WAY --most FEW"],
     "map": ["map IMAGE FREE_WAY DATA", "map IMAGE FREE_WAY RESERVE DATA"],
+    "stored": ["read IMAGE STORED WAY WHOLE --stored"],
     "bodies": ["check IMAGE WAY DATA RESERVE --bodies"],
 }
 
@@ -671,6 +673,18 @@ class Words:
         name = self.chance.choice(names) if self.chance.random() < 0.9 else names[-1]
         return name.lower() if self.chance.random() < 0.05 else name
 
+    def stored(self):
+        """The digits of the stored bytes of one of the files, or of others; sometimes no digits of bytes at all."""
+        chance, image = self.chance, self.model.image("image")
+        volume = image.volume(self.maker.file_system, self.order) if looks.allows(len(image.data), self.maker.file_system, self.order) else None
+        entries = volume.entries if isinstance(volume, looks.Volume) else []
+        name = chance.choice(entries).stored if entries and chance.random() < 0.9 else hostile_bytes(chance, chance.choice([1, 5, 30, 31]))
+        if chance.random() < 0.3:
+            name = name.rstrip(b"\xa0") or name
+        digits = name.hex()
+        digits = digits.upper() if chance.random() < 0.5 else digits
+        return digits if digits and chance.random() < 0.97 else digits[:-1] + chance.choice(["", "g", "x0"]) or "0"
+
     def way(self, may_lack):
         """Words for the file system and the order: usually the right ones."""
         chance = self.chance
@@ -711,6 +725,8 @@ class Words:
             return ["--whole"] if chance.random() < 0.3 else []
         if word == "NAME":
             return [self.name()]
+        if word == "STORED":
+            return [self.stored()]
         if word == "FEW":
             return [str(chance.choice([0, 1, 256, 3000, 100_000, looks.MOST, looks.MOST_NUMBER]))]
         if word == "FORM":

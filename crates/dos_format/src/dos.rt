@@ -1,5 +1,5 @@
 // DOS 3.3.
-ghost use Rattle.std.specs.Prelude.{◌≡◌, ◌<◌, ◌≤◌, length, IfOk, IsTrue, map};
+ghost use Rattle.std.specs.Prelude.{◌≡◌, ◌≢◌, ◌<◌, ◌≤◌, [], length, IfOk, IfNone, IfSome, IsTrue, map};
 ghost use Rattle.reserved_places.specs.Reserved.{is_reserved};
 ghost use Rattle.dos_catalog.specs.Found.{AreOnTrack};
 ghost use Rattle.dos_catalog.specs.Listed.{entries_of_catalog};
@@ -86,6 +86,23 @@ impl<A: Allocator + Copy> Dos33<A> {
             reserved,
             available,
         })
+    }
+
+    /// The same format where nothing is reserved; `None` where nothing is.
+    ///
+    /// # Errors
+    /// Want of memory alone.
+    pub fn unreserved(&self) -> Result<Option<Dos33<A>>, AllocError>
+        ensures some { IfOk result (λ other. IfSome other (λ format. (self.now.reserved ≢ [])
+            × (format ≡ record { data_disk = self.now.data_disk; reserved = [] }))) }
+        ensures none { IfOk result (λ other. IfNone other (self.now.reserved ≡ [])) }
+    {
+        if self.reserved.is_empty() {
+            return Ok(None);
+        }
+        let nothing = Reserved::none(self.alloc);
+        let format = Dos33::new(self.alloc, self.data_disk, nothing)?;
+        Ok(Some(format))
     }
 }
 

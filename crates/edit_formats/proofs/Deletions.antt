@@ -16,6 +16,7 @@ use Rattle.vol_laws.proofs.EntryNumbers.{parts_of_number}
 use Rattle.vol_laws.specs.Deletion.{IsDeletion}
 use Rattle.edit_formats.specs.declared.writes.Prepared.{Prepared}
 use Rattle.edit_formats.specs.Prepared.{write_of}
+use Rattle.file_formats.specs.FileNames.{FileNameView}
 use Rattle.file_formats.specs.Files.{FileMeaning}
 use Rattle.edit_formats.specs.declared.error.EditError.{EditError}
 use Rattle.edit_formats.specs.declared.error.EditError.TheVariants.{Device}
@@ -42,13 +43,13 @@ module _ {T : Type 0} (result : Result T EditError) where
       by_result (Ok x) is = tt
       by_result (Err error) is = subst IsDeleteRefusal (sym is) tt
 
-  pub device_told : (format : Meaning) (files : FileMeaning) (erasures : EraseMeaning) (store : List (List ℕ)) (path : List ℕ) → IfErr result (λ error. error ≡ Device)
-      → HasFirstUnprotected format files erasures store path → IsDeleteTold format files erasures store path result
-  device_told format files erasures store path refused first = by_result result refused
+  pub device_told : (format : Meaning) (files : FileMeaning) (erasures : EraseMeaning) (store : List (List ℕ)) (name : FileNameView) → IfErr result (λ error. error ≡ Device)
+      → HasFirstUnprotected format files erasures store name → IsDeleteTold format files erasures store name result
+  device_told format files erasures store name refused first = by_result result refused
     where
-      by_result : (r : Result T EditError) → IfErr r (λ error. error ≡ Device) → IsDeleteTold format files erasures store path r
+      by_result : (r : Result T EditError) → IfErr r (λ error. error ≡ Device) → IsDeleteTold format files erasures store name r
       by_result (Ok x) is = first
-      by_result (Err error) is = subst (λ (e : EditError). IsDeleteTold {T = T} format files erasures store path (Err e)) (sym is) tt
+      by_result (Err error) is = subst (λ (e : EditError). IsDeleteTold {T = T} format files erasures store name (Err e)) (sym is) tt
 
 -- the places of a file, from the parts of the volume
 module _ (directory : Directory) (file : ℕ) (parts : List Part) where

@@ -11,6 +11,7 @@ use Rattle.vol_laws.specs.Lists.{IsFirst}
 use Rattle.vol_laws.specs.Writes.{Write, store_after}
 use Rattle.vol_laws.proofs.Fronts.{after_both}
 use Rattle.vol_laws.proofs.WholeDeletion as whole
+use Rattle.file_formats.specs.FileNames.{FileNameView}
 use Rattle.file_formats.specs.Files.{FileMeaning}
 use Rattle.edit_formats.specs.declared.error.EditError.{EditError}
 use Rattle.edit_formats.specs.declared.error.EditError.TheVariants.{Device}
@@ -27,37 +28,37 @@ store_of [] device = refl
 store_of (write ∷ writes) device = store_of writes (written write.place write.unit device)
 
 module _ (format : Meaning) (laws : IsReadable format) (movable : IsMovable format) (writable : IsWritable format) (free : IsFileFree format)
-    (files : FileMeaning) (erasures : EraseMeaning) (path : List ℕ) (old new : DeviceState) (full : HasWholeUnits format old.store) where
+    (files : FileMeaning) (erasures : EraseMeaning) (name : FileNameView) (old new : DeviceState) (full : HasWholeUnits format old.store) where
   abbrev IsEdit : List Write → Type 0
-  IsEdit writes = IsDeleteEdit format files erasures old.store path writes
+  IsEdit writes = IsDeleteEdit format files erasures old.store name writes
 
-  first_of : (writes : List Write) (edit : IsEdit writes) → IsFirst (files.matches path) edit.directory edit.file
+  first_of : (writes : List Write) (edit : IsEdit writes) → IsFirst (files.matches name) edit.directory edit.file
   first_of writes edit = record { inside = edit.first.inside; named = edit.first.named; first = edit.first.first }
 
   pub deletion_done : {T : Type 0} (result : Result T EditError) → IsTrue old.honest → HasEdited IsEdit result old new
-      → OnOk result (HasFileDeleted format (files.matches path) old.store new.store)
+      → OnOk result (HasFileDeleted format (files.matches name) old.store new.store)
   deletion_done {T} result honest edited = by_result result (edited.done honest)
     where
       by_result : (r : Result T EditError) → OnOk r ((writes : List Write) × IsEdit writes × (new ≡ device_after writes old))
-          → OnOk r (HasFileDeleted format (files.matches path) old.store new.store)
+          → OnOk r (HasFileDeleted format (files.matches name) old.store new.store)
       by_result (Ok x) done =
-          subst (HasFileDeleted format (files.matches path) old.store)
+          subst (HasFileDeleted format (files.matches name) old.store)
           (sym (ap (λ (d : DeviceState). d.store) done.2 ∙ store_of done.0 old))
-          (whole.done format laws movable writable free (files.matches path) done.1.directory done.1.file old.store done.0 done.1.accepted full
+          (whole.done format laws movable writable free (files.matches name) done.1.directory done.1.file old.store done.0 done.1.accepted full
           (first_of done.0 done.1) done.1.deletion)
       by_result (Err e) done = tt
 
   pub deletion_changed : {T : Type 0} (result : Result T EditError) → IsTrue old.honest → HasEdited IsEdit result old new
-      → OnOk result (HasChanged format (without_named files path) old.store new.store)
+      → OnOk result (HasChanged format (without_named files name) old.store new.store)
   deletion_changed {T} result honest edited = by_result result (deletion_done result honest edited)
     where
-      by_result : (r : Result T EditError) → OnOk r (HasFileDeleted format (files.matches path) old.store new.store) → OnOk r (HasChanged format (without_named files path) old.store new.store)
+      by_result : (r : Result T EditError) → OnOk r (HasFileDeleted format (files.matches name) old.store new.store) → OnOk r (HasChanged format (without_named files name) old.store new.store)
       by_result (Ok x) deleted = record { volume = deleted.volume; files = deleted.files; lost = deleted.lost }
       by_result (Err e) deleted = tt
 
   -- the store is that after a front of the writes
   front : (writes : List Write) → IsEdit writes → (n : ℕ) → n ≤ length writes → new.store ≡ store_after (take n writes) old.store
-      → IsOldOrErased format files path old.store new.store
+      → IsOldOrErased format files name old.store new.store
   front [] edit zero below same = inl same
   front (write ∷ writes) edit zero below same = inl same
   front writes edit (suc n) below same = inr (record {
@@ -65,20 +66,20 @@ module _ (format : Meaning) (laws : IsReadable format) (movable : IsMovable form
     accepted = edit.accepted;
     file = edit.file;
     first = edit.first;
-    erased = subst (λ (s : List (List ℕ)). HasEntryErased format (files.matches path) edit.directory edit.file old.store s) (sym same)
-        (whole.stopped format laws movable writable free (files.matches path) edit.directory edit.file old.store writes edit.accepted full
+    erased = subst (λ (s : List (List ℕ)). HasEntryErased format (files.matches name) edit.directory edit.file old.store s) (sym same)
+        (whole.stopped format laws movable writable free (files.matches name) edit.directory edit.file old.store writes edit.accepted full
         (first_of writes edit) edit.deletion (suc n) (omega arith) below);
   })
 
   pub deletion_stopped : {T : Type 0} (result : Result T EditError) → IsTrue old.honest → HasEdited IsEdit result old new → result ≡ Err Device
-      → IsOldOrErased format files path old.store new.store
+      → IsOldOrErased format files name old.store new.store
   deletion_stopped result honest edited is = by_cause (edited.stopped honest is)
     where
       by_write : (writes : List Write) → IsEdit writes → (made : ℕ) → made < length writes
           → let write = slice_index_or writes made no_write in
           let before = device_after (take made writes) old in
           (new.store ≡ before.store) ⊎ (new.store ≡ slice_set before.store write.place write.unit)
-          → IsOldOrErased format files path old.store new.store
+          → IsOldOrErased format files name old.store new.store
       by_write writes edit made below (inl same) =
           front writes edit made (omega (arith, below)) (same ∙ store_of (take made writes) old)
       by_write writes edit made below (inr stands) =
@@ -88,7 +89,7 @@ module _ (format : Meaning) (laws : IsReadable format) (movable : IsMovable form
           ∙ sym (after_both (take made writes) (write ∷ []) old.store)
           ∙ ap (λ (l : List Write). store_after l old.store) (sym (take_more writes made no_write below)))
 
-      by_cause : OnlyReads true old new ⊎ ((writes : List Write) × IsEdit writes × StopsIn writes old new) → IsOldOrErased format files path old.store new.store
+      by_cause : OnlyReads true old new ⊎ ((writes : List Write) × IsEdit writes × StopsIn writes old new) → IsOldOrErased format files name old.store new.store
       by_cause (inl reads) = inl (read_keeps old new honest reads)
       by_cause (inr stops) =
           let write = slice_index_or stops.0 stops.2.made no_write in

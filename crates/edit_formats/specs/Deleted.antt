@@ -8,48 +8,49 @@ use Rattle.vol_laws.specs.Entered.{IsTaken}
 use Rattle.vol_laws.specs.Deleted.{HasEntryErased}
 use Rattle.vol_laws.specs.Deletion.{IsDeletion}
 use Rattle.vol_laws.specs.Writes.{Write}
+use Rattle.file_formats.specs.FileNames.{FileNameView}
 use Rattle.file_formats.specs.Files.{FileMeaning, IsFirstNamed}
 use Rattle.edit_formats.specs.declared.error.EditError.{EditError}
 use Rattle.edit_formats.specs.declared.error.EditError.TheVariants.{Check, NotFound, Locked, Device, Memory}
 use Rattle.edit_formats.specs.Erasing.{EraseMeaning}
 use Rattle.edit_formats.specs.Renamed.{HasFirst}
 
--- The writes that delete the first file that a path names, of an accepted volume, where its entry lets it be deleted. Those to the directory, which come first, erase its
+-- The writes that delete the first file with a name, of an accepted volume, where its entry lets it be deleted. Those to the directory, which come first, erase its
 -- entry byte for byte as the format has it. The writes are kept in memory until the first is made, and there are fewer of them than a device can count.
-pub record IsDeleteEdit (format : Meaning) (files : FileMeaning) (erasures : EraseMeaning) (store : List (List ℕ)) (path : List ℕ) (writes : List Write) : Type 0 where
+pub record IsDeleteEdit (format : Meaning) (files : FileMeaning) (erasures : EraseMeaning) (store : List (List ℕ)) (name : FileNameView) (writes : List Write) : Type 0 where
   pub directory : Directory
   pub accepted : IsAccepted format directory store
   pub file : ℕ
-  pub first : IsFirstNamed files directory path file
+  pub first : IsFirstNamed files directory name file
   pub unprotected : erasures.protects (entry_of directory file).bytes ≡ false
   pub deletion : IsDeletion format directory file store writes
   pub erases : erasures.Erases store directory file deletion.system
   pub few : length writes < 18446744073709551616
 
--- The first file that a path names is no longer among the files; at worst its places are lost.
-pub record IsErasedOf (format : Meaning) (files : FileMeaning) (path : List ℕ) (old new : List (List ℕ)) : Type 0 where
+-- The first file with a name is no longer among the files; at worst its places are lost.
+pub record IsErasedOf (format : Meaning) (files : FileMeaning) (name : FileNameView) (old new : List (List ℕ)) : Type 0 where
   pub directory : Directory
   pub accepted : IsAccepted format directory old
   pub file : ℕ
-  pub first : IsFirstNamed files directory path file
-  pub erased : HasEntryErased format (files.matches path) directory file old new
+  pub first : IsFirstNamed files directory name file
+  pub erased : HasEntryErased format (files.matches name) directory file old new
 
 -- the same store, or one without the file's entry
-abbrev pub IsOldOrErased : Meaning → FileMeaning → List ℕ → List (List ℕ) → List (List ℕ) → Type 0
-IsOldOrErased format files path old new = (new ≡ old) ⊎ IsErasedOf format files path old new
+abbrev pub IsOldOrErased : Meaning → FileMeaning → FileNameView → List (List ℕ) → List (List ℕ) → Type 0
+IsOldOrErased format files name old new = (new ≡ old) ⊎ IsErasedOf format files name old new
 
--- the first file that the path names is protected, or is not
-abbrev pub HasFirstProtected : Meaning → FileMeaning → EraseMeaning → List (List ℕ) → List ℕ → Type 0
-HasFirstProtected format files erasures store path = HasFirst format files store path (λ directory file. erasures.protects (entry_of directory file).bytes ≡ true)
+-- the first file with the name is protected, or is not
+abbrev pub HasFirstProtected : Meaning → FileMeaning → EraseMeaning → List (List ℕ) → FileNameView → Type 0
+HasFirstProtected format files erasures store name = HasFirst format files store name (λ directory file. erasures.protects (entry_of directory file).bytes ≡ true)
 
-abbrev pub HasFirstUnprotected : Meaning → FileMeaning → EraseMeaning → List (List ℕ) → List ℕ → Type 0
-HasFirstUnprotected format files erasures store path = HasFirst format files store path (λ directory file. erasures.protects (entry_of directory file).bytes ≡ false)
+abbrev pub HasFirstUnprotected : Meaning → FileMeaning → EraseMeaning → List (List ℕ) → FileNameView → Type 0
+HasFirstUnprotected format files erasures store name = HasFirst format files store name (λ directory file. erasures.protects (entry_of directory file).bytes ≡ false)
 
--- what is told of the first file that a path names, which is to be deleted
-abbrev pub IsDeleteTold : {T : Type 0} → Meaning → FileMeaning → EraseMeaning → List (List ℕ) → List ℕ → Result T EditError → Type 0
-IsDeleteTold format files erasures store path (Ok x) = HasFirstUnprotected format files erasures store path
-IsDeleteTold format files erasures store path (Err Locked) = HasFirstProtected format files erasures store path
-IsDeleteTold format files erasures store path (Err error) = Unit {0}
+-- what is told of the first file with a name, which is to be deleted
+abbrev pub IsDeleteTold : {T : Type 0} → Meaning → FileMeaning → EraseMeaning → List (List ℕ) → FileNameView → Result T EditError → Type 0
+IsDeleteTold format files erasures store name (Ok x) = HasFirstUnprotected format files erasures store name
+IsDeleteTold format files erasures store name (Err Locked) = HasFirstProtected format files erasures store name
+IsDeleteTold format files erasures store name (Err error) = Unit {0}
 
 -- the places of those parts that have the number of a file
 abbrev pub places_of_file : ℕ → List Part → List ℕ

@@ -7,6 +7,7 @@ use Rattle.vol_format.specs.Files.{File}
 use Rattle.vol_format.specs.Accepted.{IsAccepted}
 use Rattle.vol_format.specs.Directory.{Directory, entry_of}
 use Rattle.vol_format.specs.Meaning.{Meaning}
+use Rattle.file_formats.specs.FileNames.{FileNameView}
 use Rattle.file_formats.specs.Files.{FileMeaning, IsFirstNamed}
 use Rattle.edit_formats.specs.declared.error.EditError.{EditError}
 use Rattle.edit_formats.specs.declared.error.EditError.TheVariants.{Check, NotFound, Name, Exists, Locked, Device, Memory}
@@ -14,10 +15,10 @@ use Rattle.edit_formats.specs.Lists.{with_first}
 use Rattle.edit_formats.specs.Names.{NameMeaning}
 use Rattle.vol_laws.specs.Writes.{Write}
 
--- the list with a new name of the first file that the path names: in its path and in the bytes of its entry
-abbrev pub with_new_name : FileMeaning → NameMeaning → List ℕ → List ℕ → List File → List File
-with_new_name files names path new =
-    with_first files path (λ (file : File). record file { path = names.path new file.path file.bytes; bytes = names.bytes new file.bytes })
+-- the list in which the first file with the name has a new one: in its path and in the bytes of its entry
+abbrev pub with_new_name : FileMeaning → NameMeaning → FileNameView → List ℕ → List File → List File
+with_new_name files names name new =
+    with_first files name (λ (file : File). record file { path = names.path new file.path file.bytes; bytes = names.bytes new file.bytes })
 
 -- A file may get the name, no entry beside its own has it, its own among them, and its entry allows it.
 pub record IsRenamable (names : NameMeaning) (store : List (List ℕ)) (directory : Directory) (file : ℕ) (new : List ℕ) : Type 0 where
@@ -25,24 +26,24 @@ pub record IsRenamable (names : NameMeaning) (store : List (List ℕ)) (director
   pub alone : ¬ names.HasBeside store directory file new
   pub unlocked : names.keeps (entry_of directory file).bytes ≡ false
 
--- The one write that renames the first file that a path names, of an accepted volume: into the entry of that file, which may be renamed.
-pub record IsRenameEdit (format : Meaning) (files : FileMeaning) (names : NameMeaning) (store : List (List ℕ)) (path new : List ℕ) (writes : List Write) : Type 0 where
+-- The one write that renames the first file with a name, of an accepted volume: into the entry of that file, which may be renamed.
+pub record IsRenameEdit (format : Meaning) (files : FileMeaning) (names : NameMeaning) (store : List (List ℕ)) (name : FileNameView) (new : List ℕ) (writes : List Write) : Type 0 where
   pub directory : Directory
   pub accepted : IsAccepted format directory store
   pub file : ℕ
-  pub first : IsFirstNamed files directory path file
+  pub first : IsFirstNamed files directory name file
   pub renamable : IsRenamable names store directory file new
   pub are : writes ≡ record {
     place = (entry_of directory file).place;
     unit = names.with_name new (entry_of directory file) (unit_at store (entry_of directory file).place);
   } ∷ []
 
--- an accepted volume of which the path names a file that is so
-pub record HasFirst (format : Meaning) (files : FileMeaning) (store : List (List ℕ)) (path : List ℕ) (Is : Directory → ℕ → Type 0) : Type 0 where
+-- an accepted volume of which the first file with the name is so
+pub record HasFirst (format : Meaning) (files : FileMeaning) (store : List (List ℕ)) (name : FileNameView) (Is : Directory → ℕ → Type 0) : Type 0 where
   pub directory : Directory
   pub accepted : IsAccepted format directory store
   pub file : ℕ
-  pub first : IsFirstNamed files directory path file
+  pub first : IsFirstNamed files directory name file
   pub is : Is directory file
 
 -- Why the file of an entry is not renamed: no file may have the name; a file may, but an entry beside its own has it;
@@ -59,18 +60,18 @@ pub record IsNameKept (names : NameMeaning) (store : List (List ℕ)) (directory
   pub alone : ¬ names.HasBeside store directory file new
   pub keeps : names.keeps (entry_of directory file).bytes ≡ true
 
--- the same of the first file that the path names, on an accepted volume
-abbrev pub HasFirstUnnamed : Meaning → FileMeaning → NameMeaning → List (List ℕ) → List ℕ → List ℕ → Type 0
-HasFirstUnnamed format files names store path new =
-    HasFirst format files store path (λ directory file. IsNoName names new)
+-- the same of the first file with the name, on an accepted volume
+abbrev pub HasFirstUnnamed : Meaning → FileMeaning → NameMeaning → List (List ℕ) → FileNameView → List ℕ → Type 0
+HasFirstUnnamed format files names store name new =
+    HasFirst format files store name (λ directory file. IsNoName names new)
 
-abbrev pub HasFirstBeside : Meaning → FileMeaning → NameMeaning → List (List ℕ) → List ℕ → List ℕ → Type 0
-HasFirstBeside format files names store path new =
-    HasFirst format files store path (λ directory file. IsNameInUse names store directory file new)
+abbrev pub HasFirstBeside : Meaning → FileMeaning → NameMeaning → List (List ℕ) → FileNameView → List ℕ → Type 0
+HasFirstBeside format files names store name new =
+    HasFirst format files store name (λ directory file. IsNameInUse names store directory file new)
 
-abbrev pub HasFirstLocked : Meaning → FileMeaning → NameMeaning → List (List ℕ) → List ℕ → List ℕ → Type 0
-HasFirstLocked format files names store path new =
-    HasFirst format files store path (λ directory file. IsNameKept names store directory file new)
+abbrev pub HasFirstLocked : Meaning → FileMeaning → NameMeaning → List (List ℕ) → FileNameView → List ℕ → Type 0
+HasFirstLocked format files names store name new =
+    HasFirst format files store name (λ directory file. IsNameKept names store directory file new)
 
 -- what is told of an entry that was asked for by reads of the device
 abbrev pub IsAnswer : Type 0 → Result Bool EditError → Type 0
@@ -90,13 +91,13 @@ IsWeighed names store directory file new (Err Device) = Unit {0}
 IsWeighed names store directory file new (Err Memory) = Unit {0}
 IsWeighed names store directory file new (Err error) = ⊥
 
--- what is told of the first file that a path names, which is to be renamed
-abbrev pub IsRenameTold : {T : Type 0} → Meaning → FileMeaning → NameMeaning → List (List ℕ) → List ℕ → List ℕ → Result T EditError → Type 0
-IsRenameTold format files names store path new (Ok x) = HasFirst format files store path (λ directory file. IsRenamable names store directory file new)
-IsRenameTold format files names store path new (Err Name) = HasFirstUnnamed format files names store path new
-IsRenameTold format files names store path new (Err Exists) = HasFirstBeside format files names store path new
-IsRenameTold format files names store path new (Err Locked) = HasFirstLocked format files names store path new
-IsRenameTold format files names store path new (Err error) = Unit {0}
+-- what is told of the first file with a name, which is to be renamed
+abbrev pub IsRenameTold : {T : Type 0} → Meaning → FileMeaning → NameMeaning → List (List ℕ) → FileNameView → List ℕ → Result T EditError → Type 0
+IsRenameTold format files names store name new (Ok x) = HasFirst format files store name (λ directory file. IsRenamable names store directory file new)
+IsRenameTold format files names store name new (Err Name) = HasFirstUnnamed format files names store name new
+IsRenameTold format files names store name new (Err Exists) = HasFirstBeside format files names store name new
+IsRenameTold format files names store name new (Err Locked) = HasFirstLocked format files names store name new
+IsRenameTold format files names store name new (Err error) = Unit {0}
 
 -- why a file is not renamed: no other refusal is told
 abbrev pub IsRenameRefusal : EditError → Type 0

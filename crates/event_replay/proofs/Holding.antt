@@ -7,6 +7,7 @@ use Rattle.vol_mover.specs.Present.{Present}
 use Rattle.vol_mover.specs.Resuming.{CanResume}
 use Rattle.vol_mover.proofs.Sessions.{resumed_session}
 use Rattle.vol_mover.proofs.Stepping.{reads_keep}
+use Rattle.file_formats.specs.FileNames.{GivenPath}
 use Rattle.file_formats.specs.Files.{FileMeaning}
 use Rattle.file_cmds.specs.Read.{IsTextAt, IsUnreadable, HasNoFile}
 use Rattle.file_cmds.specs.Refusal.{told_device}
@@ -47,9 +48,9 @@ texts items (Err error) = Err error
 
 module _ {A V : Type 0} (items : V → List ℕ) (format : Meaning) (files : FileMeaning) (path : List ℕ) (old new : DeviceState) (answer : Answer A) where
   pub read_device : (result : Result V CmdError) → OnlyReads (told_device result) old new
-      → (IsTrue old.honest → IfOk result (λ value. IsTextAt format files old.store path false (items value)))
-      → (IsTrue old.honest → result ≡ Err Check → IsUnreadable format files old.store path)
-      → (IsTrue old.honest → result ≡ Err NotFound → HasNoFile format files old.store path)
+      → (IsTrue old.honest → IfOk result (λ value. IsTextAt format files old.store (GivenPath path) false (items value)))
+      → (IsTrue old.honest → result ≡ Err Check → IsUnreadable format files old.store (GivenPath path))
+      → (IsTrue old.honest → result ≡ Err NotFound → HasNoFile format files old.store (GivenPath path))
       → AnswersRead (texts items result) answer → ReadsDevice format files path old answer new
   read_device (Ok value) device text check none answers = record {
     result = Ok (items value);

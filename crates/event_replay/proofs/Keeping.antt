@@ -16,6 +16,7 @@ use Rattle.vol_format.proofs.OneList.{one_layout}
 use Rattle.vol_mover.specs.Steps.{MovesOne}
 use Rattle.vol_mover.specs.Volume.{SameVolume}
 use Rattle.vol_mover.proofs.Volumes.{same_volume-refl, same_volume-trans}
+use Rattle.file_formats.specs.FileNames.{GivenPath}
 use Rattle.file_formats.specs.Files.{FileMeaning}
 use Rattle.file_cmds.specs.FileList.{IsTextOfFirst}
 use Rattle.file_cmds.proofs.ByList.{text_by_list}
@@ -165,7 +166,7 @@ module _ (A : Type 0) (format : Meaning) (laws : IsReadable format) (movable : I
   reads_file : (old : Moment) (event : Event) (answer : Answer A) (new : Moment) → KeepsVolume format all first old → IsTurn format files old event answer new
       → ReadsFile format files all event answer
   reads_file old (Read path) (Bytes bytes) new keeps (gave told text there comes gives is) =
-      subst (IsTextOfFirst files format.unit_size all path.now false) (sym gives) (text_by_list format laws files old.store all keeps.files path.now false text is)
+      subst (IsTextOfFirst files format.unit_size all (GivenPath path.now) false) (sym gives) (text_by_list format laws files old.store all keeps.files (GivenPath path.now) false text is)
   reads_file old (Read path) Stepped new keeps turn = tt
   reads_file old (Read path) Refused new keeps turn = tt
   reads_file old (Read path) NoMemory new keeps turn = tt

@@ -9,6 +9,7 @@ use Rattle.vol_format.specs.Meaning.{Meaning}
 use Rattle.vol_mover.specs.Present.{Present, IsSession}
 use Rattle.vol_mover.specs.Resuming.{CanResume}
 use Rattle.vol_mover.proofs.Sessions.{resumed_session}
+use Rattle.file_formats.specs.FileNames.{GivenPath}
 use Rattle.file_formats.specs.Files.{FileMeaning}
 use Rattle.file_cmds.specs.Read.{IsTextAt, IsUnreadable, HasNoFile}
 use Rattle.file_cmds.specs.Text.{OwnFault, other_type, wild_root, wild_pointer, shared}
@@ -33,7 +34,7 @@ module _ (format : Meaning) (laws : IsReadable format) (files : FileMeaning) (st
   no_fault directory file accepted inside (wild_pointer part pointer reached here is) = (accepted.sound part reached).no_wild pointer is
   no_fault directory file accepted inside (shared part other reached other_reached here there same apart) = apart (accepted.once part other reached other_reached same)
 
-  pub is_readable : IsVolume format store → IsUnreadable format files store path → ⊥
+  pub is_readable : IsVolume format store → IsUnreadable format files store (GivenPath path) → ⊥
   is_readable (directory, accepted) (inl (fault, there)) = laws.header_fault store directory fault there accepted.described
   is_readable (directory, accepted) (inr broken) =
       let one = laws.one_directory store directory broken.directory accepted.described broken.described in
@@ -103,17 +104,17 @@ module _ (A : Type 0) (format : Meaning) (laws : IsReadable format) (files : Fil
       (record now { fails_read = false }, failed there met.0, met.1)
 
   by_result : now.fails_read ≡ false → (result : Result (List ℕ) CmdError) → OnlyReads (told_device result) old.device new.device
-      → IfOk result (IsTextAt format files old.device.store path false)
-      → (result ≡ Err Check → IsUnreadable format files old.device.store path)
-      → (result ≡ Err NotFound → HasNoFile format files old.device.store path)
+      → IfOk result (IsTextAt format files old.device.store (GivenPath path) false)
+      → (result ≡ Err Check → IsUnreadable format files old.device.store (GivenPath path))
+      → (result ≡ Err NotFound → HasNoFile format files old.device.store (GivenPath path))
       → AnswersRead result answer → IsLine answer
   by_result comes (Ok text) reads is check none answers =
-      (now, gave answer text there comes answers (subst (λ s. IsTextAt format files s path false text) at.0.stands is), kept false reads (came reads))
+      (now, gave answer text there comes answers (subst (λ s. IsTextAt format files s (GivenPath path) false text) at.0.stands is), kept false reads (came reads))
   by_result comes (Err Memory) reads is check none answers = subst IsLine (sym answers) (now, no_memory there, kept false reads (came reads))
   by_result comes (Err NotFound) reads is check none answers =
-      subst IsLine (sym answers) (now, no_file there comes (subst (λ s. HasNoFile format files s path) at.0.stands (none refl)), kept false reads (came reads))
+      subst IsLine (sym answers) (now, no_file there comes (subst (λ s. HasNoFile format files s (GivenPath path)) at.0.stands (none refl)), kept false reads (came reads))
   by_result comes (Err Check) reads is check none answers =
-      absurd (is_readable format laws files now.store path at.1.0 (subst (λ s. IsUnreadable format files s path) at.0.stands (check refl)))
+      absurd (is_readable format laws files now.store path at.1.0 (subst (λ s. IsUnreadable format files s (GivenPath path)) at.0.stands (check refl)))
   by_result comes (Err Device) reads is check none answers = subst IsLine (sym answers) (failed_line reads)
 
   pub read_line : ReadsFileToOrder format files path old.device answer new.device → IsLine answer

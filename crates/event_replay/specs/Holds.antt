@@ -13,6 +13,7 @@ use Rattle.vol_mover.specs.Shown.{present}
 use Rattle.vol_mover.specs.Steps.{IsStep}
 use Rattle.vol_mover.specs.declared.progress.Progress.{Progress}
 use Rattle.vol_mover.specs.declared.progress.StepError.{StepError}
+use Rattle.file_formats.specs.FileNames.{GivenPath}
 use Rattle.file_formats.specs.Files.{FileMeaning}
 use Rattle.file_cmds.specs.Read.{IsTextAt, IsUnreadable, HasNoFile}
 use Rattle.file_cmds.specs.Refusal.{told_device}
@@ -104,9 +105,9 @@ AnswersRead (Err error) answer = answer ≡ Refused
 pub record ReadsDevice {A : Type 0} (format : Meaning) (files : FileMeaning) (path : List ℕ) (old : DeviceState) (answer : Answer A) (new : DeviceState) : Type 0 where
   pub result : Result (List ℕ) CmdError
   pub device : OnlyReads (told_device result) old new
-  pub text : IsTrue old.honest → IfOk result (IsTextAt format files old.store path false)
-  pub check : IsTrue old.honest → result ≡ Err Check → IsUnreadable format files old.store path
-  pub not_found : IsTrue old.honest → result ≡ Err NotFound → HasNoFile format files old.store path
+  pub text : IsTrue old.honest → IfOk result (IsTextAt format files old.store (GivenPath path) false)
+  pub check : IsTrue old.honest → result ≡ Err Check → IsUnreadable format files old.store (GivenPath path)
+  pub not_found : IsTrue old.honest → result ≡ Err NotFound → HasNoFile format files old.store (GivenPath path)
   pub answers : AnswersRead result answer
 
 -- a read of a file, unless its first read meets an order to fail

@@ -7,6 +7,7 @@ use Rattle.vol_format.specs.Files.{File, HasFiles}
 use Rattle.vol_mover.specs.declared.error.OpenError.{OpenError}
 use Rattle.vol_mover.specs.Volume.{SameVolume}
 use Rattle.file_cmds.specs.FileList.{IsTextOfFirst}
+use Rattle.file_formats.specs.FileNames.{GivenPath}
 use Rattle.file_formats.specs.Files.{FileMeaning}
 use Rattle.file_cmds.specs.Read.{IsTextAt, HasNoFile}
 use Rattle.event_replay.specs.Moments.{FailsNothing, HasSession, IsNotOpen, Moment, Open, Closed, Absent, first_moment}
@@ -42,8 +43,8 @@ Gives answer text = ⊥
 -- stays.
 pub data Reads {A : Type 0} (format : Meaning) (files : FileMeaning) (path : List ℕ) (old : Moment) : Answer A → Moment → Type 0 where
   gave : (answer : Answer A) (text : List ℕ) → HasSession old.session → old.fails_read ≡ false → Gives answer text
-      → IsTextAt format files old.store path false text → Reads format files path old answer old
-  no_file : HasSession old.session → old.fails_read ≡ false → HasNoFile format files old.store path
+      → IsTextAt format files old.store (GivenPath path) false text → Reads format files path old answer old
+  no_file : HasSession old.session → old.fails_read ≡ false → HasNoFile format files old.store (GivenPath path)
       → Reads format files path old Refused old
   failed : HasSession old.session → old.fails_read ≡ true → Reads format files path old Refused (record old { fails_read = false })
   no_memory : HasSession old.session → Reads format files path old NoMemory old
@@ -85,7 +86,7 @@ pub data Begins (A : Type 0) (format : Meaning) (store : List (List ℕ)) : Mome
 
 -- a read that gives bytes gives those of the first file of the path, in the list of files at first; no bytes are given for a path that no file of it has
 abbrev pub ReadsFile : {A : Type 0} → Meaning → FileMeaning → List File → Event → Answer A → Type 0
-ReadsFile format files all (Read path) (Bytes bytes) = IsTextOfFirst files format.unit_size all path.now false bytes.items
+ReadsFile format files all (Read path) (Bytes bytes) = IsTextOfFirst files format.unit_size all (GivenPath path.now) false bytes.items
 ReadsFile format files all event answer = Unit {0}
 
 -- What holds of each moment of a run whose first store is a volume with these files: the store is a volume, with the same files and the same units of the system; the

@@ -12,7 +12,7 @@ use crate::stepping::step;
 use crate::{Answer, Event};
 use a2_device::Device;
 use file_cmds::{CmdError, read};
-use file_formats::FileFormat;
+use file_formats::{FileFormat, FileName};
 use std::alloc::Allocator;
 use vol_format::WritableFormat;
 use vol_mover::{OpenError, Options, Session};
@@ -55,7 +55,7 @@ fn read_body<D: Device, F: FileFormat, A: Allocator + Copy>(
     ensures { ReadsDevice (F.meaning format.now) (F.files format.now) path.now (D.state device.old) result
         (D.state device.new) }
 {
-    match read(alloc, device, format, path, false) {
+    match read(alloc, device, format, FileName::Path(path), false) {
         Ok(bytes) => Answer::Bytes(bytes),
         Err(error) => answer_of(error),
     }

@@ -3,7 +3,7 @@ use crate::explanation::Explanation;
 
 /// The explanations of what a job finds: faults of a volume, faults of a certificate and verdicts; and of words that
 /// are no job.
-pub static FINDINGS: [Explanation; 24] = [
+pub static FINDINGS: [Explanation; 26] = [
     Explanation {
         front: "FAULT Geometry",
         meaning: "The header of the volume is not that of a volume of this size: the table of contents of a DOS disk \
@@ -112,12 +112,26 @@ pub static FINDINGS: [Explanation; 24] = [
     },
     Explanation {
         front: "ACCEPTED",
-        meaning: "The volume is sound: each part of each file stands alone, at a place that is marked as used. What \
-            stands in the files was not read, so a file may be damaged all the same. Lost places, if there are any, \
-            are marked as used and belong to no file; that is no fault.",
-        advice: "Nothing is to be done. `a2shop list --digests` reads each file, and tells which can't be read. Where \
-            places are lost, `a2shop plan` and `optimize` want `--reclaim`, to mark them as free, or `--reserve`, to \
-            keep them.",
+        meaning: "The volume is sound: each part of each file stands alone, at a place that is marked as used. Without \
+            `--bodies` what stands in the files was not read, and a file may be damaged all the same. Lost places, if \
+            there are any, are marked as used and belong to no file; that is no fault.",
+        advice: "Nothing is to be done. `a2shop check --bodies` reads each sector or block of the files too, and tells \
+            which can't be read. Where places are lost, `a2shop plan` and `optimize` want `--reclaim`, to mark them as \
+            free, or `--reserve`, to keep them.",
+    },
+    Explanation {
+        front: "UNREADABLE",
+        meaning: "The volume is accepted, but this sector or block of a file can't be read from the image. The place \
+            comes first, and behind it the path of the file.",
+        advice: "Take the other files off the image, and look for another copy of the disk. `a2shop list --digests` \
+            tells a digest of each file that can be read as a whole.",
+    },
+    Explanation {
+        front: "PARTS",
+        meaning: "In the picture S is the system's, R a place that you reserved, o a part of a file that stands at its \
+            target place, x one that stands elsewhere, ? a place that is marked as used and belongs to no file, and a \
+            full stop a free place.",
+        advice: "`a2shop plan` tells the fewest moves that leave no x, and `a2shop optimize` makes them.",
     },
     Explanation {
         front: "BEST",

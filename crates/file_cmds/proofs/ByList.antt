@@ -8,6 +8,7 @@ use Rattle.vol_format.specs.Laws.{IsReadable}
 use Rattle.vol_format.specs.Meaning.{Meaning}
 use Rattle.vol_format.specs.Files.{Stored, File, IsFile, file_numbers, HasFiles}
 use Rattle.vol_format.proofs.Lists.{same_elements}
+use Rattle.file_formats.specs.FileNames.{FileNameView}
 use Rattle.file_formats.specs.Files.{FileMeaning, is_named, IsFirstNamed, NamesNone}
 use Rattle.file_cmds.specs.Text.{OwnFault, other_type, wild_root, wild_pointer, shared, AreUnitsOf, text_of}
 use Rattle.file_cmds.specs.Read.{IsTextAt, IsBroken, IsUnreadable, HasNoFile}
@@ -84,31 +85,31 @@ module _ (p : ℕ → Bool) where
       by_test rest true is = absurd (cc)
       by_test rest false is = rest
 
-module _ (format : Meaning) (laws : IsReadable format) (meaning : FileMeaning) (store : List (List ℕ)) (files : List File) (has : HasFiles format store files) (path : List ℕ) where
+module _ (format : Meaning) (laws : IsReadable format) (meaning : FileMeaning) (store : List (List ℕ)) (files : List File) (has : HasFiles format store files) (name : FileNameView) where
   abbrev is_wanted : ℕ → Bool
-  is_wanted entry = is_named meaning path (entry_of has.directory entry)
+  is_wanted entry = is_named meaning name (entry_of has.directory entry)
 
-  wanted : AllZip (IsFile format has.directory store) (filter is_wanted (range_with_len 0 (entries has.directory))) (named_files meaning path files)
+  wanted : AllZip (IsFile format has.directory store) (filter is_wanted (range_with_len 0 (entries has.directory))) (named_files meaning name files)
   wanted =
-      subst (λ (numbers : List ℕ). AllZip (IsFile format has.directory store) numbers (named_files meaning path files))
-      (both_filters (λ entry. not (is_directory (entry_of has.directory entry))) (λ entry. meaning.matches path (entry_of has.directory entry).path) (range_with_len 0 (entries has.directory)))
-      (zipped_filter (IsFile format has.directory store) (λ entry. meaning.matches path (entry_of has.directory entry).path) (λ file. meaning.matches path file.path)
-      (λ entry file is. ap (meaning.matches path) is.path) (file_numbers has.directory) files has.are)
+      subst (λ (numbers : List ℕ). AllZip (IsFile format has.directory store) numbers (named_files meaning name files))
+      (both_filters (λ entry. not (is_directory (entry_of has.directory entry))) (λ entry. meaning.matches name (entry_of has.directory entry).path) (range_with_len 0 (entries has.directory)))
+      (zipped_filter (IsFile format has.directory store) (λ entry. meaning.matches name (entry_of has.directory entry).path) (λ file. meaning.matches name file.path)
+      (λ entry file is. ap (meaning.matches name) is.path) (file_numbers has.directory) files has.are)
 
   same_units : (entry : ℕ) (file : File) (units : List Stored) → AreUnitsOf format has.directory store entry units → IsFile format has.directory store entry file → units ≡ file.body
   same_units entry file units are is =
       same_elements (λ (stored later : Stored). stored.number < later.number) (λ stored later less more. omega (arith, less, more)) units file.body are.rising is.rising
       (λ stored. (λ has'. (is.members stored).1 ((are.members stored).0 has'), λ has'. (are.members stored).1 ((is.members stored).0 has')))
 
-  pub text_by_list : (whole : Bool) (text : List ℕ) → IsTextAt format meaning store path whole text → IsTextOfFirst meaning format.unit_size files path whole text
+  pub text_by_list : (whole : Bool) (text : List ℕ) → IsTextAt format meaning store name whole text → IsTextOfFirst meaning format.unit_size files name whole text
   text_by_list whole text is =
       let same : is.directory ≡ has.directory = laws.one_directory store is.directory has.directory is.described has.accepted.described in
-      let first : IsFirstNamed meaning has.directory path is.file = subst (λ (d : Directory). IsFirstNamed meaning d path is.file) same is.first in
+      let first : IsFirstNamed meaning has.directory name is.file = subst (λ (d : Directory). IsFirstNamed meaning d name is.file) same is.first in
       let units : AreUnitsOf format has.directory store is.file is.read.units = subst (λ (d : Directory). AreUnitsOf format d store is.file is.read.units) same is.read.are_units in
       let found = first_in_range is_wanted 0 (entries has.directory) is.file (omega arith) (omega (arith, first.inside)) first.named (λ earlier from before. first.first earlier before) in
-      let zipped : AllZip (IsFile format has.directory store) (is.file ∷ found.0) (named_files meaning path files) =
-      subst (λ (numbers : List ℕ). AllZip (IsFile format has.directory store) numbers (named_files meaning path files)) found.1 wanted in
-      let member = zipped_first (IsFile format has.directory store) is.file found.0 (named_files meaning path files) zipped in
+      let zipped : AllZip (IsFile format has.directory store) (is.file ∷ found.0) (named_files meaning name files) =
+      subst (λ (numbers : List ℕ). AllZip (IsFile format has.directory store) numbers (named_files meaning name files)) found.1 wanted in
+      let member = zipped_first (IsFile format has.directory store) is.file found.0 (named_files meaning name files) zipped in
       record {
         file = member.0;
         first = member.2;
@@ -118,13 +119,13 @@ module _ (format : Meaning) (laws : IsReadable format) (meaning : FileMeaning) (
             ∙ ap (λ (body : List Stored). text_of meaning format.unit_size whole member.0.bytes body) (same_units is.file member.0 is.read.units units member.1);
       }
 
-  pub none_by_list : HasNoFile format meaning store path → slice_get (named_files meaning path files) 0 ≡ None
+  pub none_by_list : HasNoFile format meaning store name → slice_get (named_files meaning name files) 0 ≡ None
   none_by_list none =
-      let names_none : NamesNone meaning has.directory path =
-      subst (λ (d : Directory). NamesNone meaning d path) (laws.one_directory store none.0 has.directory none.1 has.accepted.described) none.2 in
+      let names_none : NamesNone meaning has.directory name =
+      subst (λ (d : Directory). NamesNone meaning d name) (laws.one_directory store none.0 has.directory none.1 has.accepted.described) none.2 in
       let empty = none_in_range is_wanted 0 (entries has.directory) (λ number from within. names_none number (omega (arith, within))) in
-      zipped_none (IsFile format has.directory store) (named_files meaning path files)
-      (subst (λ (numbers : List ℕ). AllZip (IsFile format has.directory store) numbers (named_files meaning path files)) empty wanted)
+      zipped_none (IsFile format has.directory store) (named_files meaning name files)
+      (subst (λ (numbers : List ℕ). AllZip (IsFile format has.directory store) numbers (named_files meaning name files)) empty wanted)
 
   not_broken : (file : ℕ) → file < entries has.directory → OwnFault format has.directory store file → ⊥
   not_broken file within (other_type is) = has.accepted.no_other_type file within is
@@ -132,12 +133,12 @@ module _ (format : Meaning) (laws : IsReadable format) (meaning : FileMeaning) (
   not_broken file within (wild_pointer part pointer reached in_file is) = (has.accepted.sound part reached).no_wild pointer is
   not_broken file within (shared part other reached reached' in_file in_file' place differ) = differ (has.accepted.once part other reached reached' place)
 
-  pub readable : IsUnreadable format meaning store path → ⊥
+  pub readable : IsUnreadable format meaning store name → ⊥
   readable fault =
       ⊎_elim (λ header. laws.header_fault store has.directory header.0 header.1 has.accepted.described) (λ broken. none_broken broken) fault
     where
-      none_broken : IsBroken format meaning store path → ⊥
+      none_broken : IsBroken format meaning store name → ⊥
       none_broken broken =
           let same : broken.directory ≡ has.directory = laws.one_directory store broken.directory has.directory broken.described has.accepted.described in
-          let first : IsFirstNamed meaning has.directory path broken.file = subst (λ (d : Directory). IsFirstNamed meaning d path broken.file) same broken.first in
+          let first : IsFirstNamed meaning has.directory name broken.file = subst (λ (d : Directory). IsFirstNamed meaning d name broken.file) same broken.first in
           not_broken broken.file first.inside (subst (λ (d : Directory). OwnFault format d store broken.file) same broken.fault)

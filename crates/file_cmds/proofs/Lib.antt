@@ -1,6 +1,9 @@
 pub mod Told
 pub mod Texts
+pub mod FileUnits
 pub mod OwnParts
+pub mod AllParts
+pub mod Runs
 pub mod Whole
 pub mod Outcomes
 pub mod ByList

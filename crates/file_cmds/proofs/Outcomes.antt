@@ -4,6 +4,7 @@ use Rattle.std.specs.declared.vec.Vec.{Vec}
 use Rattle.std.proofs.Common.{sym, ◌∙◌, ap}
 use Rattle.vol_format.specs.Directory.{Directory, entry_of}
 use Rattle.vol_format.specs.Meaning.{Meaning}
+use Rattle.file_formats.specs.FileNames.{FileNameView}
 use Rattle.file_formats.specs.Files.{FileMeaning, IsFirstNamed}
 use Rattle.file_cmds.specs.Text.{IsEntryText, IsWholeTextOf, text_of}
 use Rattle.file_cmds.specs.Read.{IsTextAt}
@@ -28,10 +29,10 @@ module _ (format : Meaning) (files : FileMeaning) (store : List (List ℕ)) (dir
     is = body_is ∙ ap (files.body (entry_of directory file).bytes) read.is ∙ ap (λ b. text_of files format.unit_size b (entry_of directory file).bytes read.units) (sym is);
   }
 
--- the text of the first file that a path names was read
-pub text_of_first : {A E : Type 0} (format : Meaning) (files : FileMeaning) (store : List (List ℕ)) (path : List ℕ) (directory : Directory) (described : format.Describes store directory)
-    (file : ℕ) (first : IsFirstNamed files directory path file) (whole : Bool) (result : Result (Vec ℕ A) E)
-    → IfOk result (λ text. IsEntryText format files directory store file whole text.items) → IfOk result (λ text. IsTextAt format files store path whole text.items)
-text_of_first format files store path directory described file first whole (Ok text) read =
+-- the text of the first file with a name was read
+pub text_of_first : {A E : Type 0} (format : Meaning) (files : FileMeaning) (store : List (List ℕ)) (name : FileNameView) (directory : Directory) (described : format.Describes store directory)
+    (file : ℕ) (first : IsFirstNamed files directory name file) (whole : Bool) (result : Result (Vec ℕ A) E)
+    → IfOk result (λ text. IsEntryText format files directory store file whole text.items) → IfOk result (λ text. IsTextAt format files store name whole text.items)
+text_of_first format files store name directory described file first whole (Ok text) read =
     record { directory = directory; described = described; file = file; first = first; read = read }
-text_of_first format files store path directory described file first whole (Err error) read = read
+text_of_first format files store name directory described file first whole (Err error) read = read

@@ -1,40 +1,30 @@
 -- The parts of one file, and those of the volume that has this file alone.
-use Rattle.std.specs.Prelude.{◌≡◌, ◌<◌, ℕ, true, false, List, [], ◌∷◌, length, filter, Contains}
+use Rattle.std.specs.Prelude.{◌≡◌, ◌<◌, ℕ, true, false, List, [], ◌∷◌, length}
 use Rattle.std.proofs.Common.{refl, sym, ◌∙◌, ap, subst, arith, get_or, ⊎_elim}
-use Rattle.std.proofs.lemmas.List.{get_or-map, length-map}
-use Rattle.std.proofs.lemmas.List.Kept.{AllPairs-filter}
 use Rattle.a2_device.specs.Device.{unit_at}
 use Rattle.a2_device.specs.declared.part.Part.{Part}
-use Rattle.a2_device.specs.declared.part.PartKind.{PartKind}
-use Rattle.a2_device.specs.declared.part.PartKind.TheVariants.{List as AList, Master, Index, Body}
 use Rattle.a2_device.specs.declared.fault.Fault.{Fault}
 use Rattle.a2_device.specs.declared.fault.Fault.TheVariants.{Geometry, CatalogLink, DirLink, MapPointer, StorageType, OutOfRange, InSystem, Shared, MarkedFree}
 use Rattle.vol_format.specs.declared.link.Link.TheVariants.{Null, Wild, OtherType, To}
 use Rattle.vol_format.specs.Directory.{Directory, entries, root_of, is_system}
 use Rattle.vol_format.specs.Meaning.{Meaning}
-use Rattle.vol_format.specs.Reach.{Reach, at_root, at_child, Before, IsPartsOf}
+use Rattle.vol_format.specs.Reach.{Reach, at_root, at_child, IsPartsOf}
 use Rattle.vol_format.specs.Accepted.{IsAccepted, PartFaultAt, FaultAt}
 use Rattle.vol_format.specs.Laws.{IsReadable, IsDirectory}
+use Rattle.vol_format.specs.Layout.{IsPartsOfFile}
 use Rattle.vol_check.specs.Answer.{AreFaults}
-use Rattle.file_cmds.specs.Text.{OwnFault, other_type, wild_root, wild_pointer, shared, AreUnitsOf}
-use Rattle.vol_format.specs.Files.{Stored, IsStored}
-use Rattle.file_cmds.specs.Walked.{is_body, stored_at, stored_of}
-use Rattle.file_cmds.specs.OneFile.{file_alone, of_one_file}
+use Rattle.file_cmds.specs.Text.{OwnFault, other_type, wild_root, wild_pointer, shared}
+use Rattle.file_cmds.specs.KnownVolume.{of_known}
+use Rattle.file_cmds.specs.OneFile.{file_alone}
 use Rattle.file_cmds.specs.lemmas.FileAlone.{entries-alone, root-alone, root_of-same, root_of-link, outside_system}
-use Rattle.vol_format.proofs.Lists.{element, in_filter, out_of_filter, in_map, out_of_map}
-
-is_of_body : (kind : PartKind) → is_body kind ≡ true → kind ≡ Body
-is_of_body AList is = absurd (cc)
-is_of_body Master is = absurd (cc)
-is_of_body Index is = absurd (cc)
-is_of_body Body is = refl
+use Rattle.vol_format.proofs.Lists.{element}
 
 module _ (format : Meaning) (laws : IsReadable format) (directory : Directory) (of : IsDirectory format directory) (file : ℕ) (store : List (List ℕ)) where
   abbrev pub alone : Directory
   alone = file_alone directory file
 
   abbrev pub one : Meaning
-  one = of_one_file format alone
+  one = of_known format alone
 
   null_not_to : (part : Part) → Null ≡ To part → ⊥
   null_not_to part e = cc
@@ -111,53 +101,14 @@ module _ (format : Meaning) (laws : IsReadable format) (directory : Directory) (
   faultless within accepted (shared part other reached other_reached in_file other_in_file same differ) =
       differ (accepted.once part other (into_one part reached in_file) (into_one other other_reached other_in_file) same)
 
-  -- its units
-  module _ (parts : List Part) (are : IsPartsOf one alone store parts) where
-    abbrev pub bodies : List Part
-    bodies = filter (λ (part : Part). is_body part.kind) parts
-
-    body_at : (part : Part) → Contains bodies part → Reach format directory store part × (part.file ≡ file) × (part.kind ≡ Body)
-    body_at part has =
-        let kept = out_of_filter (λ (p : Part). is_body p.kind) parts part has in
-        let found = out_of_one part ((are.members part).0 kept.0) in
-        (found.0, found.1, is_of_body part.kind kept.1)
-
-    some_part : Part
-    some_part = record { file = 0; kind = Body; number = 0; place = 0 }
-
-    same_stored : (stored : Stored) (is : IsStored format directory store file stored) → stored_at store is.part ≡ stored
-    same_stored stored is =
-        ap (λ n. record { number = n; unit = unit_at store is.part.place }) is.numbered
-        ∙ ap (λ (u : List ℕ). record { number = stored.number; unit = u }) is.stands
-
-    pub are_units : AreUnitsOf format directory store file (stored_of store parts)
-    are_units = record {
-      members = λ stored. (
-        λ has.
-            let from = out_of_map (stored_at store) bodies stored has in
-            let body = body_at from.0 from.1 in
-            record {
-              part = from.0;
-              reached = body.0;
-              in_file = body.1;
-              of_body = body.2;
-              numbered = ap (λ (s : Stored). s.number) from.2;
-              stands = ap (λ (s : Stored). s.unit) from.2;
-            },
-        λ is.
-            let kept = in_filter (λ (p : Part). is_body p.kind) parts is.part ((are.members is.part).1 (into_one is.part is.reached is.in_file)) (ap is_body is.of_body) in
-            subst (Contains (stored_of store parts)) (same_stored stored is) (in_map (stored_at store) bodies is.part kept),
-      );
-      rising = λ i j d less within.
-          let inside : j < length bodies = omega (arith, within, length-map bodies (stored_at store)) in
-          let part = get_or bodies i some_part in
-          let later = get_or bodies j some_part in
-          let at = body_at part (element bodies i some_part (omega arith)) in
-          let later_at = body_at later (element bodies j some_part inside) in
-          let before : Before one part later = AllPairs-filter (Before one) (λ (p : Part). is_body p.kind) parts are.ordered i j some_part less inside in
-          let less_number : part.number < later.number =
-          ⊎_elim (λ files. absurd (omega (arith, files, at.1, later_at.1))) (λ ranks. laws.body_order part later at.2 later_at.2 ranks.1) before in
-          let number = ap (λ (s : Stored). s.number) (get_or-map (stored_at store) bodies i some_part d (omega arith)) in
-          let later_number = ap (λ (s : Stored). s.number) (get_or-map (stored_at store) bodies j some_part d inside) in
-          omega (arith, number, later_number, less_number);
-    }
+  -- its parts
+  pub own_parts : (parts : List Part) → IsPartsOf one alone store parts → IsPartsOfFile format directory store file parts
+  own_parts parts are = record {
+    members = λ part. (λ has. out_of_one part ((are.members part).0 has), λ is. (are.members part).1 (into_one part is.0 is.1));
+    ordered = λ i j d less within.
+        let part = get_or parts i d in
+        let later = get_or parts j d in
+        let at = out_of_one part ((are.members part).0 (element parts i d (omega (arith, less, within)))) in
+        let later_at = out_of_one later ((are.members later).0 (element parts j d within)) in
+        ⊎_elim (λ files. absurd (omega (arith, files, at.1, later_at.1))) (λ ranks. ranks.1) (are.ordered i j d less within);
+  }

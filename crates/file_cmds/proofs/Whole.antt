@@ -17,9 +17,11 @@ use Rattle.file_cmds.specs.declared.error.CmdError.TheVariants.{Check}
 use Rattle.file_cmds.specs.Refusal.{refusal_of_check}
 use Rattle.file_cmds.specs.Text.{OwnFault, IsWholeTextOf, whole_text}
 use Rattle.file_cmds.specs.Walked.{stored_of}
-use Rattle.file_cmds.specs.OneFile.{file_alone, of_one_file}
+use Rattle.file_cmds.specs.KnownVolume.{of_known}
+use Rattle.file_cmds.specs.OneFile.{file_alone}
 use Rattle.vol_format.proofs.Lists.{element}
-use Rattle.file_cmds.proofs.OwnParts.{refused_for, faultless, are_units}
+use Rattle.file_cmds.proofs.FileUnits.{text_by_parts}
+use Rattle.file_cmds.proofs.OwnParts.{refused_for, faultless, own_parts}
 
 -- the parts stand in the volume
 pub parts_inside : (directory : Directory) (file places : ℕ) (told : Told) (shown : List Part) → IsToldOf (file_alone directory file) told → shown ≡ told.parts → places ≡ directory.places
@@ -30,22 +32,19 @@ parts_inside directory file places told shown of shown_is places_is k d within =
 module _ (format : Meaning) (laws : IsReadable format) (directory : Directory) (of : IsDirectory format directory) (file : ℕ) where
   -- what the checker refuses is a fault of the file's own
   pub own_fault : {A : Type 0} (store : List (List ℕ)) (error : CheckError A) → format.Takes (length store) → length store ≡ directory.places
-      → refusal_of_check error ≡ Check → IsRefusal (of_one_file format (file_alone directory file)) store error → OwnFault format directory store file
+      → refusal_of_check error ≡ Check → IsRefusal (of_known format (file_alone directory file)) store error → OwnFault format directory store file
   own_fault store (check.Faults faults) takes size is refused = refused_for format laws directory of file store takes size faults refused
   own_fault store check.Device takes size is refused = absurd (cc)
   own_fault store check.Memory takes size is refused = absurd (cc)
 
   -- what is read of the parts of an accepted file is its text
   pub whole_read : (old mid : DeviceState) (parts shown : List Part) (text : List ℕ) → mid ≡ old → old.unit_size ≡ format.unit_size → file < entries directory
-      → IsAccepted (of_one_file format (file_alone directory file)) (file_alone directory file) old.store
-      → IsPartsOf (of_one_file format (file_alone directory file)) (file_alone directory file) old.store parts → shown ≡ parts
+      → IsAccepted (of_known format (file_alone directory file)) (file_alone directory file) old.store
+      → IsPartsOf (of_known format (file_alone directory file)) (file_alone directory file) old.store parts → shown ≡ parts
       → text ≡ whole_text mid.unit_size (stored_of mid.store shown) → IsWholeTextOf format directory old.store file text
-  whole_read old mid parts shown text kept size within accepted are shown_is text_is = record {
-    faultless = faultless format laws directory of file old.store within accepted;
-    units = stored_of old.store parts;
-    are_units = are_units format laws directory of file old.store parts are;
-    is = text_is
-        ∙ ap (λ (d : DeviceState). whole_text d.unit_size (stored_of d.store shown)) kept
-        ∙ ap (λ n. whole_text n (stored_of old.store shown)) size
-        ∙ ap (λ ps. whole_text format.unit_size (stored_of old.store ps)) shown_is;
-  }
+  whole_read old mid parts shown text kept size within accepted are shown_is text_is =
+      text_by_parts format laws directory file old.store parts (own_parts format laws directory of file old.store parts are) old.unit_size text
+      (faultless format laws directory of file old.store within accepted) size
+      (text_is
+      ∙ ap (λ (d : DeviceState). whole_text d.unit_size (stored_of d.store shown)) kept
+      ∙ ap (λ (ps : List Part). whole_text old.unit_size (stored_of old.store ps)) shown_is)

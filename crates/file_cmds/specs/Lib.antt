@@ -5,5 +5,7 @@ pub mod FileList
 pub mod Walked
 pub mod ReadingOn
 pub mod FileText
+pub mod KnownVolume
 pub mod OneFile
+pub mod EachFile
 pub mod lemmas

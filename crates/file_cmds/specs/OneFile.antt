@@ -1,9 +1,8 @@
 -- One file of a volume, as if no other were there and each place were available.
-use Rattle.std.specs.Prelude.{◌≡◌, ℕ, ◌==◌, if◌then◌else◌, false, List, [], length, map, replicate}
+use Rattle.std.specs.Prelude.{ℕ, ◌==◌, if◌then◌else◌, false, List, [], map, replicate}
 use Rattle.std.specs.List.{range_with_len}
 use Rattle.vol_format.specs.declared.link.Link.TheVariants.{Null}
 use Rattle.vol_format.specs.Directory.{Directory, Listed, entries, entry_of}
-use Rattle.vol_format.specs.Meaning.{Meaning}
 
 -- an entry by its number, pointing to nothing if it is another file's
 abbrev pub entry_alone : Directory → ℕ → ℕ → Listed
@@ -19,13 +18,4 @@ file_alone directory file = record directory {
   system = replicate directory.places false;
   free = [];
   available = range_with_len 0 directory.places;
-}
-
--- The format whose volumes have this directory, whatever their store says.
-abbrev pub of_one_file : Meaning → Directory → Meaning
-of_one_file format directory = record format {
-  Takes = λ places. (places ≡ directory.places) × format.Takes places;
-  Describes = λ store described. (described ≡ directory) × (length store ≡ directory.places);
-  HeaderFaultAt = λ store fault. ⊥;
-  CanName = λ places place. Unit {0};
 }

@@ -10,11 +10,14 @@ pub record ReadsOn (old new : DeviceState) : Type 0 where
   pub kept : IsTrue old.honest → new ≡ record old { faults = new.faults; read_failures = new.read_failures }
   pub quiet : IsTrue old.honest → old.read_failures ≡ Some 0 → new.read_failures ≡ Some 0
 
--- among such calls there was a read that failed
-pub record FailedBetween (old new : DeviceState) : Type 0 where
-  pub place : ℕ
+-- among such calls there was a read of this place that failed
+pub record FailedAt (place : ℕ) (old new : DeviceState) : Type 0 where
   pub before : DeviceState
   pub after : DeviceState
   pub reached : ReadsOn old before
   pub failed : FailsRead place before after
   pub left : ReadsOn after new
+
+-- among such calls there was a read that failed
+abbrev pub FailedBetween : DeviceState → DeviceState → Type 0
+FailedBetween old new = (place : ℕ) × FailedAt place old new

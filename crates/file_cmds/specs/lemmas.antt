@@ -1,3 +1,5 @@
 pub mod Exclusive
+pub mod KnownVolume
 pub mod FileAlone
 pub mod Reading
+pub mod EachFile

@@ -1,7 +1,8 @@
 // One file of a volume as a volume of its own, so that the checker walks over its parts alone.
 ghost use Rattle.std.specs.Prelude.{◌≡◌, ◌<◌, ◌≤◌, IfOk};
 ghost use Rattle.vol_format.specs.Directory.{entries};
-ghost use Rattle.file_cmds.specs.OneFile.{file_alone, of_one_file};
+ghost use Rattle.file_cmds.specs.KnownVolume.{of_known};
+ghost use Rattle.file_cmds.specs.OneFile.{file_alone};
 
 use a2_device::{Device, Part, WalkError};
 use vol_format::{Format, Holder, Link};
@@ -19,17 +20,18 @@ pub struct OneFile<'a, F: Format> {
 }
 
 impl<F: Format> Format for OneFile<'_, F> {
-    ghost use Rattle.file_cmds.specs.lemmas.FileAlone.{alone_is_readable, alone_is_directory};
+    ghost use Rattle.file_cmds.specs.lemmas.FileAlone.{alone_is_directory};
+    ghost use Rattle.file_cmds.specs.lemmas.KnownVolume.{known_is_readable};
 
     type Volume = ();
 
     ghost meaning = { λ f.
-        of_one_file (F.meaning f.format.now) (file_alone (F.directory f.format.now f.volume.now) f.file) };
+        of_known (F.meaning f.format.now) (file_alone (F.directory f.format.now f.volume.now) f.file) };
 
     ghost directory = { λ f v. file_alone (F.directory f.format.now f.volume.now) f.file };
 
-    ghost readable = { λ f. alone_is_readable (F.meaning f.format.now) (F.readable f.format.now)
-        (file_alone (F.directory f.format.now f.volume.now) f.file) };
+    ghost readable = { λ f. known_is_readable (F.meaning f.format.now)
+        (file_alone (F.directory f.format.now f.volume.now) f.file) (F.readable f.format.now) };
 
     ghost rooted = { λ f v. alone_is_directory (F.directory f.format.now f.volume.now) f.file (F.meaning f.format.now)
         (F.rooted f.format.now f.volume.now) f.few };

@@ -1,5 +1,6 @@
 // The command that reads a file.
 ghost use Rattle.std.specs.Prelude.{◌≡◌, ◌≢◌, ◌<◌, ◌≤◌, IfOk, IsTrue};
+ghost use Rattle.file_formats.specs.FileNames.{name_view};
 ghost use Rattle.a2_device.specs.Device.{OnlyReads};
 ghost use Rattle.vol_format.specs.Fits.{Fits};
 ghost use Rattle.vol_format.specs.Directory.{entries};
@@ -11,7 +12,7 @@ use crate::CmdError;
 use crate::one_file::OneFile;
 use crate::text::text_of;
 use a2_device::Device;
-use file_formats::{FileFormat, find};
+use file_formats::{FileFormat, FileName, find};
 use std::alloc::Allocator;
 use vol_check::check;
 use vol_format::Format;
@@ -78,32 +79,33 @@ pub fn read_entry<D: Device, F: FileFormat, A: Allocator + Copy>(
     Ok(format.body(volume, file, text)?)
 }
 
-/// The text of the first file that a path names: the whole of its units, or its body alone. It reads the header, the
+/// The text of the first file with a name: the whole of its units, or its body alone. It reads the header, the
 /// directory, and the file's own units, each once; what is wrong with other files, and what the map says, does not
 /// matter.
 ///
 /// # Errors
 /// `Check` where the header, the directory or the map's pointer has a fault, or the file has one of its own; `NotFound`
-/// where the path names no file; `Device` where a read fails; `Memory`.
+/// where no file has the name; `Device` where a read fails; `Memory`.
 pub fn read<D: Device, F: FileFormat, A: Allocator + Copy>(
     alloc: A,
     device: &mut D,
     format: &F,
-    path: &[u8],
+    name: FileName<'_>,
     whole: bool,
 ) -> Result<Vec<u8, A>, CmdError>
     requires fits { Fits (F.meaning format.now) (D.state device.old) }
 
     ensures device { OnlyReads (told_device result) (D.state device.old) (D.state device.new) }
     ensures text { IsTrue (D.state device.old).honest → IfOk result (λ text.
-        IsTextAt (F.meaning format.now) (F.files format.now) (D.state device.old).store path.now whole text.items) }
+        IsTextAt (F.meaning format.now) (F.files format.now) (D.state device.old).store (name_view name.entry)
+        whole text.items) }
     ensures check { IsTrue (D.state device.old).honest → result ≡ Err CmdError.Check
-        → IsUnreadable (F.meaning format.now) (F.files format.now) (D.state device.old).store path.now }
+        → IsUnreadable (F.meaning format.now) (F.files format.now) (D.state device.old).store (name_view name.entry) }
     ensures not_found { IsTrue (D.state device.old).honest → result ≡ Err CmdError.NotFound
-        → HasNoFile (F.meaning format.now) (F.files format.now) (D.state device.old).store path.now }
+        → HasNoFile (F.meaning format.now) (F.files format.now) (D.state device.old).store (name_view name.entry) }
 {
     let volume = format.volume(device)?;
-    let Some(file) = find(format, &volume, path) else {
+    let Some(file) = find(format, &volume, name) else {
         return Err(CmdError::NotFound);
     };
     read_entry(alloc, device, format, &volume, file, whole)

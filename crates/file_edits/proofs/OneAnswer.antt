@@ -6,6 +6,7 @@ use Rattle.vol_format.specs.Accepted.{IsAccepted}
 use Rattle.vol_format.specs.Directory.{Directory}
 use Rattle.vol_format.specs.Laws.{IsReadable}
 use Rattle.vol_format.specs.Meaning.{Meaning}
+use Rattle.file_formats.specs.FileNames.{FileNameView}
 use Rattle.file_formats.specs.Files.{FileMeaning, IsFirstNamed, NamesNone}
 use Rattle.edit_formats.specs.Edited.{HasNoSuchFile}
 use Rattle.edit_formats.specs.Renamed.{HasFirst}
@@ -17,11 +18,11 @@ OfEntry = Directory → ℕ → Type 0
 abbrev pub Any : OfEntry
 Any directory file = Unit {0}
 
--- what is said of the first entry that a path names
+-- what is said of the first entry with a name
 module _ (format : Meaning) (laws : IsReadable format) (files : FileMeaning) (store : List (List ℕ))
-    (path : List ℕ) where
+    (name : FileNameView) where
   abbrev First : OfEntry → Type 0
-  First Is = HasFirst format files store path Is
+  First Is = HasFirst format files store name Is
 
   pub also : (P Q : OfEntry) → ((directory : Directory) (file : ℕ) → P directory file → Q directory file)
       → First P → First Q
@@ -33,12 +34,12 @@ module _ (format : Meaning) (laws : IsReadable format) (files : FileMeaning) (st
     is = follows has.directory has.file has.is;
   }
 
-  not_before : (directory : Directory) (file other : ℕ) → IsFirstNamed files directory path file
-      → IsFirstNamed files directory path other → file < other → ⊥
+  not_before : (directory : Directory) (file other : ℕ) → IsFirstNamed files directory name file
+      → IsFirstNamed files directory name other → file < other → ⊥
   not_before directory file other first is less = let named = first.named in let none = is.first file less in cc
 
-  one_first : (directory : Directory) (file other : ℕ) → IsFirstNamed files directory path file
-      → IsFirstNamed files directory path other → file ≡ other
+  one_first : (directory : Directory) (file other : ℕ) → IsFirstNamed files directory name file
+      → IsFirstNamed files directory name other → file ≡ other
   one_first directory file other first is = elim (cases_order file other) [
     | inl same ↦ same
     | inr apart ↦ elim apart [
@@ -56,18 +57,18 @@ module _ (format : Meaning) (laws : IsReadable format) (files : FileMeaning) (st
   not_both P Q against one other =
       let same : other.directory ≡ one.directory =
       one_directory other.directory one.directory other.accepted one.accepted in
-      let first : IsFirstNamed files one.directory path other.file =
-      subst (λ (d : Directory). IsFirstNamed files d path other.file) same other.first in
+      let first : IsFirstNamed files one.directory name other.file =
+      subst (λ (d : Directory). IsFirstNamed files d name other.file) same other.first in
       let here : Q one.directory other.file = subst (λ (d : Directory). Q d other.file) same other.is in
       against one.directory one.file one.is
       (subst (Q one.directory) (one_first one.directory other.file one.file first one.first) here)
 
-  pub not_none : HasNoSuchFile format files store path → First Any → ⊥
+  pub not_none : HasNoSuchFile format files store name → First Any → ⊥
   not_none none has =
       let same : none.directory ≡ has.directory =
       one_directory none.directory has.directory none.accepted has.accepted in
-      let no_name : NamesNone files has.directory path =
-      subst (λ (d : Directory). NamesNone files d path) same none.none in
+      let no_name : NamesNone files has.directory name =
+      subst (λ (d : Directory). NamesNone files d name) same none.none in
       let named = has.first.named in
       let unnamed = no_name has.file has.first.inside in
       cc

@@ -5,6 +5,7 @@ use Rattle.vol_format.specs.Accepted.{IsVolume}
 use Rattle.vol_format.specs.Directory.{entry_of}
 use Rattle.vol_format.specs.Laws.{IsReadable}
 use Rattle.vol_format.specs.Meaning.{Meaning}
+use Rattle.file_formats.specs.FileNames.{FileNameView}
 use Rattle.file_formats.specs.Files.{FileMeaning}
 use Rattle.edit_formats.specs.declared.error.EditError.{EditError}
 use Rattle.edit_formats.specs.declared.error.EditError.TheVariants.{Check, NotFound, Name, Exists, Locked}
@@ -28,9 +29,9 @@ answer_of (suc (suc zero)) = Err Locked
 answer_of (suc (suc (suc n))) = Ok tt
 
 module _ (format : Meaning) (laws : IsReadable format) (files : FileMeaning) (erasures : EraseMeaning)
-    (store : List (List ℕ)) (path : List ℕ) where
+    (store : List (List ℕ)) (name : FileNameView) where
   abbrev First : OfEntry → Type 0
-  First Is = HasFirst format files store path Is
+  First Is = HasFirst format files store name Is
 
   abbrev Protected : OfEntry
   Protected directory file = erasures.protects (entry_of directory file).bytes ≡ true
@@ -49,20 +50,20 @@ module _ (format : Meaning) (laws : IsReadable format) (files : FileMeaning) (er
   fewer : (n : ℕ) → Passed (suc n) → Passed n
   fewer zero passed = tt
   fewer (suc zero) passed = (passed.directory, passed.accepted)
-  fewer (suc (suc zero)) passed = also format laws files store path Unprotected Any (λ directory file is. tt) passed
+  fewer (suc (suc zero)) passed = also format laws files store name Unprotected Any (λ directory file is. tt) passed
   fewer (suc (suc (suc n))) passed = absurd passed
 
   abbrev IsAnswer : Result (Unit {0}) EditError → Type 0
-  IsAnswer answer = IsDeleteAnswer format files erasures store path answer
+  IsAnswer answer = IsDeleteAnswer format files erasures store name answer
 
   ends : (answer : Result (Unit {0}) EditError) → IsAnswer answer
       → Passed (rank_of answer) × (Passed (suc (rank_of answer)) → ⊥)
   ends (Ok x) is = (is, λ none. none)
   ends (Err Check) is = (tt, is)
-  ends (Err NotFound) is = ((is.directory, is.accepted), not_none format laws files store path is)
+  ends (Err NotFound) is = ((is.directory, is.accepted), not_none format laws files store name is)
   ends (Err Locked) is = (
-    also format laws files store path Protected Any (λ directory file has. tt) is,
-    not_both format laws files store path Protected Unprotected (λ directory file has none. cc) is,
+    also format laws files store name Protected Any (λ directory file has. tt) is,
+    not_both format laws files store name Protected Unprotected (λ directory file has none. cc) is,
   )
   ends (Err Name) is = absurd is
   ends (Err Exists) is = absurd is

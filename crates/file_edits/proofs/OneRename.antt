@@ -5,6 +5,7 @@ use Rattle.vol_format.specs.Accepted.{IsVolume}
 use Rattle.vol_format.specs.Directory.{Directory}
 use Rattle.vol_format.specs.Laws.{IsReadable}
 use Rattle.vol_format.specs.Meaning.{Meaning}
+use Rattle.file_formats.specs.FileNames.{FileNameView}
 use Rattle.file_formats.specs.Files.{FileMeaning}
 use Rattle.edit_formats.specs.declared.error.EditError.{EditError}
 use Rattle.edit_formats.specs.declared.error.EditError.TheVariants.{Check, NotFound, Name, Exists, Locked}
@@ -32,9 +33,9 @@ answer_of (suc (suc (suc (suc zero)))) = Err Locked
 answer_of (suc (suc (suc (suc (suc n))))) = Ok tt
 
 module _ (format : Meaning) (laws : IsReadable format) (files : FileMeaning) (names : NameMeaning)
-    (store : List (List ℕ)) (path new : List ℕ) where
+    (store : List (List ℕ)) (name : FileNameView) (new : List ℕ) where
   abbrev First : OfEntry → Type 0
-  First Is = HasFirst format files store path Is
+  First Is = HasFirst format files store name Is
 
   abbrev MayHave : OfEntry
   MayHave directory file = names.may_have new ≡ true
@@ -66,11 +67,11 @@ module _ (format : Meaning) (laws : IsReadable format) (files : FileMeaning) (na
 
   weaker : (P Q : OfEntry) → ((directory : Directory) (file : ℕ) → P directory file → Q directory file)
       → First P → First Q
-  weaker = also format laws files store path
+  weaker = also format laws files store name
 
   against : (P Q : OfEntry) → ((directory : Directory) (file : ℕ) → P directory file → Q directory file → ⊥)
       → First P → First Q → ⊥
-  against = not_both format laws files store path
+  against = not_both format laws files store name
 
   fewer : (n : ℕ) → Passed (suc n) → Passed n
   fewer zero passed = tt
@@ -81,13 +82,13 @@ module _ (format : Meaning) (laws : IsReadable format) (files : FileMeaning) (na
   fewer (suc (suc (suc (suc (suc n))))) passed = absurd passed
 
   abbrev IsAnswer : Result (Unit {0}) EditError → Type 0
-  IsAnswer answer = IsRenameAnswer format files names store path new answer
+  IsAnswer answer = IsRenameAnswer format files names store name new answer
 
   ends : (answer : Result (Unit {0}) EditError) → IsAnswer answer
       → Passed (rank_of answer) × (Passed (suc (rank_of answer)) → ⊥)
   ends (Ok x) is = (is, λ none. none)
   ends (Err Check) is = (tt, is)
-  ends (Err NotFound) is = ((is.directory, is.accepted), not_none format laws files store path is)
+  ends (Err NotFound) is = ((is.directory, is.accepted), not_none format laws files store name is)
   ends (Err Name) is = (
     weaker NoName Any (λ directory file none. tt) is,
     against NoName MayHave (λ directory file none may. cc) is,

@@ -1,4 +1,4 @@
--- What rewriting the entry of the first file that a path names does to the volume.
+-- What rewriting the entry of the first file with a name does to the volume.
 use Rattle.std.specs.Prelude.{◌≡◌, ◌↔◌, ◌<◌, ℕ, false, List, length, slice_set}
 use Rattle.std.specs.List.{AllZip}
 use Rattle.std.proofs.Common.{sym, ◌∙◌, ap, subst, arith}
@@ -18,20 +18,21 @@ use Rattle.vol_laws.proofs.Rewriting.{entry_rewritten}
 use Rattle.vol_laws.proofs.SystemWrites.{one_unit_rest}
 use Rattle.vol_laws.proofs.WholeLists.{volume_rewritten}
 use Rattle.vol_laws.proofs.Zipped.{zipped_at}
+use Rattle.file_formats.specs.FileNames.{FileNameView}
 use Rattle.file_formats.specs.Files.{FileMeaning, IsFirstNamed}
 use Rattle.vol_laws.specs.Deleted.{IsLostOn}
 use Rattle.edit_formats.specs.Edited.{HasChanged}
 use Rattle.edit_formats.specs.Lists.{with_first}
 use Rattle.file_edits.proofs.FirstNamed.{named_file, first_changed}
 
-module _ (format : Meaning) (laws : IsReadable format) (movable : IsMovable format) (writable : IsWritable format) (meaning : FileMeaning) (path : List ℕ)
-    (store : List (List ℕ)) (directory : Directory) (accepted : IsAccepted format directory store) (file : ℕ) (first : IsFirstNamed meaning directory path file) where
+module _ (format : Meaning) (laws : IsReadable format) (movable : IsMovable format) (writable : IsWritable format) (meaning : FileMeaning) (name : FileNameView)
+    (store : List (List ℕ)) (directory : Directory) (accepted : IsAccepted format directory store) (file : ℕ) (first : IsFirstNamed meaning directory name file) where
   abbrev entry : Listed
   entry = entry_of directory file
 
   -- the entry is a file's, and stands in a unit of the volume
   pub first_is_file : is_directory entry ≡ false
-  first_is_file = (named_file (is_directory entry) (meaning.matches path entry.path) first.named).0
+  first_is_file = (named_file (is_directory entry) (meaning.matches name entry.path) first.named).0
 
   pub first_inside : entry.place < length store
   first_inside =
@@ -56,7 +57,7 @@ module _ (format : Meaning) (laws : IsReadable format) (movable : IsMovable form
 
     -- the list of files, changed where the file stands in it
     same_list : (all : List File) → IsFiles format directory store all
-        → rewritten_files all (files_before directory file) new_path bytes ≡ with_first meaning path change all
+        → rewritten_files all (files_before directory file) new_path bytes ≡ with_first meaning name change all
     same_list all are =
         let own = (movable.described store directory accepted.described).root_file in
         let zipped : AllZip (IsFileOf format store) (files directory) all = by_entries format laws directory store own all are in
@@ -64,11 +65,11 @@ module _ (format : Meaning) (laws : IsReadable format) (movable : IsMovable form
         let is : IsFileOf format store entry (file_of all (files_before directory file)) =
         subst (λ (e : Listed). IsFileOf format store e (file_of all (files_before directory file))) index.1
         (zipped_at (IsFileOf format store) (files_before directory file) no_entry no_file (files directory) all index.0 zipped) in
-        let changed : with_first meaning path change all ≡ slice_set all (files_before directory file) (change (file_of all (files_before directory file))) =
-        first_changed meaning path change (IsFileOf format store) (λ e f of. of.path) directory.listed file all first.inside first.named first.first zipped in
+        let changed : with_first meaning name change all ≡ slice_set all (files_before directory file) (change (file_of all (files_before directory file))) =
+        first_changed meaning name change (IsFileOf format store) (λ e f of. of.path) directory.listed file all first.inside first.named first.first zipped in
         ap (slice_set all (files_before directory file)) (same_file (file_of all (files_before directory file)) is.path is.bytes) ∙ sym changed
 
-    has_files : (all : List File) → HasFiles format store all → HasFiles format new (with_first meaning path change all)
+    has_files : (all : List File) → HasFiles format store all → HasFiles format new (with_first meaning name change all)
     has_files all has =
         let same : has.directory ≡ directory = laws.one_directory store has.directory directory has.accepted.described accepted.described in
         let are : IsFiles format directory store all = subst (λ (d : Directory). IsFiles format d store all) same has.are in
@@ -85,5 +86,5 @@ module _ (format : Meaning) (laws : IsReadable format) (movable : IsMovable form
           (after, stands.accepted, (stands.lost place).1 (subst (λ (d : Directory). IsLost format d store place) same lost.2)),
     )
 
-    pub rewrite_changes : HasChanged format (with_first meaning path change) store new
+    pub rewrite_changes : HasChanged format (with_first meaning name change) store new
     rewrite_changes = record { volume = (after, stands.accepted); files = has_files; lost = same_lost }

@@ -1,5 +1,6 @@
 // The command that deletes a file.
 ghost use Rattle.std.specs.Prelude.{◌≡◌, ◌≢◌, ◌<◌, false, length, map, All, Err, IfErr, IfOk, IsTrue, OnOk};
+ghost use Rattle.file_formats.specs.FileNames.{name_view};
 ghost use Rattle.a2_device.specs.Device.{OnlyReads};
 ghost use Rattle.a2_device.specs.declared.part.Part.{Part};
 ghost use Rattle.vol_format.specs.Fits.{Fits};
@@ -26,7 +27,7 @@ ghost use Rattle.edit_formats.specs.Writes.{HasEdited};
 
 use a2_device::{Device, Part};
 use edit_formats::{EditError, EditableFormat, Prepared, mark_all, write_all};
-use file_formats::find;
+use file_formats::{FileName, find};
 use std::alloc::{AllocError, Allocator};
 use vol_check::check;
 
@@ -95,29 +96,29 @@ fn deletion<D: Device, F: EditableFormat, A: Allocator + Copy>(
     )
 }
 
-// Deletes the first file that a path names.
+// Deletes the first file with a name.
 fn delete_first<D: Device, F: EditableFormat, A: Allocator + Copy>(
     alloc: A,
     device: &mut D,
     format: &F,
-    path: &[u8],
+    name: FileName<'_>,
 ) -> Result<(), EditError>
     requires fits { Fits (F.meaning format.now) (D.state device.old) }
 
     ensures edited { HasEdited (IsDeleteEdit (F.meaning format.now) (F.files format.now) (F.erasures format.now)
-        (D.state device.old).store path.now)
+        (D.state device.old).store (name_view name.entry))
         result (D.state device.old) (D.state device.new) }
     ensures refusals { IfErr result IsDeleteRefusal }
     ensures check { IsTrue (D.state device.old).honest → result ≡ Err EditError.Check
         → IsVolume (F.meaning format.now) (D.state device.old).store → ⊥ }
     ensures not_found { IsTrue (D.state device.old).honest → result ≡ Err EditError.NotFound
-        → HasNoSuchFile (F.meaning format.now) (F.files format.now) (D.state device.old).store path.now }
+        → HasNoSuchFile (F.meaning format.now) (F.files format.now) (D.state device.old).store (name_view name.entry) }
     ensures told { IsTrue (D.state device.old).honest
         → IsDeleteTold (F.meaning format.now) (F.files format.now) (F.erasures format.now)
-        (D.state device.old).store path.now result }
+        (D.state device.old).store (name_view name.entry) result }
 {
     let checked = check(alloc, device, format)?;
-    let Some(file) = find(format, checked.volume(), path) else {
+    let Some(file) = find(format, checked.volume(), name) else {
         return Err(EditError::NotFound);
     };
     if format.protects_file(checked.volume(), file) {
@@ -134,42 +135,43 @@ fn delete_first<D: Device, F: EditableFormat, A: Allocator + Copy>(
     write_all(device, writes.as_slice())
 }
 
-/// Deletes the first file that a path names: its entry is erased, and in ProDOS its directory counts one file less;
+/// Deletes the first file with a name: its entry is erased, and in ProDOS its directory counts one file less;
 /// then its places are marked free, unit by unit of the map. All writes are prepared before the first is made.
 ///
 /// # Errors
-/// Of several the first in this order: `Check` where the volume is not accepted; `NotFound` where the path names no
-/// file; `Locked` where the file's entry does not let it be deleted. `Device` where a read or a write fails; `Memory`.
+/// Of several the first in this order: `Check` where the volume is not accepted; `NotFound` where no file has the
+/// name; `Locked` where the file's entry does not let it be deleted. `Device` where a read or a write fails; `Memory`.
 pub fn delete<D: Device, F: EditableFormat, A: Allocator + Copy>(
     alloc: A,
     device: &mut D,
     format: &F,
-    path: &[u8],
+    name: FileName<'_>,
 ) -> Result<(), EditError>
     requires fits { Fits (F.meaning format.now) (D.state device.old) }
 
     // every device
     ensures edited { HasEdited (IsDeleteEdit (F.meaning format.now) (F.files format.now) (F.erasures format.now)
-        (D.state device.old).store path.now)
+        (D.state device.old).store (name_view name.entry))
         result (D.state device.old) (D.state device.new) }
     ensures refusals { IfErr result IsDeleteRefusal }
 
     // an honest device
     ensures files { IsTrue (D.state device.old).honest → OnOk result (HasChanged (F.meaning format.now)
-        (without_named (F.files format.now) path.now) (D.state device.old).store (D.state device.new).store) }
+        (without_named (F.files format.now) (name_view name.entry)) (D.state device.old).store
+        (D.state device.new).store) }
     ensures unprotected { IsTrue (D.state device.old).honest
         → OnOk result (HasFirstUnprotected (F.meaning format.now) (F.files format.now) (F.erasures format.now)
-        (D.state device.old).store path.now) }
+        (D.state device.old).store (name_view name.entry)) }
     ensures stopped { IsTrue (D.state device.old).honest → result ≡ Err EditError.Device
-        → IsOldOrErased (F.meaning format.now) (F.files format.now) path.now (D.state device.old).store
+        → IsOldOrErased (F.meaning format.now) (F.files format.now) (name_view name.entry) (D.state device.old).store
         (D.state device.new).store }
     ensures check { IsTrue (D.state device.old).honest → result ≡ Err EditError.Check
         → IsVolume (F.meaning format.now) (D.state device.old).store → ⊥ }
     ensures not_found { IsTrue (D.state device.old).honest → result ≡ Err EditError.NotFound
-        → HasNoSuchFile (F.meaning format.now) (F.files format.now) (D.state device.old).store path.now }
+        → HasNoSuchFile (F.meaning format.now) (F.files format.now) (D.state device.old).store (name_view name.entry) }
     ensures locked { IsTrue (D.state device.old).honest → result ≡ Err EditError.Locked
         → HasFirstProtected (F.meaning format.now) (F.files format.now) (F.erasures format.now)
-        (D.state device.old).store path.now }
+        (D.state device.old).store (name_view name.entry) }
 {
-    delete_first(alloc, device, format, path)
+    delete_first(alloc, device, format, name)
 }

@@ -16,6 +16,7 @@ ghost use Rattle.std.specs.Prelude.{
   map,
   ◌++◌,
 };
+ghost use Rattle.file_formats.specs.FileNames.{FileNameView};
 ghost use Rattle.a2_device.specs.Device.{DeviceState};
 ghost use Rattle.vol_format.specs.Directory.{Directory, entries};
 ghost use Rattle.dos_format.specs.Dos.{DescribesDos, dos_meaning};
@@ -33,21 +34,21 @@ ghost use Rattle.edit_formats.specs.Writes.{HasEdited};
 use edit_formats::{EditError, EditableFormat, Prepared};
 use std::alloc::Allocator;
 
-/// A law: an edit that makes the writes of a deletion leaves the files without the first that the path names, and the
+/// A law: an edit that makes the writes of a deletion leaves the files without the first with the name, and the
 /// same places are lost; where it was stopped by the device, the store is as it was, or has no entry of that file and
 /// at worst its places are lost.
 pub fn a_deletion_made_takes_out_one_file<F: EditableFormat>(format: &F)
-    ensures done { (path : List ℕ) (result : Result (Unit {0}) EditError) (old new : DeviceState)
+    ensures done { (name : FileNameView) (result : Result (Unit {0}) EditError) (old new : DeviceState)
         → IsTrue old.honest → HasWholeUnits (F.meaning format.now) old.store
         → HasEdited (IsDeleteEdit (F.meaning format.now) (F.files format.now)
-        (F.erasures format.now) old.store path) result old new
-        → OnOk result (HasFileDeleted (F.meaning format.now) ((F.files format.now).matches path) old.store new.store) }
-    ensures stopped { (path : List ℕ) (result : Result (Unit {0}) EditError) (old new : DeviceState)
+        (F.erasures format.now) old.store name) result old new
+        → OnOk result (HasFileDeleted (F.meaning format.now) ((F.files format.now).matches name) old.store new.store) }
+    ensures stopped { (name : FileNameView) (result : Result (Unit {0}) EditError) (old new : DeviceState)
         → IsTrue old.honest → HasWholeUnits (F.meaning format.now) old.store
         → HasEdited (IsDeleteEdit (F.meaning format.now) (F.files format.now)
-        (F.erasures format.now) old.store path) result old new
+        (F.erasures format.now) old.store name) result old new
         → result ≡ Err EditError.Device
-        → IsOldOrErased (F.meaning format.now) (F.files format.now) path old.store new.store }
+        → IsOldOrErased (F.meaning format.now) (F.files format.now) name old.store new.store }
 {}
 
 /// A law: in DOS 3.3 one write to the catalog erases the entry of a file.

@@ -1,5 +1,6 @@
 // The commands that lock and unlock a file.
 ghost use Rattle.std.specs.Prelude.{◌≡◌, ◌<◌, List, [], ◌∷◌, length, true, false, Err, IfErr, IsTrue, OnOk};
+ghost use Rattle.file_formats.specs.FileNames.{name_view};
 ghost use Rattle.vol_format.specs.Fits.{Fits};
 ghost use Rattle.vol_format.specs.Accepted.{IsVolume};
 ghost use Rattle.vol_format.specs.Directory.{entries, entry_of};
@@ -12,7 +13,7 @@ ghost use Rattle.edit_formats.specs.Writes.{HasEdited};
 
 use a2_device::Device;
 use edit_formats::{EditError, EditableFormat, read_unit, write_unit};
-use file_formats::find;
+use file_formats::{FileName, find};
 use std::alloc::Allocator;
 use vol_check::check;
 
@@ -43,70 +44,69 @@ fn write_lock<D: Device, F: EditableFormat>(
     write_unit(device, place, unit)
 }
 
-// Locks or unlocks the first file that a path names.
+// Locks or unlocks the first file with a name.
 fn relock<D: Device, F: EditableFormat, A: Allocator + Copy>(
     alloc: A,
     device: &mut D,
     format: &F,
-    path: &[u8],
+    name: FileName<'_>,
     on: bool,
 ) -> Result<(), EditError>
     requires fits { Fits (F.meaning format.now) (D.state device.old) }
 
     ensures edited { HasEdited (IsLockEdit (F.meaning format.now) (F.files format.now) (F.edits format.now)
-        (D.state device.old).store path.now on)
+        (D.state device.old).store (name_view name.entry) on)
         result (D.state device.old) (D.state device.new) }
     ensures refusals { IfErr result IsLockRefusal }
     ensures check { IsTrue (D.state device.old).honest → result ≡ Err EditError.Check
         → IsVolume (F.meaning format.now) (D.state device.old).store → ⊥ }
     ensures not_found { IsTrue (D.state device.old).honest → result ≡ Err EditError.NotFound
-        → HasNoSuchFile (F.meaning format.now) (F.files format.now) (D.state device.old).store path.now }
+        → HasNoSuchFile (F.meaning format.now) (F.files format.now) (D.state device.old).store (name_view name.entry) }
 {
     let mut unit = vec![in alloc; 0; device.unit()]?;
     let checked = check(alloc, device, format)?;
-    let Some(file) = find(format, checked.volume(), path) else {
+    let Some(file) = find(format, checked.volume(), name) else {
         return Err(EditError::NotFound);
     };
     write_lock(device, format, checked.volume(), file, &mut unit, on)
 }
 
-/// Locks the first file that a path names: one write, of the unit that has its entry. A file that is locked stays so.
+/// Locks the first file with a name: one write, of the unit that has its entry. A file that is locked stays so.
 ///
 /// # Errors
-/// `Check` where the volume is not accepted; `NotFound` where the path names no file; `Device` where a read or the
+/// `Check` where the volume is not accepted; `NotFound` where no file has the name; `Device` where a read or the
 /// write fails; `Memory`.
 pub fn lock<D: Device, F: EditableFormat, A: Allocator + Copy>(
     alloc: A,
     device: &mut D,
     format: &F,
-    path: &[u8],
+    name: FileName<'_>,
 ) -> Result<(), EditError>
     requires fits { Fits (F.meaning format.now) (D.state device.old) }
 
     // every device
     ensures edited { HasEdited (IsLockEdit (F.meaning format.now) (F.files format.now) (F.edits format.now)
-        (D.state device.old).store path.now true)
+        (D.state device.old).store (name_view name.entry) true)
         result (D.state device.old) (D.state device.new) }
     ensures refusals { IfErr result IsLockRefusal }
 
     // an honest device
     ensures files { IsTrue (D.state device.old).honest → OnOk result (HasChanged (F.meaning format.now)
-        (with_lock_on (F.files format.now) (F.edits format.now) path.now true) (D.state device.old).store
+        (with_lock_on (F.files format.now) (F.edits format.now) (name_view name.entry) true) (D.state device.old).store
         (D.state device.new).store) }
     ensures stopped { IsTrue (D.state device.old).honest → result ≡ Err EditError.Device
         → IsOldOrChanged (F.meaning format.now)
-        (with_lock_on (F.files format.now) (F.edits format.now) path.now true) (D.state device.old).store
+        (with_lock_on (F.files format.now) (F.edits format.now) (name_view name.entry) true) (D.state device.old).store
         (D.state device.new).store }
     ensures check { IsTrue (D.state device.old).honest → result ≡ Err EditError.Check
         → IsVolume (F.meaning format.now) (D.state device.old).store → ⊥ }
     ensures not_found { IsTrue (D.state device.old).honest → result ≡ Err EditError.NotFound
-        → HasNoSuchFile (F.meaning format.now) (F.files format.now) (D.state device.old).store path.now }
+        → HasNoSuchFile (F.meaning format.now) (F.files format.now) (D.state device.old).store (name_view name.entry) }
 {
-    relock(alloc, device, format, path, true)
+    relock(alloc, device, format, name, true)
 }
 
-/// Unlocks the first file that a path names: one write, of the unit that has its entry. A file that is not locked stays
-/// so.
+/// Unlocks the first file with a name: one write, of the unit that has its entry. A file that is not locked stays so.
 ///
 /// # Errors
 /// As of `lock`.
@@ -114,28 +114,28 @@ pub fn unlock<D: Device, F: EditableFormat, A: Allocator + Copy>(
     alloc: A,
     device: &mut D,
     format: &F,
-    path: &[u8],
+    name: FileName<'_>,
 ) -> Result<(), EditError>
     requires fits { Fits (F.meaning format.now) (D.state device.old) }
 
     // every device
     ensures edited { HasEdited (IsLockEdit (F.meaning format.now) (F.files format.now) (F.edits format.now)
-        (D.state device.old).store path.now false)
+        (D.state device.old).store (name_view name.entry) false)
         result (D.state device.old) (D.state device.new) }
     ensures refusals { IfErr result IsLockRefusal }
 
     // an honest device
     ensures files { IsTrue (D.state device.old).honest → OnOk result (HasChanged (F.meaning format.now)
-        (with_lock_on (F.files format.now) (F.edits format.now) path.now false) (D.state device.old).store
+        (with_lock_on (F.files format.now) (F.edits format.now) (name_view name.entry) false) (D.state device.old).store
         (D.state device.new).store) }
     ensures stopped { IsTrue (D.state device.old).honest → result ≡ Err EditError.Device
         → IsOldOrChanged (F.meaning format.now)
-        (with_lock_on (F.files format.now) (F.edits format.now) path.now false) (D.state device.old).store
+        (with_lock_on (F.files format.now) (F.edits format.now) (name_view name.entry) false) (D.state device.old).store
         (D.state device.new).store }
     ensures check { IsTrue (D.state device.old).honest → result ≡ Err EditError.Check
         → IsVolume (F.meaning format.now) (D.state device.old).store → ⊥ }
     ensures not_found { IsTrue (D.state device.old).honest → result ≡ Err EditError.NotFound
-        → HasNoSuchFile (F.meaning format.now) (F.files format.now) (D.state device.old).store path.now }
+        → HasNoSuchFile (F.meaning format.now) (F.files format.now) (D.state device.old).store (name_view name.entry) }
 {
-    relock(alloc, device, format, path, false)
+    relock(alloc, device, format, name, false)
 }

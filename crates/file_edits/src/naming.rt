@@ -1,5 +1,6 @@
 // The command that renames a file.
 ghost use Rattle.std.specs.Prelude.{◌≡◌, ◌<◌, List, [], ◌∷◌, length, true, false, Err, IfErr, IsTrue, OnOk};
+ghost use Rattle.file_formats.specs.FileNames.{name_view};
 ghost use Rattle.vol_format.specs.Fits.{Fits};
 ghost use Rattle.vol_format.specs.Accepted.{IsVolume};
 ghost use Rattle.vol_format.specs.Directory.{entries, entry_of};
@@ -14,7 +15,7 @@ ghost use Rattle.edit_formats.specs.Writes.{HasEdited};
 
 use a2_device::Device;
 use edit_formats::{EditError, EditableFormat, read_unit, write_unit};
-use file_formats::find;
+use file_formats::{FileName, find};
 use std::alloc::Allocator;
 use vol_check::check;
 
@@ -114,31 +115,31 @@ fn rename_entry<D: Device, F: EditableFormat, A: Allocator + Copy>(
     }
 }
 
-// Renames the first file that a path names.
+// Renames the first file with a name.
 fn rename_first<D: Device, F: EditableFormat, A: Allocator + Copy>(
     alloc: A,
     device: &mut D,
     format: &F,
-    path: &[u8],
+    name: FileName<'_>,
     new: &[u8],
 ) -> Result<(), EditError>
     requires fits { Fits (F.meaning format.now) (D.state device.old) }
 
     ensures edited { HasEdited (IsRenameEdit (F.meaning format.now) (F.files format.now) (F.names format.now)
-        (D.state device.old).store path.now new.now)
+        (D.state device.old).store (name_view name.entry) new.now)
         result (D.state device.old) (D.state device.new) }
     ensures refusals { IfErr result IsRenameRefusal }
     ensures check { IsTrue (D.state device.old).honest → result ≡ Err EditError.Check
         → IsVolume (F.meaning format.now) (D.state device.old).store → ⊥ }
     ensures not_found { IsTrue (D.state device.old).honest → result ≡ Err EditError.NotFound
-        → HasNoSuchFile (F.meaning format.now) (F.files format.now) (D.state device.old).store path.now }
+        → HasNoSuchFile (F.meaning format.now) (F.files format.now) (D.state device.old).store (name_view name.entry) }
     ensures told { IsTrue (D.state device.old).honest
         → IsRenameTold (F.meaning format.now) (F.files format.now) (F.names format.now)
-        (D.state device.old).store path.now new.now result }
+        (D.state device.old).store (name_view name.entry) new.now result }
 {
     let mut unit = vec![in alloc; 0; device.unit()]?;
     let checked = check(alloc, device, format)?;
-    let Some(file) = find(format, checked.volume(), path) else {
+    let Some(file) = find(format, checked.volume(), name) else {
         return Err(EditError::NotFound);
     };
     rename_entry(
@@ -152,53 +153,54 @@ fn rename_first<D: Device, F: EditableFormat, A: Allocator + Copy>(
     )
 }
 
-/// Renames the first file that a path names: one write, of the unit that has its entry. The new name is the last of its
+/// Renames the first file with a name: one write, of the unit that has its entry. The new name is the last of its
 /// path, with no slash; it is stored as the format has it. An entry beside the file's is one of the same directory, of
 /// a file or of a directory; the file's own is one of them.
 ///
 /// # Errors
-/// Of several the first in this order: `Check` where the volume is not accepted; `NotFound` where the path names no
-/// file; `Name` where no file may get the new name; `Exists` where an entry beside the file's has it; `Locked` where
+/// Of several the first in this order: `Check` where the volume is not accepted; `NotFound` where no file has the
+/// name; `Name` where no file may get the new name; `Exists` where an entry beside the file's has it; `Locked` where
 /// the file's entry keeps its name. `Device` where a read or the write fails; `Memory`.
 pub fn rename<D: Device, F: EditableFormat, A: Allocator + Copy>(
     alloc: A,
     device: &mut D,
     format: &F,
-    path: &[u8],
+    name: FileName<'_>,
     new: &[u8],
 ) -> Result<(), EditError>
     requires fits { Fits (F.meaning format.now) (D.state device.old) }
 
     // every device
     ensures edited { HasEdited (IsRenameEdit (F.meaning format.now) (F.files format.now) (F.names format.now)
-        (D.state device.old).store path.now new.now)
+        (D.state device.old).store (name_view name.entry) new.now)
         result (D.state device.old) (D.state device.new) }
     ensures refusals { IfErr result IsRenameRefusal }
 
     // an honest device
     ensures files { IsTrue (D.state device.old).honest → OnOk result (HasChanged (F.meaning format.now)
-        (with_new_name (F.files format.now) (F.names format.now) path.now new.now) (D.state device.old).store
-        (D.state device.new).store) }
+        (with_new_name (F.files format.now) (F.names format.now) (name_view name.entry) new.now)
+        (D.state device.old).store (D.state device.new).store) }
     ensures renamable { IsTrue (D.state device.old).honest
-        → OnOk result (HasFirst (F.meaning format.now) (F.files format.now) (D.state device.old).store path.now
-        (λ directory file. IsRenamable (F.names format.now) (D.state device.old).store directory file new.now)) }
+        → OnOk result (HasFirst (F.meaning format.now) (F.files format.now) (D.state device.old).store
+        (name_view name.entry) (λ directory file.
+        IsRenamable (F.names format.now) (D.state device.old).store directory file new.now)) }
     ensures stopped { IsTrue (D.state device.old).honest → result ≡ Err EditError.Device
         → IsOldOrChanged (F.meaning format.now)
-        (with_new_name (F.files format.now) (F.names format.now) path.now new.now) (D.state device.old).store
-        (D.state device.new).store }
+        (with_new_name (F.files format.now) (F.names format.now) (name_view name.entry) new.now)
+        (D.state device.old).store (D.state device.new).store }
     ensures check { IsTrue (D.state device.old).honest → result ≡ Err EditError.Check
         → IsVolume (F.meaning format.now) (D.state device.old).store → ⊥ }
     ensures not_found { IsTrue (D.state device.old).honest → result ≡ Err EditError.NotFound
-        → HasNoSuchFile (F.meaning format.now) (F.files format.now) (D.state device.old).store path.now }
+        → HasNoSuchFile (F.meaning format.now) (F.files format.now) (D.state device.old).store (name_view name.entry) }
     ensures name { IsTrue (D.state device.old).honest → result ≡ Err EditError.Name
         → HasFirstUnnamed (F.meaning format.now) (F.files format.now) (F.names format.now) (D.state device.old).store
-        path.now new.now }
+        (name_view name.entry) new.now }
     ensures exists { IsTrue (D.state device.old).honest → result ≡ Err EditError.Exists
         → HasFirstBeside (F.meaning format.now) (F.files format.now) (F.names format.now)
-        (D.state device.old).store path.now new.now }
+        (D.state device.old).store (name_view name.entry) new.now }
     ensures locked { IsTrue (D.state device.old).honest → result ≡ Err EditError.Locked
         → HasFirstLocked (F.meaning format.now) (F.files format.now) (F.names format.now) (D.state device.old).store
-        path.now new.now }
+        (name_view name.entry) new.now }
 {
-    rename_first(alloc, device, format, path, new)
+    rename_first(alloc, device, format, name, new)
 }

@@ -9,6 +9,7 @@ use Rattle.dos_format.specs.Dos.{dos_directory, dos_entry}
 use Rattle.dos_format.specs.lemmas.DosDirectory.{entry_of-dos, length-numbered}
 use Rattle.file_formats.specs.declared.listing.ListEntry.{ListEntry}
 use Rattle.file_formats.specs.Catalog.{list_entry}
+use Rattle.file_formats.specs.FileNames.{FileNameView}
 use Rattle.file_formats.specs.DosFiles.{dos_shown, dos_matches, dos_body}
 use Rattle.file_formats.specs.lemmas.DosShown.{list_entry-dos}
 
@@ -37,9 +38,9 @@ module _ (data_disk : Bool) (reserved : List Bool) (vtoc : List ℕ) (all shown 
   pub entry_read : entry_of (dos_directory data_disk reserved vtoc all) file ≡ dos_entry file (get_or shown file e)
   entry_read = entry_of-dos data_disk reserved vtoc all file e (omega (arith, length-numbered 0 all, inside)) ∙ ap (λ es. dos_entry file (get_or es file e)) (sym is)
 
-  pub matches-dos : (path name : List ℕ) (answer : Bool) → answer ≡ dos_matches path name → name ≡ slice_range (get_or shown file e).bytes 3 33
-      → answer ≡ dos_matches path (entry_of (dos_directory data_disk reserved vtoc all) file).path
-  matches-dos path name answer answer_is name_is = answer_is ∙ ap (dos_matches path) (name_is ∙ sym (ap (λ (entry : Listed). entry.path) entry_read))
+  pub matches-dos : (given : FileNameView) (name : List ℕ) (answer : Bool) → answer ≡ dos_matches given name → name ≡ slice_range (get_or shown file e).bytes 3 33
+      → answer ≡ dos_matches given (entry_of (dos_directory data_disk reserved vtoc all) file).path
+  matches-dos given name answer answer_is name_is = answer_is ∙ ap (dos_matches given) (name_is ∙ sym (ap (λ (entry : Listed). entry.path) entry_read))
 
   pub shown-dos : {A E : Type 0} (result : Result (ListEntry A) E) → IfOk result (λ listed. listed ≡ list_entry (get_or shown file e))
       → IfOk result (λ listed. listed ≡ dos_shown (entry_of (dos_directory data_disk reserved vtoc all) file))

@@ -10,6 +10,7 @@ use Rattle.vol_format.specs.Directory.{Listed, entries, entry_of}
 use Rattle.pro_format.specs.Pro.{no_slot, entry_number, directory_with}
 use Rattle.pro_format.specs.lemmas.ProDirectory.{length-listed, listed_at}
 use Rattle.file_formats.specs.declared.listing.ListEntry.{ListEntry}
+use Rattle.file_formats.specs.FileNames.{FileNameView}
 use Rattle.file_formats.specs.ProFiles.{pro_shown, pro_matches, pro_body}
 use Rattle.file_formats.specs.ProListing.{pro_list_entry}
 use Rattle.file_formats.specs.lemmas.ProShown.{list_entry-pro, long_behind}
@@ -27,12 +28,12 @@ module _ (system : List Bool) (tree : Tree) (units : List (List ℕ)) (file : �
   same_entry : (shown : List Entry) (e : Entry) → shown ≡ tree.entries → get_or shown file e ≡ slice_index_or tree.entries file no_slot
   same_entry shown e is = get_or_default shown file e no_slot (in_shown shown is) ∙ ap (λ es. slice_index_or es file no_slot) is
 
-  pub matches-pro : (path : List ℕ) (answer : Bool) (shown : Tree) → shown ≡ tree → answer ≡ pro_matches path (path_of shown.entries file)
-      → answer ≡ pro_matches path (entry_of (directory_with system tree units) file).path
-  matches-pro path answer shown same is =
+  pub matches-pro : (name : FileNameView) (answer : Bool) (shown : Tree) → shown ≡ tree → answer ≡ pro_matches name (path_of shown.entries file)
+      → answer ≡ pro_matches name (entry_of (directory_with system tree units) file).path
+  matches-pro name answer shown same is =
       is
-      ∙ ap (λ (t : Tree). pro_matches path (path_of t.entries file)) same
-      ∙ sym (ap (λ (entry : Listed). pro_matches path entry.path) listed)
+      ∙ ap (λ (t : Tree). pro_matches name (path_of t.entries file)) same
+      ∙ sym (ap (λ (entry : Listed). pro_matches name entry.path) listed)
 
   pub shown-pro : {A : Type 0} (shown : List Entry) (e : Entry) (path : List ℕ) (answer : ListEntry A) → shown ≡ tree.entries
       → answer ≡ pro_list_entry path (get_or shown file e) → (read : Tree) → read ≡ tree → path ≡ path_of read.entries file

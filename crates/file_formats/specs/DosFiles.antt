@@ -4,14 +4,21 @@ use Rattle.std.specs.Str.{bytes_eq}
 use Rattle.pro_dir.specs.declared.date.ProDate.{ProDate}
 use Rattle.vol_format.specs.Directory.{Listed}
 use Rattle.file_formats.specs.declared.listing.ListEntry.{ListEntry}
+use Rattle.file_formats.specs.FileNames.{FileNameView, GivenPath, StoredPath}
 use Rattle.file_formats.specs.Files.{FileMeaning}
 
 -- a name as it is stored: high bits on, and spaces up to 30 bytes
 abbrev pub dos_name : List ℕ → List ℕ
 dos_name path = map (λ byte. bit_or byte 0x80) path ++ replicate (30 - length path) 0xa0
 
-abbrev pub dos_matches : List ℕ → List ℕ → Bool
-dos_matches path stored = nat_le (length path) 30 && bytes_eq (dos_name path) stored
+-- stored bytes that are given, with spaces up to 30
+abbrev pub filled_name : List ℕ → List ℕ
+filled_name bytes = bytes ++ replicate (30 - length bytes) 0xa0
+
+-- Of a path 30 bytes at most are a name, of stored bytes one to 30.
+abbrev pub dos_matches : FileNameView → List ℕ → Bool
+dos_matches (GivenPath path) stored = nat_le (length path) 30 && bytes_eq (dos_name path) stored
+dos_matches (StoredPath bytes) stored = nat_le 1 (length bytes) && nat_le (length bytes) 30 && bytes_eq (filled_name bytes) stored
 
 -- DOS 3.3 keeps no dates
 abbrev pub no_date : ProDate

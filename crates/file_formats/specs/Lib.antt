@@ -1,4 +1,5 @@
 pub mod Files
+pub mod FileNames
 pub mod Listing
 pub mod DosFiles
 pub mod Catalog

@@ -5,11 +5,13 @@ use Rattle.pro_dir.specs.Entry.{word, long, storage_of}
 use Rattle.pro_dir.specs.Paths.{folded}
 use Rattle.vol_format.specs.Directory.{Listed}
 use Rattle.file_formats.specs.declared.listing.ListEntry.{ListEntry}
+use Rattle.file_formats.specs.FileNames.{FileNameView, GivenPath, StoredPath}
 use Rattle.file_formats.specs.Files.{FileMeaning}
 
 -- paths are joined names; the letters of a path as it is given are taken as capitals
-abbrev pub pro_matches : List ℕ → List ℕ → Bool
-pro_matches path stored = bytes_eq (folded path) stored
+abbrev pub pro_matches : FileNameView → List ℕ → Bool
+pro_matches (GivenPath path) stored = bytes_eq (folded path) stored
+pro_matches (StoredPath bytes) stored = bytes_eq bytes stored
 
 -- a file is locked where destroy, rename and write are not all on
 abbrev pub is_locked : ℕ → Bool

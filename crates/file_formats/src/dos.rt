@@ -1,9 +1,10 @@
 // DOS 3.3 as a format of files.
 ghost use Rattle.std.specs.Prelude.{◌≡◌, ◌≤◌, ◌+◌, length, take, drop, slice_index, slice_range, IfOk};
 ghost use Rattle.file_formats.specs.Catalog.{list_entry};
-ghost use Rattle.file_formats.specs.DosFiles.{dos_matches, dos_name, number_at, dos_body};
+ghost use Rattle.file_formats.specs.DosFiles.{dos_matches, dos_name, filled_name, number_at, dos_body};
+ghost use Rattle.file_formats.specs.FileNames.{name_view};
 
-use crate::{FileFormat, ListEntry, StoredName};
+use crate::{FileFormat, FileName, ListEntry, StoredName};
 use dos_catalog::Entry;
 use dos_format::{Dos33, DosVolume};
 use pro_dir::ProDate;
@@ -27,11 +28,26 @@ fn stored_name(path: &[u8]) -> [u8; 30]
     name
 }
 
-// Whether a path is that of a stored name.
-fn is_name(path: &[u8], stored: &[u8]) -> bool
-    ensures { result ≡ dos_matches path.now stored.now }
+// Stored bytes that are given, with spaces up to 30.
+fn filled_name(bytes: &[u8]) -> [u8; 30]
+    requires { length bytes.now ≤ 30 }
+    ensures { result ≡ filled_name bytes.now }
 {
-    path.len() <= NAME_BYTES && stored_name(path).as_slice() == stored
+    let mut name = [0xa0; NAME_BYTES];
+    name[..bytes.len()].copy_from_slice(bytes);
+    name
+}
+
+// Whether a name is that of stored bytes.
+fn is_name(name: FileName<'_>, stored: &[u8]) -> bool
+    ensures { result ≡ dos_matches (name_view name.entry) stored.now }
+{
+    match name {
+        FileName::Path(path) => path.len() <= NAME_BYTES && stored_name(path).as_slice() == stored,
+        FileName::Stored(bytes) => {
+            1 <= bytes.len() && bytes.len() <= NAME_BYTES && filled_name(bytes).as_slice() == stored
+        }
+    }
 }
 
 // What is shown of an entry.
@@ -110,9 +126,9 @@ impl<A: Allocator + Copy> FileFormat for Dos33<A> {
 
     ghost files = { λ f. dos_files };
 
-    fn matches(&self, volume: &DosVolume<A>, file: u32, path: &[u8]) -> bool {
+    fn matches(&self, volume: &DosVolume<A>, file: u32, name: FileName<'_>) -> bool {
         let entry = &volume.catalog().entries()[file as usize];
-        is_name(path, entry.name())
+        is_name(name, entry.name())
     }
 
     fn list_entry<B: Allocator>(

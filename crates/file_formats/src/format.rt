@@ -1,5 +1,5 @@
 // The trait of formats whose files commands work on.
-use crate::{ListEntry, StoredName};
+use crate::{FileName, ListEntry, StoredName};
 use std::alloc::{AllocError, Allocator};
 use vol_format::Format;
 
@@ -8,15 +8,16 @@ use vol_format::Format;
 pub trait FileFormat: Format {
     ghost use Rattle.std.specs.Prelude.{◌≡◌, ◌<◌, IfOk};
     ghost use Rattle.vol_format.specs.Directory.{entries, entry_of};
+    ghost use Rattle.file_formats.specs.FileNames.{name_view};
     ghost use Rattle.file_formats.specs.Files.{FileMeaning};
     ghost use Rattle.file_formats.specs.Listing.{free_count};
 
     ghost files: { Self → FileMeaning };
 
-    /// Whether a path, as it is given, is that of an entry.
-    fn matches(&self, volume: &Self::Volume, file: u32, path: &[u8]) -> bool
+    /// Whether a name is that of an entry.
+    fn matches(&self, volume: &Self::Volume, file: u32, name: FileName<'_>) -> bool
         requires { file < entries (Self.directory self.now volume.now) }
-        ensures { result ≡ (files self.now).matches path.now
+        ensures { result ≡ (files self.now).matches (name_view name.entry)
             (entry_of (Self.directory self.now volume.now) file).path };
 
     /// What a listing shows of an entry.

@@ -2,12 +2,14 @@
 //!
 //! What this asks of a format, beside its parts, is the trait `FileFormat`; its model is the record `FileMeaning`
 //! (`specs/Files.antt`); DOS 3.3 and ProDOS have it (`specs/DosFiles.antt`, `specs/ProFiles.antt`). A listing shows
-//! what a directory says (`specs/Listing.antt`), and `find` is the first file that a path names.
+//! what a directory says (`specs/Listing.antt`). A file is named by a path as it is given, or by the bytes of
+//! the path that is stored (`FileName`), and `find` is the first file that has a name.
 //!
 //! What always holds: each call is exact over the directory that was read, and touches no device.
 #![tactic(auto)]
 
 mod dos;
+mod file_name;
 mod finding;
 mod format;
 mod listing;
@@ -15,6 +17,7 @@ mod name;
 mod pro;
 
 pub use dos::address_of;
+pub use file_name::FileName;
 pub use finding::find;
 pub use format::FileFormat;
 pub use listing::{ListEntry, Listing};

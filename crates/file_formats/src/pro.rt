@@ -1,15 +1,29 @@
 // ProDOS as a format of files.
-ghost use Rattle.std.specs.Prelude.{◌≡◌, ◌<◌, IfOk};
+ghost use Rattle.std.specs.Prelude.{◌≡◌, ◌<◌, length, IfOk};
+ghost use Rattle.pro_dir.specs.Listed.{directory_of};
+ghost use Rattle.pro_dir.specs.Paths.{path_of};
 ghost use Rattle.vol_format.specs.Directory.{entries, entry_of};
 ghost use Rattle.pro_format.specs.Pro.{directory_with};
 ghost use Rattle.pro_format.specs.ProVolume.{map_in, system_of, tree_of};
-ghost use Rattle.file_formats.specs.ProFiles.{pro_body, pro_shown};
+ghost use Rattle.file_formats.specs.FileNames.{name_view};
+ghost use Rattle.file_formats.specs.ProFiles.{pro_body, pro_matches, pro_shown};
 ghost use Rattle.file_formats.specs.ProListing.{pro_list_entry};
 
-use crate::{FileFormat, ListEntry, StoredName};
-use pro_dir::Entry;
+use crate::{FileFormat, FileName, ListEntry, StoredName};
+use pro_dir::{Entry, VolumeDir};
 use pro_format::{ProVolume, Prodos};
 use std::alloc::{AllocError, Allocator};
+
+// Whether a name is that of an entry.
+fn is_name<A: Allocator>(directory: &VolumeDir<A>, entry: u32, name: FileName<'_>) -> bool
+    requires { entry < length (directory_of directory.now).entries }
+    ensures { result ≡ pro_matches (name_view name.entry) (path_of (directory_of directory.now).entries entry) }
+{
+    match name {
+        FileName::Path(path) => directory.has_path(entry, path),
+        FileName::Stored(bytes) => directory.has_stored_path(entry, bytes),
+    }
+}
 
 // What is shown of an entry that has this path.
 fn with_path<A: Allocator>(entry: &Entry, path: Vec<u8, A>) -> ListEntry<A>
@@ -59,8 +73,8 @@ impl<A: Allocator + Copy> FileFormat for Prodos<A> {
 
     ghost files = { λ f. pro_files };
 
-    fn matches(&self, volume: &ProVolume<A>, file: u32, path: &[u8]) -> bool {
-        volume.directory().has_path(file, path)
+    fn matches(&self, volume: &ProVolume<A>, file: u32, name: FileName<'_>) -> bool {
+        is_name(volume.directory(), file, name)
     }
 
     fn list_entry<B: Allocator>(

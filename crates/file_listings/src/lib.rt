@@ -32,5 +32,6 @@ pub use dos_text::{dos_listing_text, shown_part};
 pub use facts::Facts;
 pub use pro_lines::{ProLines, most_path_bytes};
 pub use pro_steps::ProSteps;
+pub use shown_path::ShownPath;
 pub use step::{Step, StepText};
 pub use style::{EntryStyle, Style};

@@ -5,19 +5,20 @@ use Rattle.std.specs.Bool.{Decides}
 use Rattle.std.proofs.lemmas.List.{append_cancel_right, drop-map, length-map, length-append}
 use Rattle.std.proofs.Math.Seq.{drop-append_seam}
 use Rattle.std.proofs.lemmas.Slice.Eq.{bytes_eq-Decides}
-use Rattle.std.specs.Char.{to_ascii_uppercase}
 use Rattle.pro_dir.specs.declared.entry.Entry.{Entry}
 use Rattle.pro_dir.specs.Entry.{name_of}
+use Rattle.pro_dir.specs.declared.letters.Letters.{Letters}
+use Rattle.pro_dir.specs.Letters.{letter, taken}
 use Rattle.pro_dir.specs.Parents.{entry_in, parent_of}
-use Rattle.pro_dir.specs.Paths.{folded, name_below, path_of}
+use Rattle.pro_dir.specs.Paths.{name_below, path_of}
 use Rattle.pro_dir.proofs.Paths.{path-named, path_above-some}
 
 -- the last bytes of a path that ends so
-pub last_bytes : (path above last : List ℕ) (at : ℕ) → at + length last ≡ length path → folded path ≡ above ++ last → folded (drop at path) ≡ last
-last_bytes path above last at fits is =
+pub last_bytes : (letters : Letters) (path above last : List ℕ) (at : ℕ) → at + length last ≡ length path → taken letters path ≡ above ++ last → taken letters (drop at path) ≡ last
+last_bytes letters path above last at fits is =
     let lengths = ap (λ (text : List ℕ). length text) is in
-    let here : at ≡ length above = omega (arith, lengths, length-map path to_ascii_uppercase, length-append above last, fits) in
-    sym (drop-map to_ascii_uppercase at path) ∙ ap (drop at) is ∙ ap (λ k. drop k (above ++ last)) here ∙ drop-append_seam above last
+    let here : at ≡ length above = omega (arith, lengths, length-map path (letter letters), length-append above last, fits) in
+    sym (drop-map (letter letters) at path) ∙ ap (drop at) is ∙ ap (λ k. drop k (above ++ last)) here ∙ drop-append_seam above last
 
 -- the path of an entry that has a parent
 pub path-parent : (entries : List Entry) (number parent : ℕ) → number < length entries → parent_of entries number ≡ Some parent

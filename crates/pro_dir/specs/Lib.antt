@@ -5,6 +5,7 @@ pub mod Volume
 pub mod Listed
 pub mod Within
 pub mod Paths
+pub mod Letters
 pub mod Parents
 pub mod Walk
 pub mod lemmas

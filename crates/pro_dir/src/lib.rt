@@ -10,6 +10,7 @@
 mod access;
 mod date;
 mod entry;
+mod letters;
 mod parents;
 mod path;
 mod reading;

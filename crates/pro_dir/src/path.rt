@@ -18,11 +18,13 @@ ghost use Rattle.std.specs.Prelude.{
 };
 ghost use Rattle.std.specs.Str.{bytes_eq};
 ghost use Rattle.pro_dir.specs.Entry.{name_of};
+ghost use Rattle.pro_dir.specs.Letters.{taken};
 ghost use Rattle.pro_dir.specs.Listed.{directory_of};
 ghost use Rattle.pro_dir.specs.Parents.{entry_in, parent_of as parent_in};
 ghost use Rattle.pro_dir.specs.Paths.{folded, path_of};
 
 use crate::VolumeDir;
+use crate::letters::Letters;
 use crate::parents::{entry_at, parent_of};
 use std::alloc::{AllocError, Allocator};
 
@@ -36,37 +38,37 @@ fn push_backward<A: Allocator>(text: &mut Vec<u8, A>, name: &[u8]) -> Result<(),
     Ok(())
 }
 
-// Whether a name as it is given is the stored one.
-fn is_name(given: &[u8], stored: &[u8]) -> bool
-    ensures { IsTrue result ↔ (folded given.now ≡ stored.now) }
+// Whether a name that is given is the stored one.
+fn is_name(given: &[u8], stored: &[u8], letters: Letters) -> bool
+    ensures { IsTrue result ↔ (taken letters given.now ≡ stored.now) }
 {
     if given.len() != stored.len() {
         return false;
     }
     for at in 0..given.len() {
-        if given[at].to_ascii_uppercase() != stored[at] {
+        if letters.take(given[at]) != stored[at] {
             return false;
         }
     }
     true
 }
 
-// Whether the last bytes of a path as it is given are a slash and the stored name.
-fn is_last_name(last: &[u8], name: &[u8]) -> bool
+// Whether the last bytes of a path that is given are a slash and the stored name.
+fn is_last_name(last: &[u8], name: &[u8], letters: Letters) -> bool
     requires { 0 < length last.now }
-    ensures { IsTrue result ↔ (folded last.now ≡ 0x2f ∷ name.now) }
+    ensures { IsTrue result ↔ (taken letters last.now ≡ 0x2f ∷ name.now) }
 {
-    last[0] == b'/' && is_name(&last[1..], name)
+    last[0] == b'/' && is_name(&last[1..], name, letters)
 }
 
-// A path as it is given without its last name, where that is the stored one, and the slash before it.
-fn without_name<'a>(path: &'a [u8], name: &[u8]) -> Option<&'a [u8]>
-    ensures some { IfSome result (λ above. folded path.now ≡ folded above.now ++ 0x2f ∷ name.now) }
-    ensures none { IfNone result ((above : List ℕ) → folded path.now ≢ above ++ 0x2f ∷ name.now) }
+// A path that is given without its last name, where that is the stored one, and the slash before it.
+fn without_name<'a>(path: &'a [u8], name: &[u8], letters: Letters) -> Option<&'a [u8]>
+    ensures some { IfSome result (λ above. taken letters path.now ≡ taken letters above.now ++ 0x2f ∷ name.now) }
+    ensures none { IfNone result ((above : List ℕ) → taken letters path.now ≢ above ++ 0x2f ∷ name.now) }
 {
     let at = path.len().checked_sub(name.len() + 1)?;
     let (above, last) = path.split_at(at);
-    if !is_last_name(last, name) {
+    if !is_last_name(last, name, letters) {
         return None;
     }
     Some(above)
@@ -128,20 +130,36 @@ impl<A: Allocator> VolumeDir<A> {
         Ok(path)
     }
 
-    /// Whether a path as it is given, with its letters as capitals, is that of an entry.
-    pub fn has_path(&self, entry: u32, path: &[u8]) -> bool
+    // Whether a path that is given, with its letters taken so, is that of an entry.
+    fn is_path(&self, entry: u32, path: &[u8], letters: Letters) -> bool
         requires { entry < length (directory_of self.now).entries }
-        ensures { result ≡ bytes_eq (folded path.now) (path_of (directory_of self.now).entries entry) }
+        ensures { result ≡ bytes_eq (taken letters path.now) (path_of (directory_of self.now).entries entry) }
     {
         let mut rest = path;
         let mut number = entry;
         while let Some(parent) = self.parent(number) {
-            let Some(above) = without_name(rest, self.name_at(number)) else {
+            let Some(above) = without_name(rest, self.name_at(number), letters) else {
                 return false;
             };
             rest = above;
             number = parent;
         }
-        is_name(rest, self.name_at(number))
+        is_name(rest, self.name_at(number), letters)
+    }
+
+    /// Whether a path as it is given, with its letters as capitals, is that of an entry.
+    pub fn has_path(&self, entry: u32, path: &[u8]) -> bool
+        requires { entry < length (directory_of self.now).entries }
+        ensures { result ≡ bytes_eq (folded path.now) (path_of (directory_of self.now).entries entry) }
+    {
+        self.is_path(entry, path, Letters::AsCapitals)
+    }
+
+    /// Whether these bytes are the path of an entry, as it is stored.
+    pub fn has_stored_path(&self, entry: u32, path: &[u8]) -> bool
+        requires { entry < length (directory_of self.now).entries }
+        ensures { result ≡ bytes_eq path.now (path_of (directory_of self.now).entries entry) }
+    {
+        self.is_path(entry, path, Letters::AsTheyAre)
     }
 }

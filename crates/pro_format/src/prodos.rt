@@ -1,5 +1,5 @@
 // ProDOS.
-ghost use Rattle.std.specs.Prelude.{◌≡◌, ◌<◌, ◌≤◌, length, IfOk, IfErr, IsTrue};
+ghost use Rattle.std.specs.Prelude.{◌≡◌, ◌≢◌, ◌<◌, ◌≤◌, [], length, IfOk, IfErr, IfNone, IfSome, IsTrue};
 ghost use Rattle.pro_dir.specs.Listed.{directory_of};
 ghost use Rattle.pro_dir.specs.Within.{IsWithin};
 ghost use Rattle.pro_dir.specs.Volume.{total_blocks};
@@ -36,6 +36,17 @@ impl<A: Allocator + Copy> Prodos<A> {
         ensures { result ≡ reserved }
     {
         Prodos { alloc, reserved }
+    }
+
+    /// The same format where nothing is reserved; `None` where nothing is.
+    pub fn unreserved(&self) -> Option<Prodos<A>>
+        ensures some { IfSome result (λ format. (self.now ≢ []) × (format ≡ [])) }
+        ensures none { IfNone result (self.now ≡ []) }
+    {
+        if self.reserved.is_empty() {
+            return None;
+        }
+        Some(Prodos::new(self.alloc, Reserved::none(self.alloc)))
     }
 
     // Which places are the system's.

@@ -1,5 +1,5 @@
 // Reserved places.
-ghost use Rattle.std.specs.Prelude.{◌≡◌, ◌<◌, ℕ, List, [], All, IfOk, IfErr};
+ghost use Rattle.std.specs.Prelude.{◌≡◌, ◌↔◌, ◌<◌, ℕ, List, [], All, IfOk, IfErr, IsTrue};
 ghost use Rattle.reserved_places.specs.declared.error.ReserveError.TheVariants.{Syntax};
 ghost use Rattle.reserved_places.specs.Reserved.{is_reserved, HasPlaces, IsPlaceList, Reserves};
 
@@ -30,6 +30,13 @@ impl<A: Allocator> Reserved<A> {
         Reserved {
             table: Vec::new(alloc),
         }
+    }
+
+    /// Whether this is the table of no place, `none`.
+    pub fn is_empty(&self) -> bool
+        ensures { IsTrue result ↔ (self.now ≡ []) }
+    {
+        self.table.is_empty()
     }
 
     /// Whether a place is reserved.

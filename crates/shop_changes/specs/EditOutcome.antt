@@ -2,7 +2,7 @@
 use Rattle.std.specs.Prelude.{◌≡◌, IfErr, IfSome, IsTrue, OnOk, Result, Ok, Err}
 use Rattle.a2_device.specs.Device.{DeviceState}
 use Rattle.vol_format.specs.Meaning.{Meaning}
-use Rattle.file_listings.specs.DosText.{Text}
+use Rattle.file_formats.specs.FileNames.{FileNameView}
 use Rattle.file_formats.specs.Files.{FileMeaning}
 use Rattle.edit_formats.specs.Edited.{HasChanged}
 use Rattle.edit_formats.specs.Renamed.{IsRenameRefusal}
@@ -23,7 +23,7 @@ TellsEdit (Err error) outcome = outcome ≡ Unfinished (reply_to_edit_refusal er
 
 -- A command was tried, and the outcome tells what it answered. Done, all writes of the edit stand and nothing else has changed, and the files are those of before after the edit of
 -- their list. Stopped by a failure, one was met, a front of the writes stands, none was made after it, and the files are those of before or of the edit. Refused, the refusal has its cause.
-pub record IsEditOutcome (edit : EditView) (name : Text) (files : FileMeaning) (rules : EditRules) (format : Meaning) (old new : DeviceState) (outcome : Outcome) : Type 0 where
+pub record IsEditOutcome (edit : EditView) (name : FileNameView) (files : FileMeaning) (rules : EditRules) (format : Meaning) (old new : DeviceState) (outcome : Outcome) : Type 0 where
   pub result : Result (Unit {0}) EditError
   pub told : TellsEdit result outcome
   pub edited : HasEdited (AreWritesOf edit name files rules format old.store) result old new

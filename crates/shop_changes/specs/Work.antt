@@ -1,5 +1,6 @@
 -- Work that changes a volume, with the bytes of its files read.
 use Rattle.std.specs.Prelude.{ℕ, Bool, List}
+use Rattle.file_formats.specs.FileNames.{FileNameView, name_view}
 use Rattle.given_file.specs.Content.{GivenView, given_view}
 use Rattle.shop_jobs.specs.Job.{EditView, edit_view}
 use Rattle.shop_changes.specs.declared.work.Work.{Work}
@@ -9,10 +10,10 @@ use Rattle.shop_changes.specs.declared.work.Work.TheVariants as works
 -- of a file its edit and its name; of a new file its path, and the file as it is given.
 pub data WorkView : Type 0 where
   Optimize : Bool → ℕ → WorkView
-  EditOf : EditView → List ℕ → WorkView
+  EditOf : EditView → FileNameView → WorkView
   Save : List ℕ → GivenView → WorkView
 
 abbrev pub work_view : Work → WorkView
 work_view (works.Optimize reclaim limit) = Optimize reclaim limit
-work_view (works.Edit edit name) = EditOf (edit_view edit.now) name.now
+work_view (works.Edit edit name) = EditOf (edit_view edit.now) (name_view name)
 work_view (works.Save path given) = Save path.now (given_view given)

@@ -3,6 +3,7 @@ ghost use Rattle.std.specs.Prelude.{◌≡◌, Err, IfErr, IfSome, IsTrue, OnOk}
 ghost use Rattle.edit_formats.specs.Edited.{HasChanged};
 ghost use Rattle.edit_formats.specs.Renamed.{IsRenameRefusal};
 ghost use Rattle.edit_formats.specs.Writes.{HasEdited};
+ghost use Rattle.file_formats.specs.FileNames.{name_view};
 ghost use Rattle.shop_jobs.specs.Job.{edit_view};
 ghost use Rattle.shop_changes.specs.EditOutcome.{IsEditOutcome};
 ghost use Rattle.shop_changes.specs.EditRules.{edit_rules};
@@ -14,6 +15,7 @@ use crate::outcome::Outcome;
 use a2_device::Device;
 use edit_formats::EditError;
 use file_edits::{delete, lock, rename, unlock};
+use file_formats::FileName;
 use save_formats::SavableFormat;
 use shop_jobs::Edit;
 use shop_replies::{Failure, Refusal, Reply};
@@ -43,26 +45,26 @@ fn edit_file<D: Device, F: SavableFormat>(
     device: &mut D,
     format: &F,
     edit: &Edit,
-    name: &[u8],
+    name: FileName<'_>,
 ) -> Result<(), EditError>
     requires fits { Fits (F.meaning format.now) (D.state device.old) }
 
-    ensures edited { HasEdited (AreWritesOf (edit_view edit.now) name.now (F.files format.now)
+    ensures edited { HasEdited (AreWritesOf (edit_view edit.now) (name_view name.entry) (F.files format.now)
         (edit_rules (F.edits format.now) (F.names format.now) (F.erasures format.now) (F.saves format.now))
         (F.meaning format.now) (D.state device.old).store) result (D.state device.old) (D.state device.new) }
     // those of a rename: a lock and a deletion have some of them
     ensures refusals { IfErr result IsRenameRefusal }
     ensures files { IsTrue (D.state device.old).honest → OnOk result (HasChanged (F.meaning format.now)
-        (edited_files (edit_view edit.now) name.now (F.files format.now)
+        (edited_files (edit_view edit.now) (name_view name.entry) (F.files format.now)
         (edit_rules (F.edits format.now) (F.names format.now) (F.erasures format.now) (F.saves format.now)))
         (D.state device.old).store (D.state device.new).store) }
     ensures stopped { IsTrue (D.state device.old).honest → result ≡ Err EditError.Device
-        → IsOldOrEdited (edit_view edit.now) name.now (F.files format.now)
+        → IsOldOrEdited (edit_view edit.now) (name_view name.entry) (F.files format.now)
         (edit_rules (F.edits format.now) (F.names format.now) (F.erasures format.now) (F.saves format.now))
         (F.meaning format.now) (D.state device.old).store (D.state device.new).store }
     ensures caused { IsTrue (D.state device.old).honest
         → IfErr result (λ error. IfSome (refusal_of_edit error) (λ refusal.
-        IsCause refusal (edit_view edit.now) name.now (F.files format.now)
+        IsCause refusal (edit_view edit.now) (name_view name.entry) (F.files format.now)
         (edit_rules (F.edits format.now) (F.names format.now) (F.erasures format.now) (F.saves format.now))
         (F.meaning format.now) (D.state device.old).store)) }
 {
@@ -80,10 +82,10 @@ pub fn edit_in_place<D: Device, F: SavableFormat>(
     device: &mut D,
     format: &F,
     edit: &Edit,
-    name: &[u8],
+    name: FileName<'_>,
 ) -> Outcome
     requires fits { Fits (F.meaning format.now) (D.state device.old) }
-    ensures { IsEditOutcome (edit_view edit.now) name.now (F.files format.now)
+    ensures { IsEditOutcome (edit_view edit.now) (name_view name.entry) (F.files format.now)
         (edit_rules (F.edits format.now) (F.names format.now) (F.erasures format.now) (F.saves format.now))
         (F.meaning format.now) (D.state device.old) (D.state device.new) result }
 {

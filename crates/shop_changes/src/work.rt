@@ -1,4 +1,5 @@
 // Work that changes a volume, with the bytes of its files read.
+use file_formats::FileName;
 use given_file::GivenFile;
 use shop_jobs::Edit;
 
@@ -13,7 +14,7 @@ pub enum Work<'a> {
     /// A file of it is changed.
     Edit {
         edit: &'a Edit,
-        name: &'a [u8],
+        name: FileName<'a>,
     },
     /// A new file is saved to it.
     Save {

@@ -24,6 +24,8 @@ use Rattle.shop_replies.specs.Disk.{most_bytes}
 use Rattle.shop_replies.specs.Reply.{HandsOut, Held, IsDelivered, IsMade, IsMadeReply, failed, held, refused, status_number, told_text}
 use Rattle.shop_replies.proofs.Fronts.{convert-whole}
 use Rattle.shop_replies.proofs.NotMade.{converted_image, refused_not_made}
+use Rattle.file_formats.specs.FileNames.{FileNameView}
+use Rattle.shop_reads.specs.FileNames.{named_by}
 use Rattle.shop_reads.specs.Look.{IsLookReply, shown_by}
 use Rattle.shop_reads.specs.VerifyReply.{most_certificate}
 use Rattle.shop_reads.proofs.Fronts.{look-take}
@@ -130,7 +132,7 @@ makes_image (LookAt volume reserve look) image more reply outside is made =
 makes_image (ChangeOf volume reserve change target) image more reply outside is made = outside
 
 -- an edit that makes an image answers with it, and hands it out with `OK`
-edit_makes_image : (volume : VolumeOptions) (reserve : Option (List ℕ)) (image : List ℕ) (edit : EditView) (name : List ℕ) (reply : Reply)
+edit_makes_image : (volume : VolumeOptions) (reserve : Option (List ℕ)) (image : List ℕ) (edit : EditView) (name : FileNameView) (reply : Reply)
     → IsWorkTold volume reserve image (works.EditOf edit name) reply → IsMade reply → IsMadeReply reply
 edit_makes_image volume reserve image edit name reply is made =
     volume_made volume reserve image (λ (reserved : List Bool). IsChangeReply (works.EditOf edit name) (changed_by volume reserved)) reply (IsMadeReply reply)
@@ -161,7 +163,7 @@ hands_for (ChangeOf volume reserve (Optimize reclaim stop_after cert) target) im
 hands_for (ChangeOf volume reserve (EditOf name edit) target) image more reply status old new (inl (refusal, told, refuses)) made out = absurd refuses
 hands_for (ChangeOf volume reserve (EditOf name edit) target) image more reply status old new (inr (work, asks, told)) made out =
     ok_handed reply status old new
-    (edit_makes_image volume reserve image edit name reply (subst (λ (w : WorkView). IsWorkTold volume reserve image w reply) asks told) made) out
+    (edit_makes_image volume reserve image edit (named_by name) reply (subst (λ (w : WorkView). IsWorkTold volume reserve image w reply) asks told) made) out
 hands_for (ChangeOf volume reserve (Save name attributes from) target) image more reply status old new (inl (refusal, told, refuses)) made out =
     absurd (refused_not_made refusal reply told made)
 hands_for (ChangeOf volume reserve (Save name attributes from) target) image more reply status old new (inr (work, (given, is, asks), told)) made out =

@@ -1,7 +1,7 @@
 -- What is told of a job that lists a DOS 3.3 disk, in the words of its format.
 use Rattle.std.proofs.Common.{◌≡◌, ◌⊎◌, ℕ, List, [], true, false, inl, inr, ⊎_elim}
 use Rattle.std.specs.Prelude.{Option, Some, None, IfSome}
-use Rattle.shop_jobs.specs.Job.{AskView, Catalog, ChangeOf, Check, Convert, Entries, Identify, LookAt, Plan, Read, Verify}
+use Rattle.shop_jobs.specs.Job.{AskView, Catalog, ChangeOf, Check, Convert, Entries, Identify, LookAt, Map, Plan, Read, Verify}
 use Rattle.shop_replies.specs.Reply.{Held}
 use Rattle.shop_image.proofs.DosListings.{dos_catalog_listed}
 use Rattle.shop_commands.specs.Answer.{IsAnswer, IsDosCatalogAnswer}
@@ -20,7 +20,8 @@ answer-dos (LookAt volume None Catalog) image extra status old new answer = λ d
       answer.2,
     )
 answer-dos (LookAt volume None (Entries options)) image extra status old new answer = tt
-answer-dos (LookAt volume None Check) image extra status old new answer = tt
+answer-dos (LookAt volume None (Check bodies)) image extra status old new answer = tt
+answer-dos (LookAt volume None Map) image extra status old new answer = tt
 answer-dos (LookAt volume None (Read name whole)) image extra status old new answer = tt
 answer-dos (LookAt volume None (Plan reclaim in_words)) image extra status old new answer = tt
 answer-dos (LookAt volume None (Verify from reclaim)) image extra status old new answer = tt

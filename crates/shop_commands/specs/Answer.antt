@@ -26,6 +26,7 @@ use Rattle.shop_replies.specs.declared.reply.Reply.{Reply}
 use Rattle.shop_replies.specs.ConvertReply.{IsConvertReply}
 use Rattle.shop_replies.specs.Reading.{IsReadFailure}
 use Rattle.shop_replies.specs.Reply.{HandsImage, Held, IsDelivered, IsWritten, failed, failure_line, refused}
+use Rattle.shop_reads.specs.FileNames.{named_by}
 use Rattle.shop_reads.specs.Look.{IsLookReply, shown_by}
 use Rattle.shop_changes.specs.EditRules.{changed_by}
 use Rattle.shop_changes.specs.Work.{WorkView}
@@ -76,7 +77,7 @@ RefusesAttributes file_system words refusal = ⊥
 -- the work that a change asks of its volume, with the bytes of a file beside the image
 abbrev pub AsksFor : VolumeOptions → ChangeView → List ℕ → WorkView → Type 0
 AsksFor volume (Optimize reclaim stop_after cert) bytes work = work ≡ works.Optimize reclaim (limit_of stop_after)
-AsksFor volume (EditOf name edit) bytes work = work ≡ works.EditOf edit name
+AsksFor volume (EditOf name edit) bytes work = work ≡ works.EditOf edit (named_by name)
 AsksFor volume (Save name attributes from) bytes work =
     (given : GivenView) × IsGiven volume.file_system attributes bytes given × (work ≡ works.Save name given)
 

@@ -8,7 +8,8 @@ use Rattle.shop_replies.specs.declared.refusal.Refusal.{Refusal}
 use Rattle.shop_replies.specs.declared.reply.Reply.{Reply}
 use Rattle.shop_replies.specs.Reply.{refused}
 use Rattle.shop_replies.specs.Volume.{HasUnitsOf}
-use Rattle.shop_reads.specs.Look.{HasNotFailed, IsLookReply, ReadsFor, shown_by}
+use Rattle.shop_reads.specs.GoingOn.{HasNotFailed, ReadsFor}
+use Rattle.shop_reads.specs.Look.{IsLookReply, shown_by}
 use Rattle.shop_reads.specs.Reserving.{IsDeviceReply}
 use Rattle.shop_changes.specs.Changing.{IsChangeOutcome, IsWorkOutcome}
 use Rattle.shop_changes.specs.EditRules.{changed_by}

@@ -17,6 +17,7 @@ use given_file::{GivenFile, Head, dos_head, dos_kind, pro_kind};
 use pro_dates::date;
 use shop_changes::Work;
 use shop_jobs::{Change, FileSystem, SaveAttributes, VolumeOptions};
+use shop_reads::file_name;
 use shop_replies::Refusal;
 
 // After how many writes to stop.
@@ -97,7 +98,7 @@ pub fn change_work<'a>(
         }),
         Change::Edit { name, edit } => Ok(Work::Edit {
             edit,
-            name: name.as_bytes(),
+            name: file_name(name),
         }),
         Change::Save {
             name,

@@ -3,6 +3,7 @@ use Rattle.std.proofs.Common.{◌≡◌, ◌∙◌, ℕ, ◌+◌, List, [], ◌�
 use Rattle.std.specs.Prelude.{◌⊎◌, ◌<◌, true, IfErr, IfSome, OnOk, Result, Err, Ok, take, slice_index_or}
 use Rattle.a2_device.specs.Device.{DeviceState, FailsWrite, OnlyReads, UsesWrite, last_count, one_fewer, written}
 use Rattle.vol_format.specs.Meaning.{Meaning}
+use Rattle.file_formats.specs.FileNames.{FileNameView}
 use Rattle.file_formats.specs.Files.{FileMeaning}
 use Rattle.edit_formats.specs.Edited.{HasChanged}
 use Rattle.edit_formats.specs.Renamed.{IsRenameRefusal}
@@ -29,7 +30,7 @@ use Rattle.shop_image.proofs.Fresh.{IsFresh}
 use Rattle.shop_image.proofs.Optimized.{keeps_bytes}
 
 -- an edit has fewer writes than a device can count
-few_writes : (edit : EditView) (name : List ℕ) (files : FileMeaning) (rules : EditRules) (format : Meaning) (store : List (List ℕ)) (writes : List Write)
+few_writes : (edit : EditView) (name : FileNameView) (files : FileMeaning) (rules : EditRules) (format : Meaning) (store : List (List ℕ)) (writes : List Write)
     → AreWritesOf edit name files rules format store writes → length writes < last_count + 1
 few_writes Lock name files rules format store writes is = let one = ap (λ (w : List Write). length w) is.are in omega (arith, one)
 few_writes Unlock name files rules format store writes is = let one = ap (λ (w : List Write). length w) is.are in omega (arith, one)
@@ -82,7 +83,7 @@ module _ (old new : DeviceState) (fresh : IsFresh old) where
       write_refused (slice_index_or list stops.made no_write) (0 + length front) (device_after front old)
       (all_written front 0 old (record { unreadable = refl; failures = fresh.writes; unbounded = fresh.passes; counted = fresh.room })) (omega (arith, long, below, few)) stops.refused
 
-  module _ (edit : EditView) (name : List ℕ) (files : FileMeaning) (rules : EditRules) (format : Meaning) where
+  module _ (edit : EditView) (name : FileNameView) (files : FileMeaning) (rules : EditRules) (format : Meaning) where
     -- what is told of an error, but for a failure, has its cause
     abbrev pub HasCause : EditError → Type 0
     HasCause error = IfSome (refusal_of_edit error) (λ (refusal : Refusal). IsCause refusal edit name files rules format old.store)

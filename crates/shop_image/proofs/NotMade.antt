@@ -3,6 +3,7 @@ use Rattle.std.proofs.Common.{ℕ, Bool, List, inl, inr}
 use Rattle.std.specs.Prelude.{Option}
 use Rattle.a2_device.specs.Device.{DeviceState}
 use Rattle.vol_format.specs.Meaning.{Meaning}
+use Rattle.file_formats.specs.FileNames.{FileNameView}
 use Rattle.file_formats.specs.Files.{FileMeaning}
 use Rattle.save_formats.specs.Saves.{SaveMeaning}
 use Rattle.given_file.specs.Content.{GivenView}
@@ -41,7 +42,7 @@ volume_made volume reserve image Tells reply P told is made = elim is [
 ]
 
 -- an edit that makes an image answers with it
-pub edited_image : (edit : EditView) (name : List ℕ) (files : FileMeaning) (edits : EditRules) (format : Meaning) (device : DeviceState) (reply : Reply)
+pub edited_image : (edit : EditView) (name : FileNameView) (files : FileMeaning) (edits : EditRules) (format : Meaning) (device : DeviceState) (reply : Reply)
     → IsEdited edit name files edits format device reply → IsMade reply → IsMadeReply reply
 edited_image edit name files edits format device reply is made = elim is [
   | inl done ↦ done.image

@@ -7,7 +7,7 @@ use Rattle.shop_replies.specs.declared.refusal.Failure.TheVariants as failures
 use Rattle.shop_replies.specs.declared.reply.Reply.{Reply}
 use Rattle.shop_replies.specs.Reply.{failed}
 use Rattle.shop_jobs.specs.Job.{LookView}
-use Rattle.shop_reads.specs.Look.{FailsForLackIn, ReadsFor}
+use Rattle.shop_reads.specs.GoingOn.{FailsForLackIn, ReadsFor, going_of}
 use Rattle.shop_changes.specs.Changing.{IsWorkOutcome, LacksMemory}
 use Rattle.shop_changes.specs.EditRules.{ChangedMeaning, changed_by}
 use Rattle.shop_changes.specs.Work.{WorkView, Optimize, EditOf, Save}
@@ -35,7 +35,7 @@ module _ (volume : VolumeOptions) (reserve : Option (List ℕ)) (image : List �
   pub looked : (look : LookView) (Tells : List Bool → DeviceState → Reply → Type 0) (new : DeviceState) → ReadsFor look reply device new
       → (IsTrue device.honest → FailsForLackIn look reply device new → (reply ≡ failed failures.Memory) ⊎ Tells reserved device reply)
       → IsVolumeReply volume reserve image Tells reply
-  looked look Tells new reads told = elim (told fresh.honest (failed_for_lack device new reply fresh look reads)) [
+  looked look Tells new reads told = elim (told fresh.honest (failed_for_lack device new reply fresh (going_of look) reads)) [
     | inl memory ↦ lacks_memory Tells memory
     | inr tells ↦ tells_of_image Tells tells
   ]

@@ -3,8 +3,8 @@ use Rattle.std.specs.Prelude.{◌≡◌, ◌⊎◌, List}
 use Rattle.a2_device.specs.Device.{DeviceState}
 use Rattle.vol_format.specs.Meaning.{Meaning}
 use Rattle.vol_laws.specs.Writes.{Write}
+use Rattle.file_formats.specs.FileNames.{FileNameView}
 use Rattle.file_formats.specs.Files.{FileMeaning}
-use Rattle.file_listings.specs.DosText.{Text}
 use Rattle.edit_formats.specs.Edited.{HasChanged}
 use Rattle.edit_formats.specs.Writes.{device_after}
 use Rattle.shop_jobs.specs.Job.{EditView}
@@ -19,7 +19,7 @@ use Rattle.shop_image.specs.ImageBytes.{AreBytesOf, KeepsBytes}
 
 -- The edit is done: all its writes stand on the device and nothing else has changed, the files are those of before after
 -- the edit of their list, and the reply has the image under the device.
-pub record IsEditedReply (edit : EditView) (name : Text) (files : FileMeaning) (rules : EditRules) (format : Meaning) (device : DeviceState) (reply : Reply) : Type 0 where
+pub record IsEditedReply (edit : EditView) (name : FileNameView) (files : FileMeaning) (rules : EditRules) (format : Meaning) (device : DeviceState) (reply : Reply) : Type 0 where
   pub writes : List Write
   pub are_writes : AreWritesOf edit name files rules format device.store writes
   pub changed : HasChanged format (edited_files edit name files rules) device.store (device_after writes device).store
@@ -29,7 +29,7 @@ pub record IsEditedReply (edit : EditView) (name : Text) (files : FileMeaning) (
 
 -- The reply to an edit: the image with the volume after it; a refusal with its cause; a failure where a unit can't be read
 -- or written; or want of memory.
-abbrev pub IsEdited : EditView → Text → FileMeaning → EditRules → Meaning → DeviceState → Reply → Type 0
+abbrev pub IsEdited : EditView → FileNameView → FileMeaning → EditRules → Meaning → DeviceState → Reply → Type 0
 IsEdited edit name files rules format device reply =
     IsEditedReply edit name files rules format device reply
     ⊎ ((refusal : Refusal) × (reply ≡ refused refusal) × IsCause refusal edit name files rules format device.store)

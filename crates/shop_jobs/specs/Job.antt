@@ -3,6 +3,8 @@ use Rattle.std.specs.Prelude.{ℕ, Bool, List, Option, string_bytes, option_map}
 use Rattle.a2_device.specs.declared.order.Order.{Order}
 use Rattle.shop_jobs.specs.declared.job.VolumeOptions.{VolumeOptions}
 use Rattle.shop_jobs.specs.declared.job.ListOptions.{ListOptions}
+use Rattle.shop_jobs.specs.declared.job.FileName.{FileName}
+use Rattle.shop_jobs.specs.declared.job.FileName.TheVariants as names
 use Rattle.shop_jobs.specs.declared.job.Edit.{Edit}
 use Rattle.shop_jobs.specs.declared.job.Edit.TheVariants as edits
 use Rattle.shop_jobs.specs.declared.job.SaveAttributes.{SaveAttributes}
@@ -28,6 +30,15 @@ abbrev pub target_view : Target → TargetView
 target_view (targets.File path) = ToFile (string_bytes path)
 target_view targets.InPlace = InPlace
 
+-- how a file of a volume is named: by its path, or by the bytes of the path that is stored
+pub data FileNameView : Type 0 where
+  ByPath : Text → FileNameView
+  ByStored : List ℕ → FileNameView
+
+abbrev pub file_name_view : FileName → FileNameView
+file_name_view (names.Path path) = ByPath (string_bytes path)
+file_name_view (names.Stored bytes) = ByStored bytes.items
+
 -- what is changed of a file
 pub data EditView : Type 0 where
   Lock : EditView
@@ -50,21 +61,24 @@ pub record AttributesView : Type 0 where
 abbrev pub attributes_view : SaveAttributes → AttributesView
 attributes_view a = record { kind = option_map string_bytes a.kind; aux = a.aux; date = option_map string_bytes a.date }
 
--- what is asked of a volume that is only read: of its entries how they are told; of a file its name, and whether it is read whole; of a plan whether it
--- reclaims, and whether it is told in words; of a certificate the path of its file, and whether it reclaims
+-- what is asked of a volume that is only read: of its entries how they are told; of a check whether the units of bodies
+-- are read too; of a file its name, and whether it is read whole; of a plan whether it reclaims, and whether it is told in
+-- words; of a certificate the path of its file, and whether it reclaims
 pub data LookView : Type 0 where
   Catalog : LookView
   Entries : ListOptions → LookView
-  Check : LookView
-  Read : Text → Bool → LookView
+  Check : Bool → LookView
+  Map : LookView
+  Read : FileNameView → Bool → LookView
   Plan : Bool → Bool → LookView
   Verify : Text → Bool → LookView
 
 abbrev pub look_view : Look → LookView
 look_view looks.Catalog = Catalog
 look_view (looks.Entries options) = Entries options
-look_view looks.Check = Check
-look_view (looks.Read name whole) = Read (string_bytes name) whole
+look_view (looks.Check bodies) = Check bodies
+look_view looks.Map = Map
+look_view (looks.Read name whole) = Read (file_name_view name) whole
 look_view (looks.Plan reclaim in_words) = Plan reclaim in_words
 look_view (looks.Verify from reclaim) = Verify (string_bytes from) reclaim
 
@@ -73,12 +87,12 @@ look_view (looks.Verify from reclaim) = Verify (string_bytes from) reclaim
 -- path of the file whose bytes are saved
 pub data ChangeView : Type 0 where
   Optimize : Bool → Option ℕ → Option Text → ChangeView
-  EditOf : Text → EditView → ChangeView
+  EditOf : FileNameView → EditView → ChangeView
   Save : Text → AttributesView → Text → ChangeView
 
 abbrev pub change_view : Change → ChangeView
 change_view (changes.Optimize reclaim stop_after cert) = Optimize reclaim stop_after (option_map string_bytes cert)
-change_view (changes.Edit name edit) = EditOf (string_bytes name) (edit_view edit)
+change_view (changes.Edit name edit) = EditOf (file_name_view name) (edit_view edit)
 change_view (changes.Save name attributes from) = Save (string_bytes name) (attributes_view attributes) (string_bytes from)
 
 -- a conversion

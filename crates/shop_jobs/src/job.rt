@@ -19,6 +19,15 @@ pub struct VolumeOptions {
     pub data_disk: bool,
 }
 
+/// How the words name a file of a volume.
+#[derive(Debug, PartialEq, Eq, Drop)]
+pub enum FileName {
+    /// By its path.
+    Path(String),
+    /// By the bytes of the path that is stored.
+    Stored(Vec<u8>),
+}
+
 /// What is changed of a file.
 #[derive(Debug, PartialEq, Eq, Drop)]
 pub enum Edit {
@@ -81,11 +90,16 @@ pub enum Look {
     /// Its entries, as data.
     Entries(ListOptions),
     /// Whether it is accepted, or what is wrong with it.
-    Check,
+    Check {
+        /// Whether the units of the files' bodies are read too.
+        bodies: bool,
+    },
+    /// Where the parts of its files stand, as a picture.
+    Map,
     /// The contents of a file.
     Read {
         /// The name of the file in the volume.
-        name: String,
+        name: FileName,
         /// Whether all bytes of the file's units are wanted, and not its body alone.
         whole: bool,
     },
@@ -120,7 +134,7 @@ pub enum Change {
     /// A file of it is changed.
     Edit {
         /// The name of the file in the volume.
-        name: String,
+        name: FileName,
         edit: Edit,
     },
     /// A new file is saved to it.

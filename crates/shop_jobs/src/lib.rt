@@ -9,8 +9,8 @@ mod job;
 mod paths;
 
 pub use job::{
-    Ask, Change, Edit, FileSystem, Job, ListForm, ListOptions, Look, SaveAttributes, Target,
-    VolumeOptions,
+    Ask, Change, Edit, FileName, FileSystem, Job, ListForm, ListOptions, Look, SaveAttributes,
+    Target, VolumeOptions,
 };
 pub use paths::{
     certificate_path, from_path, image_order, is_in_place, is_on_standard_input, out_path,

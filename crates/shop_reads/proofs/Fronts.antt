@@ -2,7 +2,7 @@
 use Rattle.std.proofs.Common.{◌≡◌, ◌∙◌, ℕ, ◌+◌, Bool, true, false, List, length, take, take_all, length-take, arith, ap, subst, inl, inr}
 use Rattle.a2_device.specs.Device.{DeviceState}
 use Rattle.vol_format.specs.Meaning.{Meaning}
-use Rattle.shop_jobs.specs.Job.{LookView, Catalog, Entries, Check, Read, Plan, Verify}
+use Rattle.shop_jobs.specs.Job.{LookView, Catalog, Entries, Check, Map, Read, Plan, Verify}
 use Rattle.shop_replies.specs.declared.reply.Reply.{Reply}
 use Rattle.shop_reads.specs.Look.{IsLookReply, ShownMeaning}
 use Rattle.shop_reads.specs.VerifyReply.{IsVerified, most_certificate}
@@ -20,7 +20,9 @@ pub look-take : (look : LookView) (front bytes : List ℕ) (format : ShownMeanin
     → IsLookReply look front format device reply → IsLookReply look bytes format device reply
 look-take Catalog front bytes format device reply taken is = is
 look-take (Entries options) front bytes format device reply taken is = is
-look-take Check front bytes format device reply taken is = is
+look-take (Check false) front bytes format device reply taken is = is
+look-take (Check true) front bytes format device reply taken is = is
+look-take Map front bytes format device reply taken is = is
 look-take (Read name whole) front bytes format device reply taken is = is
 look-take (Plan reclaim false) front bytes format device reply taken is = is
 look-take (Plan reclaim true) front bytes format device reply taken is = is

@@ -6,3 +6,9 @@ mod Quiet
 pub mod NotMade
 pub mod Fronts
 mod FirstFiles
+mod ListGoing
+mod Unread
+mod Pictures
+mod PlaceTables
+mod WorkedMap
+mod OneMap

@@ -1,13 +1,18 @@
 -- No look makes an image.
-use Rattle.std.proofs.Common.{ℕ, Bool, true, false, List, inl, inr}
+use Rattle.std.proofs.Common.{ℕ, Bool, true, false, List, [], ◌∷◌, inl, inr}
 use Rattle.a2_device.specs.Device.{DeviceState}
+use Rattle.a2_device.specs.declared.part.Part.{Part}
 use Rattle.reserved_places.specs.declared.form.PlaceForm.{PlaceForm}
+use Rattle.vol_check.specs.Told.{Told}
+use Rattle.vol_format.specs.Directory.{Directory}
 use Rattle.vol_format.specs.Meaning.{Meaning}
 use Rattle.vol_layout.specs.Layouts.{Placement}
 use Rattle.vol_mover.specs.declared.error.OpenError.{OpenError}
 use Rattle.vol_mover.specs.declared.error.OpenError.TheVariants as opens
+use Rattle.file_formats.specs.FileNames.{FileNameView}
+use Rattle.shop_reads.specs.FileNames.{named_by}
 use Rattle.file_formats.specs.Files.{FileMeaning}
-use Rattle.shop_jobs.specs.Job.{LookView, Catalog, Entries, Check, Read, Plan, Verify}
+use Rattle.shop_jobs.specs.Job.{LookView, Catalog, Entries, Check, Map, Read, Plan, Verify}
 use Rattle.shop_replies.specs.declared.refusal.Refusal.TheVariants as refusals
 use Rattle.shop_replies.specs.declared.refusal.Failure.TheVariants as failures
 use Rattle.shop_replies.specs.declared.reply.Reply.{Reply}
@@ -15,10 +20,12 @@ use Rattle.shop_replies.specs.declared.reply.Status.TheVariants.{Done, Refused, 
 use Rattle.shop_replies.specs.Reply.{IsMade}
 use Rattle.shop_replies.proofs.NotMade.{failed_not_made, refused_not_made, told_not_made}
 use Rattle.shop_jobs.specs.declared.job.ListOptions.{ListOptions}
+use Rattle.shop_reads.specs.BodiesReply.{IsCheckedWhole, TellsBodies, unread_parts}
 use Rattle.shop_reads.specs.CatalogReply.{IsListed}
 use Rattle.shop_reads.specs.EntriesReply.{IsEntriesTold, list_status}
 use Rattle.shop_reads.specs.CheckReply.{IsChecked}
 use Rattle.shop_reads.specs.Look.{IsLookReply, ShownMeaning}
+use Rattle.shop_reads.specs.MapReply.{IsMapped}
 use Rattle.shop_reads.specs.PlanReply.{IsPlanned, TellsOpening}
 use Rattle.shop_reads.specs.PlanWords.{IsPlannedInWords}
 use Rattle.shop_reads.specs.ReadReply.{IsRead}
@@ -28,6 +35,35 @@ checked_not_made : (form : PlaceForm) (format : Meaning) (device : DeviceState) 
 checked_not_made form format device reply is made = elim is [
   | inl done ↦ told_not_made Done reply done.0 made
   | inr (inl faulty) ↦ told_not_made Wrong reply faulty.0 made
+  | inr (inr (inl failed)) ↦ failed_not_made failures.Device reply failed.0 made
+  | inr (inr (inr failed)) ↦ failed_not_made failures.Memory reply failed made
+]
+
+tells_bodies_not_made : (form : PlaceForm) (files : FileMeaning) (directory : Directory) (told : Told) (parts : List Part) (reply : Reply)
+    → TellsBodies form files directory told parts reply → ¬ IsMade reply
+tells_bodies_not_made form files directory told [] reply is made = elim is [
+  | inl done ↦ told_not_made Done reply done.0 made
+  | inr failed ↦ failed_not_made failures.Memory reply failed made
+]
+tells_bodies_not_made form files directory told (part ∷ parts) reply is made = elim is [
+  | inl unread ↦ told_not_made Wrong reply unread.0 made
+  | inr failed ↦ failed_not_made failures.Memory reply failed made
+]
+
+bodies_not_made : (form : PlaceForm) (files : FileMeaning) (format : Meaning) (device : DeviceState) (reply : Reply)
+    → IsCheckedWhole form files format device reply → ¬ IsMade reply
+bodies_not_made form files format device reply is made = elim is [
+  | inl told ↦ tells_bodies_not_made form files told.directory told.told (unread_parts device.unreadable told.told.parts) reply told.is made
+  | inr (inl faulty) ↦ told_not_made Wrong reply faulty.0 made
+  | inr (inr (inl failed)) ↦ failed_not_made failures.Device reply failed.0 made
+  | inr (inr (inr failed)) ↦ failed_not_made failures.Memory reply failed made
+]
+
+mapped_not_made : (form : PlaceForm) (format unreserved : Meaning) (device : DeviceState) (reply : Reply) → IsMapped form format unreserved device reply
+    → ¬ IsMade reply
+mapped_not_made form format unreserved device reply is made = elim is [
+  | inl done ↦ told_not_made Done reply done.0 made
+  | inr (inl refused) ↦ refused_not_made refusals.Check reply refused.0 made
   | inr (inr (inl failed)) ↦ failed_not_made failures.Device reply failed.0 made
   | inr (inr (inr failed)) ↦ failed_not_made failures.Memory reply failed made
 ]
@@ -105,7 +141,7 @@ entries_not_made options form files format device reply is made = elim is [
   | inr (inr (inr (inr failed))) ↦ failed_not_made failures.Memory reply failed made
 ]
 
-read_not_made : (name : List ℕ) (whole : Bool) (files : FileMeaning) (format : Meaning) (device : DeviceState) (reply : Reply) → IsRead name whole files format device reply → ¬ IsMade reply
+read_not_made : (name : FileNameView) (whole : Bool) (files : FileMeaning) (format : Meaning) (device : DeviceState) (reply : Reply) → IsRead name whole files format device reply → ¬ IsMade reply
 read_not_made name whole files format device reply is made = elim is [
   | inl content ↦ told_not_made Done reply content.0 made
   | inr (inl refused) ↦ refused_not_made refusals.Check reply refused.0 made
@@ -117,8 +153,10 @@ read_not_made name whole files format device reply is made = elim is [
 pub look_not_made : (look : LookView) (bytes : List ℕ) (format : ShownMeaning) (device : DeviceState) (reply : Reply) → IsLookReply look bytes format device reply → ¬ IsMade reply
 look_not_made Catalog bytes format device reply is = listed_not_made format.form format.units device reply is
 look_not_made (Entries options) bytes format device reply is = entries_not_made options format.form format.files format.units device reply is
-look_not_made Check bytes format device reply is = checked_not_made format.form format.units device reply is
-look_not_made (Read name whole) bytes format device reply is = read_not_made name whole format.files format.units device reply is
+look_not_made (Check false) bytes format device reply is = checked_not_made format.form format.units device reply is
+look_not_made (Check true) bytes format device reply is = bodies_not_made format.form format.files format.units device reply is
+look_not_made Map bytes format device reply is = mapped_not_made format.form format.units format.unreserved device reply is
+look_not_made (Read name whole) bytes format device reply is = read_not_made (named_by name) whole format.files format.units device reply is
 look_not_made (Plan reclaim false) bytes format device reply is = planned_not_made reclaim format.units device reply is
 look_not_made (Plan reclaim true) bytes format device reply is = planned_in_words_not_made format.form format.files reclaim format.units device reply is
 look_not_made (Verify from reclaim) bytes format device reply is = verified_not_made reclaim bytes format.units device reply is

@@ -3,6 +3,7 @@ use Rattle.std.proofs.Common.{◌≡◌, ◌∙◌, refl, sym, ap, subst, inl, i
 use Rattle.std.specs.Prelude.{◌⊎◌, Bool, true, false, Err}
 use Rattle.a2_device.specs.Device.{DeviceState, OnlyReads}
 use Rattle.reserved_places.specs.declared.form.PlaceForm.{PlaceForm}
+use Rattle.file_cmds.specs.lemmas.Reading.{one_failed, one_reading}
 use Rattle.vol_check.specs.Answer.{is_device_error as check_failed}
 use Rattle.vol_check.specs.declared.error.CheckError.{CheckError}
 use Rattle.vol_check.specs.declared.error.CheckError.TheVariants as checks
@@ -17,6 +18,7 @@ use Rattle.shop_replies.specs.declared.reply.Told.{Told}
 use Rattle.shop_replies.specs.Reply.{IsTold, failed}
 use Rattle.shop_reads.specs.CheckReply.{TellsRefusal}
 use Rattle.shop_reads.specs.EntriesReply.{list_status}
+use Rattle.shop_reads.specs.GoingOn.{ReadsAll}
 use Rattle.shop_reads.specs.PlanReply.{TellsOpening}
 use Rattle.shop_reads.specs.TellingFailures.{fails_device, tells_device}
 
@@ -32,7 +34,7 @@ text_quiet reply is = elim is [
 ]
 
 -- and that of a list
-list_quiet : {P : Type 0} (complete : Bool) (reply : Reply) → (IsTold (list_status complete) reply × P) ⊎ (reply ≡ failed failures.Memory) → tells_device reply ≡ false
+pub list_quiet : {P : Type 0} (complete : Bool) (reply : Reply) → (IsTold (list_status complete) reply × P) ⊎ (reply ≡ failed failures.Memory) → tells_device reply ≡ false
 list_quiet complete reply is = elim is [
   | inl told ↦ told_quiet (list_status complete) reply (never complete) told.0
   | inr failed ↦ ap tells_device failed
@@ -75,6 +77,16 @@ module _ (reply : Reply) (old new : DeviceState) where
   pub check_reads : {A : Type 0} (form : PlaceForm) (error : CheckError A) → TellsRefusal form error reply → OnlyReads (check_failed {T = Bool} (Err error)) old new
       → OnlyReads (tells_device reply) old new
   check_reads form error is reads = subst (λ (met : Bool). OnlyReads met old new) (sym (check_told form error reply is)) reads
+
+  -- and where it would have gone on
+  pub check_goes_on : {A : Type 0} (form : PlaceForm) (error : CheckError A) → TellsRefusal form error reply → OnlyReads (check_failed {T = Bool} (Err error)) old new
+      → ReadsAll reply old new
+  check_goes_on form error is reads =
+      let read = check_reads form error is reads in
+      record {
+        reads = one_reading old new (tells_device reply) read;
+        told = λ tells honest. one_failed old new honest (subst (λ (met : Bool). OnlyReads met old new) tells read);
+      }
 
   pub opening_reads : {A : Type 0} (error : OpenError A) → TellsOpening error reply → OnlyReads (opening_failed {T = Bool} (Err error)) old new
       → OnlyReads (tells_device reply) old new

@@ -4,14 +4,14 @@ use Rattle.std.specs.Prelude.{Bool, true, Err, IsTrue}
 use Rattle.a2_device.specs.Device.{DeviceState, OnlyReads}
 use Rattle.reserved_places.specs.declared.form.PlaceForm.{PlaceForm}
 use Rattle.vol_format.specs.Meaning.{Meaning}
+use Rattle.file_formats.specs.FileNames.{FileNameView}
 use Rattle.file_formats.specs.Files.{FileMeaning}
 use Rattle.file_formats.specs.Listing.{HasHeaderFault}
 use Rattle.file_cmds.specs.ReadingOn.{FailedBetween}
 use Rattle.file_cmds.specs.Refusal.{told_device}
 use Rattle.file_cmds.specs.lemmas.Reading.{one_failed}
-use Rattle.shop_jobs.specs.Job.{LookView, Catalog, Entries, Check, Read, Plan, Verify}
 use Rattle.shop_replies.specs.declared.reply.Reply.{Reply}
-use Rattle.shop_reads.specs.Look.{FailsForLackIn, HasNotFailed}
+use Rattle.shop_reads.specs.GoingOn.{Going, Ends, TellsFile, TellsUnit, FailsForLackBy, HasNotFailedBy}
 use Rattle.file_cmds.specs.Read.{HasNoFile, IsUnreadable}
 use Rattle.file_cmds.specs.declared.error.CmdError.{CmdError}
 use Rattle.file_cmds.specs.declared.error.CmdError.TheVariants as commands
@@ -38,7 +38,7 @@ module _ (files : FileMeaning) (format : Meaning) (device : DeviceState) where
   not_told options form commands.Device found fault lack = inr (inr (inr (inl (refl, lack refl))))
   not_told options form commands.Memory found fault lack = inr (inr (inr (inr refl)))
 
-  pub not_read : (name : List ℕ) (whole : Bool) (error : CmdError) → (error ≡ commands.Check → IsUnreadable format files device.store name)
+  pub not_read : (name : FileNameView) (whole : Bool) (error : CmdError) → (error ≡ commands.Check → IsUnreadable format files device.store name)
       → (error ≡ commands.NotFound → HasNoFile format files device.store name) → FailsForLack device (reply_to_refusal error)
       → IsRead name whole files format device (reply_to_refusal error)
   not_read name whole commands.Check broken missing lack = inr (inl (refl, broken refl))
@@ -54,10 +54,7 @@ refusal_failed T old new commands.NotFound honest reads tells = cc
 refusal_failed T old new commands.Device honest reads tells = one_failed old new honest reads
 refusal_failed T old new commands.Memory honest reads tells = cc
 
-pub not_failed : (look : LookView) (reply : Reply) (old new : DeviceState) → HasNotFailed look reply old new → FailsForLackIn look reply old new
-not_failed (Entries options) reply old new works = works
-not_failed Catalog reply old new works = λ is. absurd (works is)
-not_failed Check reply old new works = λ is. absurd (works is)
-not_failed (Read name whole) reply old new works = λ is. absurd (works is)
-not_failed (Plan reclaim in_words) reply old new works = λ is. absurd (works is)
-not_failed (Verify from reclaim) reply old new works = λ is. absurd (works is)
+pub not_failed : (going : Going) (reply : Reply) (old new : DeviceState) → HasNotFailedBy going reply old new → FailsForLackBy going reply old new
+not_failed Ends reply old new works = λ is. absurd (works is)
+not_failed TellsFile reply old new works = works
+not_failed TellsUnit reply old new works = works

@@ -50,10 +50,14 @@ TellsRefusal form (checks.Faults faults) reply = TellsFaults form faults reply
 TellsRefusal form checks.Device reply = reply ≡ failed failures.Device
 TellsRefusal form checks.Memory reply = reply ≡ failed failures.Memory
 
--- The reply to a check: what is told of an accepted volume, or a line for each fault; a failure where a unit can't be read; or want of memory.
-abbrev pub IsChecked : PlaceForm → Meaning → DeviceState → Reply → Type 0
-IsChecked form format device reply =
-    (IsTold Done reply × IsAcceptedText format device.store (text_of reply))
-    ⊎ (IsTold Wrong reply × IsFaultsText form format device.store (text_of reply))
+-- The reply to a check that accepts nothing: a line for each fault; a failure where a unit can't be read; or want of memory.
+abbrev pub IsUnaccepted : PlaceForm → Meaning → DeviceState → Reply → Type 0
+IsUnaccepted form format device reply =
+    (IsTold Wrong reply × IsFaultsText form format device.store (text_of reply))
     ⊎ ((reply ≡ failed failures.Device) × LacksUnit device)
     ⊎ (reply ≡ failed failures.Memory)
+
+-- The reply to a check: what is told of an accepted volume, or why none is.
+abbrev pub IsChecked : PlaceForm → Meaning → DeviceState → Reply → Type 0
+IsChecked form format device reply =
+    (IsTold Done reply × IsAcceptedText format device.store (text_of reply)) ⊎ IsUnaccepted form format device reply

@@ -1,12 +1,9 @@
 // The job that tells the entries of a volume as data.
-ghost use Rattle.std.specs.Prelude.{◌≡◌, false, IsTrue};
-ghost use Rattle.a2_device.specs.Device.{OnlyReads};
-ghost use Rattle.file_cmds.specs.ReadingOn.{FailedBetween, ReadsOn};
+ghost use Rattle.std.specs.Prelude.{◌≡◌, IsTrue};
 ghost use Rattle.vol_format.specs.Fits.{Fits};
-ghost use Rattle.shop_replies.specs.Volume.{LacksUnit};
 ghost use Rattle.shop_reads.specs.CatalogReply.{TellsListing};
-ghost use Rattle.shop_reads.specs.EntriesReply.{IsEntriesTold, list_status, reads_files, style_of};
-ghost use Rattle.shop_reads.specs.TellingFailures.{tells_device};
+ghost use Rattle.shop_reads.specs.EntriesReply.{IsEntriesTold, list_status, style_of};
+ghost use Rattle.shop_reads.specs.GoingOn.{FailsForLackBy, ReadsBy, list_going};
 ghost use Rattle.file_listings.specs.declared.style.Style.TheVariants.{Entries};
 
 use crate::facts::{FactsError, Known, known_of};
@@ -70,13 +67,9 @@ pub fn entries_reply<D: Device, F: ShownFormat>(
     options: ListOptions,
 ) -> Reply
     requires fits { Fits (F.meaning format.now) (D.state device.old) }
-    ensures reads { ReadsOn (D.state device.old) (D.state device.new) }
-    ensures alone { reads_files options ≡ false
-        → OnlyReads (tells_device result) (D.state device.old) (D.state device.new) }
-    ensures failed { IsTrue (tells_device result) → IsTrue (D.state device.old).honest
-        → FailedBetween (D.state device.old) (D.state device.new) }
+    ensures reads { ReadsBy (list_going options) result (D.state device.old) (D.state device.new) }
     ensures told { IsTrue (D.state device.old).honest
-        → (FailedBetween (D.state device.old) (D.state device.new) → LacksUnit (D.state device.old))
+        → FailsForLackBy (list_going options) result (D.state device.old) (D.state device.new)
         → IsEntriesTold options (F.form format.now) (F.files format.now) (F.meaning format.now)
         (D.state device.old) result }
 {

@@ -20,6 +20,7 @@ ghost use Rattle.std.specs.Prelude.{
   Some,
 };
 ghost use Rattle.std.specs.declared.alloc.Global.{Global};
+ghost use Rattle.file_cmds.specs.EachFile.{AreFilesOf};
 ghost use Rattle.file_cmds.specs.ReadingOn.{FailedBetween, ReadsOn};
 ghost use Rattle.file_formats.specs.DosFiles.{number_at};
 ghost use Rattle.shop_reads.specs.declared.facts.FactsError.TheVariants.{Memory as NoMemory};
@@ -45,7 +46,7 @@ ghost use Rattle.shop_reads.specs.EntriesReply.{
 
 use crate::listing::ShownFormat;
 use a2_device::Device;
-use file_cmds::{FileText, file_text};
+use file_cmds::{FileText, VolumeFiles};
 use file_formats::{FileFormat, address_of};
 use file_listings::Facts;
 use reserved_places::PlaceForm;
@@ -218,12 +219,15 @@ fn entry_facts<D: Device, F: ShownFormat>(
     device: &mut D,
     format: &F,
     volume: &F::Volume,
+    files: &VolumeFiles,
     file: u32,
     options: ListOptions,
 ) -> Result<Facts, AllocError>
     requires fits { Fits (F.meaning format.now) (D.state device.old) }
     requires places { (F.directory format.now volume.now).places ≡ (D.state device.old).places }
     requires file { file < entries (F.directory format.now volume.now) }
+    requires opened { AreFilesOf (F.meaning format.now) (F.directory format.now volume.now)
+        (D.state device.old) files.now }
 
     ensures reads { ReadsOn (D.state device.old) (D.state device.new) }
     ensures facts { IsTrue (D.state device.old).honest → IfOk result (AreFacts
@@ -234,7 +238,7 @@ fn entry_facts<D: Device, F: ShownFormat>(
     if !wants.address && !wants.digest {
         return Ok(unread(options.digests));
     }
-    match file_text(alloc, device, format, volume, file)? {
+    match files.text(alloc, device, format, volume, file)? {
         FileText::Whole(text) => facts_by(format, volume, file, text, wants),
         FileText::Faulty | FileText::Failed => Ok(unread(options.digests)),
     }
@@ -292,13 +296,14 @@ fn read_known<D: Device, F: ShownFormat>(
         (volume_in (F.form format.now) (F.files format.now) (F.meaning format.now) (D.state device.old).store
         (F.directory format.now volume.now)) options (FailedBetween (D.state device.old) (D.state device.new)) }
 {
+    let files = VolumeFiles::open(alloc, device, format, volume)?;
     let mut known = Known {
-        facts: Vec::new(alloc),
+        facts: Vec::with_capacity(alloc, format.entries(volume) as usize)?,
         complete: true,
     };
     let mut left = options.most;
     for file in 0..format.entries(volume) {
-        let facts = entry_facts(alloc, device, format, volume, file, options)?;
+        let facts = entry_facts(alloc, device, format, volume, &files, file, options)?;
         let Some(rest) = left.checked_sub(bytes_of(facts.digest)) else {
             return Err(FactsError::TooLarge);
         };

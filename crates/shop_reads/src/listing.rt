@@ -52,15 +52,18 @@ fn dos_listing(
 }
 
 /// A format whose volumes are told of: what its places are called, and how the listing of a volume and a plan are told.
-pub trait ShownFormat: FileFormat {
-    ghost use Rattle.std.specs.Prelude.{◌≡◌, ◌<◌, All, IfOk};
+pub trait ShownFormat: FileFormat + Drop {
+    ghost use Rattle.std.specs.Prelude.{◌≡◌, ◌<◌, All, IfOk, IfNone, IfSome};
     ghost use Rattle.reserved_places.specs.declared.form.PlaceForm.{PlaceForm};
     ghost use Rattle.vol_format.specs.Directory.{entries};
     ghost use Rattle.shop_replies.specs.Reply.{told_text};
     ghost use Rattle.shop_reads.specs.CatalogReply.{text_by};
     ghost use Rattle.shop_reads.specs.PlanWords.{TellsSteps};
+    ghost use Rattle.shop_reads.specs.Unreserved.{IsUnreserved};
 
     ghost form: { Self → PlaceForm };
+
+    ghost unreserved: { Self → Self };
 
     /// What places are called.
     fn form(&self) -> PlaceForm
@@ -85,12 +88,28 @@ pub trait ShownFormat: FileFormat {
         requires { All (λ step. step.part.file < entries (Self.directory self.now volume)) steps.items }
         ensures { TellsSteps (form self.now) (Self.files self.now)
             (Self.directory self.now volume) steps.items result };
+
+    /// The same format where nothing is reserved; `None` where nothing is.
+    ///
+    /// # Errors
+    /// Want of memory alone.
+    fn unreserved(&self) -> Result<Option<Self>, AllocError>
+        ensures some { IfOk result (λ other. IfSome other (λ format. format ≡ unreserved self.now)) }
+        ensures none { IfOk result (λ other. IfNone other (self.now ≡ unreserved self.now)) };
+
+    ghost reserving: { (format : Self) → IsUnreserved (Self.meaning format) (Self.meaning (unreserved format)) };
 }
 
 impl ShownFormat for Dos33 {
+    ghost use Rattle.std.specs.Prelude.{[]};
     ghost use Rattle.reserved_places.specs.declared.form.PlaceForm.TheVariants.{Sector};
+    ghost use Rattle.shop_reads.specs.lemmas.Reserving.{dos_unreserved};
 
     ghost form = { λ f. Sector };
+
+    ghost unreserved = { λ f. record { data_disk = f.data_disk; reserved = [] } };
+
+    ghost reserving = { λ f. dos_unreserved f.data_disk f.reserved };
 
     fn form(&self) -> PlaceForm {
         PlaceForm::Sector
@@ -113,12 +132,22 @@ impl ShownFormat for Dos33 {
             Err(_) => Reply::failed(Failure::Memory),
         }
     }
+
+    fn unreserved(&self) -> Result<Option<Dos33>, AllocError> {
+        Dos33::unreserved(self)
+    }
 }
 
 impl ShownFormat for Prodos {
+    ghost use Rattle.std.specs.Prelude.{[]};
     ghost use Rattle.reserved_places.specs.declared.form.PlaceForm.TheVariants.{Block};
+    ghost use Rattle.shop_reads.specs.lemmas.Reserving.{pro_unreserved};
 
     ghost form = { λ f. Block };
+
+    ghost unreserved = { λ f. [] };
+
+    ghost reserving = { λ f. pro_unreserved f };
 
     fn form(&self) -> PlaceForm {
         PlaceForm::Block
@@ -140,6 +169,10 @@ impl ShownFormat for Prodos {
             Ok(lines) => Reply::plan(lines),
             Err(_) => Reply::failed(Failure::Memory),
         }
+    }
+
+    fn unreserved(&self) -> Result<Option<Prodos>, AllocError> {
+        Ok(Prodos::unreserved(self))
     }
 }
 

@@ -4,14 +4,18 @@ ghost use Rattle.shop_jobs.specs.Job.{look_view};
 ghost use Rattle.shop_jobs.specs.declared.job.FileSystem.TheVariants.{Dos as OfDos, Prodos as OfProdos};
 ghost use Rattle.shop_replies.specs.declared.refusal.Failure.TheVariants.{Device as OfDevice, Memory as OfMemory};
 ghost use Rattle.shop_replies.specs.Reply.{failed};
-ghost use Rattle.shop_replies.specs.Volume.{HasUnitsOf, meaning_of};
-ghost use Rattle.shop_reads.specs.Look.{FailsForLackIn, HasNotFailed, IsLookReply, ReadsFor, shown_by, shown_in};
+ghost use Rattle.shop_replies.specs.Volume.{HasUnitsOf};
+ghost use Rattle.shop_reads.specs.GoingOn.{FailsForLackIn, HasNotFailed, ReadsFor};
+ghost use Rattle.shop_reads.specs.Look.{IsLookReply, shown_by, shown_in};
 ghost use Rattle.shop_reads.specs.Reserving.{IsDeviceReply};
 ghost use Rattle.vol_format.specs.Fits.{Fits};
 
+use crate::bodies::bodies_reply;
 use crate::check::check_reply;
 use crate::entries::entries_reply;
 use crate::listing::{ShownFormat, listing_reply};
+use crate::map::map_reply;
+use crate::naming::file_name;
 use crate::plan::plan_reply;
 use crate::plan_words::plan_words_reply;
 use crate::reading::read_reply;
@@ -26,7 +30,8 @@ use shop_replies::{Failure, Reply, form_of};
 use std::alloc::Global;
 
 /// What is told of a look at the volume of a device, by its format, with the bytes of a file beside it. Each failure of
-/// the device is told, and nothing else is told as one; a list goes on behind a file that can't be read.
+/// the device is told, and nothing else is told as one; a list goes on behind a file that can't be read, and a check of
+/// bodies behind a unit.
 pub fn look_reply<D: Device, F: ShownFormat>(
     alloc: Global,
     look: &Look,
@@ -39,14 +44,21 @@ pub fn look_reply<D: Device, F: ShownFormat>(
     ensures told { IsTrue (D.state device.old).honest
         → FailsForLackIn (look_view look.now) result (D.state device.old) (D.state device.new)
         → IsLookReply (look_view look.now) extra.now
-        (record { form = F.form format.now; files = F.files format.now; units = F.meaning format.now })
+        (record {
+          form = F.form format.now;
+          files = F.files format.now;
+          units = F.meaning format.now;
+          unreserved = F.meaning (F.unreserved format.now);
+        })
         (D.state device.old) result }
 {
     match look {
         Look::Catalog => listing_reply(alloc, device, format),
         Look::Entries(options) => entries_reply(alloc, device, format, *options),
-        Look::Check => check_reply(alloc, device, format, format.form()),
-        Look::Read { name, whole } => read_reply(alloc, device, format, name.as_bytes(), *whole),
+        Look::Check { bodies: false } => check_reply(alloc, device, format, format.form()),
+        Look::Check { bodies: true } => bodies_reply(alloc, device, format),
+        Look::Map => map_reply(alloc, device, format),
+        Look::Read { name, whole } => read_reply(alloc, device, format, file_name(name), *whole),
         Look::Plan {
             reclaim,
             words: false,
@@ -73,7 +85,7 @@ fn look_at_dos<D: Device>(
     ensures told { IsTrue (D.state device.old).honest
         → FailsForLackIn (look_view look.now) result (D.state device.old) (D.state device.new)
         → (result ≡ failed OfMemory) ⊎ IsLookReply (look_view look.now) extra.now
-        (shown_in OfDos (meaning_of OfDos data_disk reserved)) (D.state device.old) result }
+        (shown_in OfDos data_disk reserved) (D.state device.old) result }
 {
     let Ok(format) = Dos33::new(alloc, data_disk, reserved) else {
         return Reply::failed(Failure::Memory);
@@ -93,8 +105,7 @@ fn look_at_prodos<D: Device>(
     ensures reads { ReadsFor (look_view look.now) result (D.state device.old) (D.state device.new) }
     ensures told { IsTrue (D.state device.old).honest
         → FailsForLackIn (look_view look.now) result (D.state device.old) (D.state device.new)
-        → IsLookReply (look_view look.now) extra.now (shown_in OfProdos (meaning_of OfProdos false reserved))
-        (D.state device.old) result }
+        → IsLookReply (look_view look.now) extra.now (shown_in OfProdos false reserved) (D.state device.old) result }
 {
     let format = Prodos::new(alloc, reserved);
     look_reply(alloc, look, extra, device, &format)

@@ -4,12 +4,13 @@ use Rattle.clap.proofs.OnLiterals.{clap_on_literals}
 use Rattle.clap.specs.Simple.{Shape, built, label_of}
 use Rattle.clap.specs.Takes.{turn_passes}
 use Rattle.clap.specs.Walk.{answers_to, walk_from, walked, nothing_held}
-use Rattle.shop_words.specs.Table.{Text, edit_form, lock_form, unlock_form, delete_form, rename_form, file_system, order, out_file, in_place, data_disk, reserve}
+use Rattle.shop_words.specs.Table.{Text, edit_form, lock_form, unlock_form, delete_form, rename_form, file_system, order, out_file, in_place, data_disk, reserve, stored}
 use Rattle.shop_words.specs.Plain.{Use, IsPlainLine}
-use Rattle.shop_jobs.specs.Job.{AskView, EditOf, EditView, Rename}
-use Rattle.shop_words.specs.Job.{Said, ask_by, change_by, edit_by, job_of, line_job, line_said, target_by, volume_by}
+use Rattle.shop_jobs.specs.Job.{AskView, EditView}
+use Rattle.shop_words.specs.Job.{Said, ask_by, change_by, edit_by, job_of, line_job, line_said, name_by, rename_by, target_by, volume_by}
 use Rattle.shop_words.proofs.PlainForms.{IsKnown, Knows, shape_named, stopped_at, top_names, top_rules, whole}
-use Rattle.shop_words.proofs.PlainJobs.{HasPlainDefaults, HasVolume, change_there, volume_by-line}
+use Rattle.shop_words.proofs.PlainJobs.{HasPlainDefaults, HasVolume, change_there, mapped_there, volume_by-line}
+use Rattle.shop_words.proofs.PlainStored.{name_by-line}
 use Rattle.shop_words.proofs.PlainTarget.{HasTarget, target_by-line}
 
 -- what is built of such a command: the name alone is its own
@@ -32,11 +33,12 @@ edit_known command is =
     let knows_in_place : Knows s in_place = record { by_long = refl; long = refl; dashes = refl } in
     let knows_data_disk : Knows s data_disk = record { by_long = refl; long = refl; dashes = refl } in
     let knows_reserve : Knows s reserve = record { by_long = refl; by_id = refl; same = refl; long = refl; dashes = refl } in
+    let knows_stored : Knows s stored = record { by_long = refl; long = refl; dashes = refl } in
     record {
       named = is.named;
       met = is.met;
       first = is.first;
-      parameters = (tt, (tt, (knows_file_system, (knows_order, (knows_out, (knows_in_place, (knows_data_disk, (knows_reserve, tt))))))));
+      parameters = (tt, (tt, (knows_file_system, (knows_order, (knows_out, (knows_in_place, (knows_data_disk, (knows_reserve, (knows_stored, tt)))))))));
       positionals = (refl, refl, refl, (refl, refl, refl, tt));
       positional_parameters = refl;
       apart = refl;
@@ -66,11 +68,12 @@ rename_known =
     let knows_in_place : Knows s in_place = record { by_long = refl; long = refl; dashes = refl } in
     let knows_data_disk : Knows s data_disk = record { by_long = refl; long = refl; dashes = refl } in
     let knows_reserve : Knows s reserve = record { by_long = refl; by_id = refl; same = refl; long = refl; dashes = refl } in
+    let knows_stored : Knows s stored = record { by_long = refl; long = refl; dashes = refl } in
     record {
       named = refl;
       met = refl;
       first = refl;
-      parameters = (tt, (tt, (tt, (knows_file_system, (knows_order, (knows_out, (knows_in_place, (knows_data_disk, (knows_reserve, tt)))))))));
+      parameters = (tt, (tt, (tt, (knows_file_system, (knows_order, (knows_out, (knows_in_place, (knows_data_disk, (knows_reserve, (knows_stored, tt))))))))));
       positionals = (refl, refl, refl, (refl, refl, refl, (refl, refl, refl, tt)));
       positional_parameters = refl;
       apart = refl;
@@ -112,7 +115,8 @@ is_some-line_job-edit command edit is (image ∷ name ∷ []) uses plain =
     let f = edit_form command in
     let said = line_said f (image ∷ name ∷ []) uses in
     let there : is_some (job_of (Some image) (change_by (edit_by edit said) said)) ≡ true =
-    change_there image (Some (EditOf name edit)) (volume_by said) (target_by said) (said (codes "reserve")) refl
+    change_there image (edit_by edit said) (volume_by said) (target_by said) (said (codes "reserve"))
+    (mapped_there _ (name_by said) (name_by-line uses said name (λ is_stored. (plain.stored is_stored).1.0 refl) refl refl))
     (volume_by-line f (image ∷ name ∷ []) uses said (edit_volume command) plain refl refl)
     (target_by-line f (image ∷ name ∷ []) uses said (edit_target command) plain refl refl) in
     ap (λ (ask : Option AskView). is_some (job_of (Some image) ask)) (is said) ∙ there
@@ -135,7 +139,8 @@ is_some-line_job-rename (image ∷ []) uses plain = let same = plain.as_many in 
 is_some-line_job-rename (image ∷ name ∷ []) uses plain = let same = plain.as_many in absurd (omega (arith, same))
 is_some-line_job-rename (image ∷ name ∷ new ∷ []) uses plain =
     let said = line_said rename_form (image ∷ name ∷ new ∷ []) uses in
-    change_there image (Some (EditOf name (Rename new))) (volume_by said) (target_by said) (said (codes "reserve")) refl
+    change_there image (rename_by said) (volume_by said) (target_by said) (said (codes "reserve"))
+    (mapped_there _ (name_by said) (name_by-line uses said name (λ is_stored. (plain.stored is_stored).1.0 refl) refl refl))
     (volume_by-line rename_form (image ∷ name ∷ new ∷ []) uses said rename_volume plain refl refl)
     (target_by-line rename_form (image ∷ name ∷ new ∷ []) uses said rename_target plain refl refl)
 is_some-line_job-rename (a ∷ b ∷ c ∷ d ∷ rest) uses plain = let same = plain.as_many in absurd (omega (arith, same))

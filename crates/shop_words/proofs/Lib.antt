@@ -11,8 +11,11 @@ pub mod PlainValues
 pub mod PlainUsed
 pub mod PlainJobs
 pub mod PlainTarget
+pub mod PlainStored
+pub mod HexWords
 pub mod CatalogLine
 pub mod ListLine
+pub mod MapLine
 pub mod CheckLine
 pub mod ReadLine
 pub mod ConvertLine

@@ -144,6 +144,17 @@ nothing_said name (u ∷ us) unused =
       by_test true same later = absurd (unused (0, omega arith, (bytes_eq-Decides (use_name u) name).0 same))
       by_test false other later = rw other later
 
+-- a name that says `true` is used
+pub use_said : (name : Text) (uses : List Use) → is_on (value_of name uses) ≡ true → Contains (map use_name uses) name
+use_said name [] on = absurd (cc)
+use_said name (u ∷ us) on = by_test (bytes_eq (use_name u) name) refl (use_said name us) on
+  where
+    by_test : (b : Bool) → bytes_eq (use_name u) name ≡ b → (is_on (value_of name us) ≡ true → Contains (map use_name us) name)
+        → is_on (option_map use_value (cond b (Some u) (find (λ x. bytes_eq (use_name x) name) us))) ≡ true
+        → Contains (map use_name (u ∷ us)) name
+    by_test true same later on = (0, omega arith, (bytes_eq-Decides (use_name u) name).0 same)
+    by_test false other later on = contains_more (use_name u) name (map use_name us) (later on)
+
 -- ---- the options of a form
 
 -- the form has the parameter, which is needed

@@ -26,6 +26,7 @@ use Rattle.clap.specs.Walk.{Row, first_of}
 use Rattle.a2_device.specs.declared.order.Order.{Order}
 use Rattle.a2_device.specs.declared.order.Order.TheVariants as orders
 use Rattle.shop_words.specs.Grammar.{shop}
+use Rattle.shop_words.specs.Hexadecimal.{bytes_named}
 use Rattle.shop_words.specs.Table.{Text, FormView, greatest_number, most_writes}
 use Rattle.shop_words.specs.Plain.{Use, alone, valued, use_name, positional_names, is_number}
 use Rattle.shop_jobs.specs.declared.job.ListForm.{ListForm}
@@ -34,7 +35,7 @@ use Rattle.shop_jobs.specs.declared.job.ListOptions.{ListOptions}
 use Rattle.shop_jobs.specs.declared.job.FileSystem.{FileSystem}
 use Rattle.shop_jobs.specs.declared.job.FileSystem.TheVariants as file_systems
 use Rattle.shop_jobs.specs.declared.job.VolumeOptions.{VolumeOptions}
-use Rattle.shop_jobs.specs.Job.{AskView, AttributesView, Catalog, ChangeOf, ChangeView, Check, Convert, Delete, EditOf, EditView, Identify, InPlace, JobView, Lock, Entries, LookAt, LookView, Optimize, Plan, Read, Rename, Save, TargetView, ToFile, Unlock, Verify}
+use Rattle.shop_jobs.specs.Job.{AskView, AttributesView, ByPath, ByStored, Catalog, ChangeOf, ChangeView, Check, Convert, Delete, EditOf, EditView, FileNameView, Identify, InPlace, JobView, Lock, Entries, LookAt, LookView, Map, Optimize, Plan, Read, Rename, Save, TargetView, ToFile, Unlock, Verify}
 
 -- ---- what a word names
 
@@ -113,6 +114,14 @@ target_named None false = None
 abbrev pub target_by : Said → Option TargetView
 target_by said = target_named (said (codes "out")) (is_on (said (codes "in-place")))
 
+-- how a file is named: by its path, or where a flag says so by the bytes that the word writes
+abbrev pub file_named : Bool → Text → Option FileNameView
+file_named false word = Some (ByPath word)
+file_named true word = option_map ByStored (bytes_named word)
+
+abbrev pub name_by : Said → Option FileNameView
+name_by said = option_and_then (file_named (is_on (said (codes "stored")))) (said (codes "name"))
+
 -- ---- what is asked of a volume that is only read
 
 -- a list in the form that is said, with digests where a flag says so
@@ -123,9 +132,13 @@ list_of _ digests _ = None
 abbrev pub list_by : Said → Option LookView
 list_by said = list_of (form_said (said (codes "format"))) (is_on (said (codes "digests"))) (most_bytes (said (codes "most")))
 
+-- the bodies are checked too where a flag says so
+abbrev pub check_by : Said → LookView
+check_by said = Check (is_on (said (codes "bodies")))
+
 -- the whole of a file is read where a flag says so
 abbrev pub read_by : Said → Option LookView
-read_by said = option_map (λ name. Read name (is_on (said (codes "whole")))) (said (codes "name"))
+read_by said = option_map (λ name. Read name (is_on (said (codes "whole")))) (name_by said)
 
 -- a plan is told as a certificate, or in words where a flag says so
 abbrev pub plan_by : Said → LookView
@@ -141,7 +154,7 @@ optimize_by said = option_map (λ limit. Optimize (is_on (said (codes "reclaim")
     (limit_named (said (codes "stop-after")))
 
 abbrev pub edit_by : EditView → Said → Option ChangeView
-edit_by edit said = option_map (λ name. EditOf name edit) (said (codes "name"))
+edit_by edit said = option_map (λ name. EditOf name edit) (name_by said)
 
 -- a file gets the new name that is said
 abbrev pub rename_by : Said → Option ChangeView
@@ -192,7 +205,8 @@ abbrev pub ask_by : Text → Said → Option AskView
 ask_by command said =
     if bytes_eq command (codes "catalog") then look_by (Some Catalog) None said else
     if bytes_eq command (codes "list") then look_by (list_by said) None said else
-    if bytes_eq command (codes "check") then look_by (Some Check) (said (codes "reserve")) said else
+    if bytes_eq command (codes "map") then look_by (Some Map) (said (codes "reserve")) said else
+    if bytes_eq command (codes "check") then look_by (Some (check_by said)) (said (codes "reserve")) said else
     if bytes_eq command (codes "read") then look_by (read_by said) None said else
     if bytes_eq command (codes "convert") then convert_by said else
     if bytes_eq command (codes "plan") then look_by (Some (plan_by said)) (said (codes "reserve")) said else

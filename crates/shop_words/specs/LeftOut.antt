@@ -51,7 +51,7 @@ completed option words = if leaves_out option words then with_option option word
 -- the words are those of a command that may leave both out
 abbrev pub may_leave_out : List Text → Bool
 may_leave_out [] = false
-may_leave_out (command ∷ words) = bytes_eq command (codes "list")
+may_leave_out (command ∷ words) = bytes_eq command (codes "list") || bytes_eq command (codes "map")
 
 -- one of the words is `--auto` and one is another, or both options may be left out
 abbrev pub asks_to_fill_in : List Text → Bool

@@ -1,11 +1,12 @@
 -- The plain lists of words: no word at all, or printed from a command's form, its positional words
 -- and its uses of flags and options.
-use Rattle.std.specs.Prelude.{◌≡◌, ◌⊎◌, ◌==◌, All, Any, Contains, ℕ, Bool, true, false, not, ◌&&◌, nat_le, List, [], ◌∷◌, ◌++◌, length, filter, map}
-use Rattle.std.specs.List.{AllPass, IsDistinct, list_all}
+use Rattle.std.specs.Prelude.{◌≡◌, ◌⊎◌, ◌==◌, All, Any, Contains, IsSome, ℕ, Bool, true, false, not, ◌&&◌, nat_le, List, [], ◌∷◌, ◌++◌, length, filter, map}
+use Rattle.std.specs.List.{AllPass, AllZip, IsDistinct, list_all}
 use Rattle.std.specs.Char.{is_ascii_digit}
 use Rattle.std.specs.Str.{bytes_eq}
 use Rattle.std.specs.Str.Parse.{digits_value}
-use Rattle.shop_words.specs.Table.{Text, ValuesView, any, one_of, number, KindView, positional, needed, optional, flag, ParameterView, FormView, forms, in_place, out_file, parameter}
+use Rattle.shop_words.specs.Table.{Text, ValuesView, any, one_of, number, KindView, positional, needed, optional, flag, ParameterView, FormView, forms, in_place, name_of_file, out_file, parameter, stored}
+use Rattle.shop_words.specs.Hexadecimal.{bytes_named}
 
 -- `-`
 abbrev pub hyphen : ℕ
@@ -76,7 +77,12 @@ UsesOneOf one other uses =
     (Contains (map use_name uses) one × ¬ Contains (map use_name uses) other)
     ⊎ (Contains (map use_name uses) other × ¬ Contains (map use_name uses) one)
 
--- the positional words and uses are those of a plain list of the form; where the image may be changed in place, exactly one of `--out` and `--in-place` is used
+-- of positional words with these names that of a file's name writes bytes
+abbrev pub WritesBytes : List Text → List Text → Type 0
+WritesBytes names words = AllZip (λ name word. name ≡ name_of_file.name → IsSome (bytes_named word)) names words
+
+-- the positional words and uses are those of a plain list of the form; where the image may be changed in place, exactly one of `--out` and `--in-place` is used;
+-- with `--stored` the name of the file is in hexadecimal digits
 pub record IsPlainLine (f : FormView) (positionals : List Text) (uses : List Use) : Type 0 where
   pub as_many : length positionals ≡ length (positional_names f)
   pub plain : AllPass is_plain_word positionals
@@ -85,6 +91,7 @@ pub record IsPlainLine (f : FormView) (positionals : List Text) (uses : List Use
   pub complete :
       All (λ p. is_needed p.kind ≡ true → Contains (map use_name uses) p.name) f.parameters
   pub targeted : Contains f.parameters in_place → UsesOneOf out_file.name in_place.name uses
+  pub stored : Contains (map use_name uses) stored.name → WritesBytes (positional_names f) positionals
 
 -- the list that is printed from them
 abbrev pub line_words : FormView → List Text → List Use → List Text

@@ -101,10 +101,20 @@ list_form = record {
 abbrev pub reserve : ParameterView
 reserve = parameter (codes "reserve") (optional any)
 
+abbrev pub map_form : FormView
+map_form = record {
+  name = codes "map";
+  parameters = image ∷ file_system ∷ order ∷ data_disk ∷ reserve ∷ [];
+}
+
+-- `--bodies`
+abbrev pub bodies : ParameterView
+bodies = parameter (codes "bodies") flag
+
 abbrev pub check_form : FormView
 check_form = record {
   name = codes "check";
-  parameters = image ∷ file_system ∷ order ∷ data_disk ∷ reserve ∷ [];
+  parameters = image ∷ file_system ∷ order ∷ bodies ∷ data_disk ∷ reserve ∷ [];
 }
 
 -- `name` and `--whole`
@@ -114,10 +124,14 @@ name_of_file = parameter (codes "name") positional
 abbrev pub whole : ParameterView
 whole = parameter (codes "whole") flag
 
+-- `--stored`
+abbrev pub stored : ParameterView
+stored = parameter (codes "stored") flag
+
 abbrev pub read_form : FormView
 read_form = record {
   name = codes "read";
-  parameters = image ∷ name_of_file ∷ file_system ∷ order ∷ whole ∷ data_disk ∷ [];
+  parameters = image ∷ name_of_file ∷ file_system ∷ order ∷ whole ∷ data_disk ∷ stored ∷ [];
 }
 
 -- the new name of a file
@@ -179,7 +193,7 @@ optimize_form = record {
 abbrev pub edit_form : Text → FormView
 edit_form command = record {
   name = command;
-  parameters = image ∷ name_of_file ∷ file_system ∷ order ∷ out_file ∷ in_place ∷ data_disk ∷ reserve ∷ [];
+  parameters = image ∷ name_of_file ∷ file_system ∷ order ∷ out_file ∷ in_place ∷ data_disk ∷ reserve ∷ stored ∷ [];
 }
 
 abbrev pub lock_form : FormView
@@ -194,7 +208,7 @@ delete_form = edit_form (codes "delete")
 abbrev pub rename_form : FormView
 rename_form = record {
   name = codes "rename";
-  parameters = image ∷ name_of_file ∷ new_name ∷ file_system ∷ order ∷ out_file ∷ in_place ∷ data_disk ∷ reserve ∷ [];
+  parameters = image ∷ name_of_file ∷ new_name ∷ file_system ∷ order ∷ out_file ∷ in_place ∷ data_disk ∷ reserve ∷ stored ∷ [];
 }
 
 -- `--type T`, `--aux N` and `--date D`
@@ -227,4 +241,4 @@ identify_form = record {
 
 -- the forms of all commands
 abbrev pub forms : List FormView
-forms = catalog_form ∷ list_form ∷ check_form ∷ read_form ∷ convert_form ∷ plan_form ∷ optimize_form ∷ lock_form ∷ unlock_form ∷ delete_form ∷ rename_form ∷ save_form ∷ verify_form ∷ identify_form ∷ []
+forms = catalog_form ∷ list_form ∷ map_form ∷ check_form ∷ read_form ∷ convert_form ∷ plan_form ∷ optimize_form ∷ lock_form ∷ unlock_form ∷ delete_form ∷ rename_form ∷ save_form ∷ verify_form ∷ identify_form ∷ []

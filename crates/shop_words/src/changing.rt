@@ -5,7 +5,7 @@ ghost use Rattle.clap.specs.Walk.{rows_of};
 ghost use Rattle.shop_jobs.specs.Job.{ask_view, change_view, edit_view};
 ghost use Rattle.shop_words.specs.Job.{ask_by, change_by, edit_by, limit_named, optimize_by, rows_say};
 
-use crate::reading::{has_flag, number_named, said, target_in, text_said, volume_in};
+use crate::reading::{has_flag, name_in, number_named, said, target_in, text_said, volume_in};
 use clap::ArgMatches;
 use shop_jobs::{Ask, Change, Edit};
 use std::alloc::{AllocError, Global};
@@ -74,7 +74,7 @@ pub fn edit_in(
     ensures { IfOk result (λ ask. option_map ask_view ask
         ≡ (let said = rows_say (rows_of (found_of matches.now)) in change_by (edit_by (edit_view edit) said) said)) }
 {
-    match text_said(alloc, matches, "name")? {
+    match name_in(alloc, matches)? {
         Some(name) => change_in(alloc, matches, Some(Change::Edit { name, edit })),
         None => Ok(None),
     }

@@ -25,9 +25,11 @@ pub enum Help {
     Aux,
     Date,
     Whole,
+    Stored,
     Format,
     Digests,
     Most,
+    Bodies,
 }
 
 impl Help {
@@ -66,7 +68,11 @@ impl Help {
             Help::Digests => "Tell the SHA-256 of the contents of each file too",
             Help::Most =>
                 "How many bytes the files that are read for --digests may have in all; 1073741824 if left out",
+            Help::Bodies => "Read the sectors of each file too, and tell those that can't be read",
             Help::Whole => "Take all bytes of the file's sectors, and not its content alone",
+            Help::Stored =>
+                "The name is the stored one in hexadecimal digits, two a byte, as list tells it in JSON; for DOS 3.3 \
+                    without the spaces behind it or with them",
         }
     }
 }
@@ -76,6 +82,7 @@ pub fn of(command: &str) -> &'static str {
     match command {
         "catalog" => "List the files of a volume",
         "list" => "Tell the files of a volume, a line each: their names, or all about them as data",
+        "map" => "Show where the files of a volume stand, a character for each sector or block",
         "check" => "Tell whether a volume is sound, or what is wrong with it",
         "read" => "Write the bytes of a file of a volume to standard output",
         "convert" =>

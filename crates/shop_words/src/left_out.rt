@@ -182,7 +182,7 @@ fn may_leave_out(words: &[String]) -> bool
     ensures { result ≡ words_may_leave_out (map string_bytes words.now) }
 {
     match words.first() {
-        Some(command) => command.as_str() == "list",
+        Some(command) => command.as_str() == "list" || command.as_str() == "map",
         None => false,
     }
 }

@@ -34,6 +34,7 @@ mod explain;
 mod fault;
 mod grammar;
 mod help;
+mod hexadecimal;
 mod left_out;
 mod looking;
 mod notes;

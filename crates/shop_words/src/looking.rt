@@ -5,7 +5,7 @@ ghost use Rattle.clap.specs.Walk.{rows_of};
 ghost use Rattle.shop_jobs.specs.Job.{ask_view, look_view};
 ghost use Rattle.shop_words.specs.Job.{ask_by, form_said, look_by, most_bytes, rows_say};
 
-use crate::reading::{has_flag, number_named, said, text_said, volume_in};
+use crate::reading::{has_flag, name_in, number_named, said, text_said, volume_in};
 use clap::ArgMatches;
 use shop_jobs::{Ask, ListForm, ListOptions, Look};
 use std::alloc::{AllocError, Global};
@@ -80,25 +80,33 @@ fn look_in(alloc: Global, matches: &ArgMatches<'_>, look: Look) -> Result<Option
     }))
 }
 
+pub fn map_in(alloc: Global, matches: &ArgMatches<'_>) -> Result<Option<Ask>, AllocError>
+    ensures { IfOk result (λ ask. option_map ask_view ask
+        ≡ ask_by (codes "map") (rows_say (rows_of (found_of matches.now)))) }
+{
+    look_in(alloc, matches, Look::Map)
+}
+
 pub fn check_in(alloc: Global, matches: &ArgMatches<'_>) -> Result<Option<Ask>, AllocError>
     ensures { IfOk result (λ ask. option_map ask_view ask
         ≡ ask_by (codes "check") (rows_say (rows_of (found_of matches.now)))) }
 {
-    look_in(alloc, matches, Look::Check)
+    let bodies = has_flag(matches, "bodies");
+    look_in(alloc, matches, Look::Check { bodies })
 }
 
 pub fn read_in(alloc: Global, matches: &ArgMatches<'_>) -> Result<Option<Ask>, AllocError>
     ensures { IfOk result (λ ask. option_map ask_view ask
         ≡ ask_by (codes "read") (rows_say (rows_of (found_of matches.now)))) }
 {
-    let (Some(name), Some(volume)) = (said(matches, "name"), volume_in(matches)) else {
+    let (Some(name), Some(volume)) = (name_in(alloc, matches)?, volume_in(matches)) else {
         return Ok(None);
     };
     Ok(Some(Ask::Look {
         volume,
         reserve: None,
         look: Look::Read {
-            name: name.to_string(alloc)?,
+            name,
             whole: has_flag(matches, "whole"),
         },
     }))

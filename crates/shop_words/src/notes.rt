@@ -42,20 +42,43 @@ Status:
      REFUSED TooLarge  the files have more bytes than --most
   4  FAILED Input, Device or Memory: the file, a sector of the image or memory failed";
 
-const CHECK: &str = "\
+const MAP: &str = "\
 Example:
-  a2shop check disk.dsk --auto
+  a2shop map disk.dsk
+
+--fs and --order are auto where they are left out. Each character is a sector or a block:
+  S  it belongs to the system    R  it is one of --reserve
+  o  a part of a file that stands at its target place, where optimize puts it
+  x  a part of a file that stands elsewhere
+  ?  it is marked used and belongs to no file
+  .  it is free
 
 Status:
-  0  the volume is accepted
-  1  it has faults, and a line for each tells its name and its place
+  0  the picture is told
+  3  REFUSED Reserve  the word of --reserve is no list of places
+     REFUSED Length   the image has another length than one in its order
+     REFUSED Check    the volume has a fault; check tells which
+  4  FAILED Input, Device or Memory: the file, a sector of the image or memory failed";
+
+const CHECK: &str = "\
+Examples:
+  a2shop check disk.dsk --auto
+  a2shop check disk.nib --auto --bodies
+
+Without --bodies the contents of files are not read, and may hold sectors that can't be.
+
+Status:
+  0  the volume is accepted; with --bodies, and each sector of its files can be read
+  1  it has faults, and a line for each tells its name and its place; or, with --bodies, a line
+     UNREADABLE for each sector of a file that can't be read tells its place and the file
   3  REFUSED Reserve  the word of --reserve is no list of places
      REFUSED Length   the image has another length than one in its order
   4  FAILED Input, Device or Memory: the file, a sector of the image or memory failed";
 
 const READ: &str = "\
-Example:
+Examples:
   a2shop read disk.dsk HELLO --auto
+  a2shop read disk.dsk C8C5CCCCCF --stored --auto
 
 Status:
   0  the bytes of the file are written
@@ -234,6 +257,7 @@ pub fn of(command: &str) -> &'static str {
     match command {
         "catalog" => CATALOG,
         "list" => LIST,
+        "map" => MAP,
         "check" => CHECK,
         "read" => READ,
         "convert" => CONVERT,

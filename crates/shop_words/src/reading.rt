@@ -17,10 +17,12 @@ ghost use Rattle.std.specs.Char.{is_ascii_digit};
 ghost use Rattle.std.specs.List.{list_all};
 ghost use Rattle.clap.specs.Matches.{found_of};
 ghost use Rattle.clap.specs.Walk.{first_of, rows_of};
-ghost use Rattle.shop_jobs.specs.Job.{target_view};
+ghost use Rattle.shop_jobs.specs.Job.{file_name_view, target_view};
 ghost use Rattle.shop_words.specs.Job.{
+  file_named,
   file_system_named,
   is_on,
+  name_by,
   number_named,
   order_named,
   rows_say,
@@ -28,9 +30,10 @@ ghost use Rattle.shop_words.specs.Job.{
   volume_by,
 };
 
+use crate::hexadecimal::bytes_named;
 use a2_device::Order;
 use clap::ArgMatches;
-use shop_jobs::{FileSystem, Target, VolumeOptions};
+use shop_jobs::{FileName, FileSystem, Target, VolumeOptions};
 use std::alloc::{AllocError, Global};
 
 /// What the words say under a parameter's name.
@@ -135,6 +138,30 @@ pub fn volume_in(matches: &ArgMatches<'_>) -> Option<VolumeOptions>
         order,
         data_disk: has_flag(matches, "data-disk"),
     })
+}
+
+// The name of a file that a word says, by the bytes that it writes or as it is.
+fn file_named(alloc: Global, word: &str, stored: bool) -> Result<Option<FileName>, AllocError>
+    ensures { IfOk result (λ name. option_map file_name_view name ≡ file_named stored word.now) }
+{
+    if !stored {
+        return Ok(Some(FileName::Path(word.to_string(alloc)?)));
+    }
+    match bytes_named(alloc, word)? {
+        Some(bytes) => Ok(Some(FileName::Stored(bytes))),
+        None => Ok(None),
+    }
+}
+
+/// How the words name a file; `None` where they name none.
+pub fn name_in(alloc: Global, matches: &ArgMatches<'_>) -> Result<Option<FileName>, AllocError>
+    ensures { IfOk result (λ name. option_map file_name_view name
+        ≡ name_by (rows_say (rows_of (found_of matches.now)))) }
+{
+    match said(matches, "name") {
+        Some(word) => file_named(alloc, word, has_flag(matches, "stored")),
+        None => Ok(None),
+    }
 }
 
 /// Where the image goes, where the words say it once.

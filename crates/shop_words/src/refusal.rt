@@ -5,6 +5,7 @@ ghost use Rattle.shop_words.specs.Fault.{IsFaultBy};
 
 use crate::fault::WordsFault;
 use crate::grammar::{full_command, program};
+use crate::hexadecimal::hex_value;
 use crate::reading::{has_flag, number_named, said};
 use crate::table::{Form, Kind, Parameter, Values, table};
 use crate::{all_escaped, escaped};
@@ -100,6 +101,10 @@ enum Misfit<'a> {
         values: Values,
         value: &'a str,
     },
+    /// The name of a file is to be the stored one, and is not in hexadecimal digits.
+    NoStoredName {
+        word: &'a str,
+    },
     /// The image is to go to a file and to be changed in place.
     TwoTargets,
     /// The words do not say where the image goes.
@@ -150,13 +155,29 @@ fn target_misfit<'a>(form: &Form, matches: &ArgMatches<'a>) -> Option<Misfit<'a>
     }
 }
 
-/// The first option of the command that does not take its value, or what is wrong with where its image goes.
+/// Whether the word is of hexadecimal digits, two a byte.
+fn writes_bytes(word: &str) -> bool {
+    let digits = word.as_bytes();
+    digits.len() % 2 == 0 && digits.iter().all(|digit| hex_value(*digit).is_some())
+}
+
+/// What is wrong with the name of a file that is to be the stored one.
+fn name_misfit<'a>(matches: &ArgMatches<'a>) -> Option<Misfit<'a>> {
+    let word = said(matches, "name")?;
+    if !has_flag(matches, "stored") || writes_bytes(word) {
+        return None;
+    }
+    Some(Misfit::NoStoredName { word })
+}
+
+/// The first option of the command that does not take its value, or what is wrong with its name or with where its image
+/// goes.
 fn misfit_of<'a>(form: &Form, matches: &ArgMatches<'a>) -> Option<Misfit<'a>> {
     let value = form
         .parameters
         .iter()
         .find_map(|parameter| value_misfit(parameter, matches));
-    match value {
+    match value.or_else(|| name_misfit(matches)) {
         Some(misfit) => Some(misfit),
         None => target_misfit(form, matches),
     }
@@ -193,7 +214,7 @@ fn command_error(
 impl Misfit<'_> {
     fn kind(self) -> ErrorKind {
         match self {
-            Misfit::Value { .. } => ErrorKind::InvalidValue,
+            Misfit::Value { .. } | Misfit::NoStoredName { .. } => ErrorKind::InvalidValue,
             Misfit::TwoTargets => ErrorKind::ArgumentConflict,
             Misfit::NoTarget => ErrorKind::MissingRequiredArgument,
         }
@@ -209,6 +230,12 @@ impl Misfit<'_> {
                 let value = escaped(alloc, value)?;
                 let wanted = wanted(alloc, name, values)?;
                 format!(in alloc; "invalid value '{value}' for '--{name} <{name}>'\n  {wanted}")
+            }
+            Misfit::NoStoredName { word } => {
+                let word = escaped(alloc, word)?;
+                format!(in alloc;
+                    "invalid value '{word}' for '<name>' with '--stored'\n  [hexadecimal digits, two a byte]"
+                )
             }
             Misfit::TwoTargets => {
                 "the argument '--out <out>' cannot be used with '--in-place'".to_string(alloc)

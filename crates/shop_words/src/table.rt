@@ -177,6 +177,12 @@ const WHOLE: Parameter = Parameter {
     help: Help::Whole,
 };
 
+const STORED: Parameter = Parameter {
+    name: "stored",
+    kind: Kind::Flag,
+    help: Help::Stored,
+};
+
 /// The parameters of a command that changes a file.
 const EDIT: &[Parameter] = &[
     IMAGE,
@@ -187,6 +193,7 @@ const EDIT: &[Parameter] = &[
     IN_PLACE,
     DATA_DISK,
     RESERVE,
+    STORED,
 ];
 
 const FORMAT: Parameter = Parameter {
@@ -199,6 +206,12 @@ const DIGESTS: Parameter = Parameter {
     name: "digests",
     kind: Kind::Flag,
     help: Help::Digests,
+};
+
+const BODIES: Parameter = Parameter {
+    name: "bodies",
+    kind: Kind::Flag,
+    help: Help::Bodies,
 };
 
 const MOST: Parameter = Parameter {
@@ -217,12 +230,16 @@ const FORMS: &[Form] = &[
         parameters: &[IMAGE, FILE_SYSTEM, ORDER, FORMAT, DIGESTS, MOST, DATA_DISK],
     },
     Form {
-        name: "check",
+        name: "map",
         parameters: &[IMAGE, FILE_SYSTEM, ORDER, DATA_DISK, RESERVE],
     },
     Form {
+        name: "check",
+        parameters: &[IMAGE, FILE_SYSTEM, ORDER, BODIES, DATA_DISK, RESERVE],
+    },
+    Form {
         name: "read",
-        parameters: &[IMAGE, NAME, FILE_SYSTEM, ORDER, WHOLE, DATA_DISK],
+        parameters: &[IMAGE, NAME, FILE_SYSTEM, ORDER, WHOLE, DATA_DISK, STORED],
     },
     Form {
         name: "convert",
@@ -279,6 +296,7 @@ const FORMS: &[Form] = &[
             IN_PLACE,
             DATA_DISK,
             RESERVE,
+            STORED,
         ],
     },
     Form {

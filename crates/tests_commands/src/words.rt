@@ -153,6 +153,7 @@ fn checks(
     alloc: Global,
     line: &str,
     reserve: Option<String>,
+    bodies: bool,
 ) -> Result<(), WordsFault> {
     let check = Ask::Look {
         volume: VolumeOptions {
@@ -161,17 +162,20 @@ fn checks(
             data_disk: false,
         },
         reserve,
-        look: Look::Check,
+        look: Look::Check { bodies },
     };
     asks(rt, alloc, line, "a.dsk", check)
 }
 
 #[test]
-fn a_check_may_reserve_places(rt: HostRuntime) -> Result<(), Fail> {
+fn a_check_may_reserve_places_and_read_bodies(rt: HostRuntime) -> Result<(), Fail> {
     let alloc = rt.alloc();
-    checks(&rt, alloc, "check a.dsk --fs dos --order prodos", None)?;
+    let line = "check a.dsk --fs dos --order prodos";
+    checks(&rt, alloc, line, None, false)?;
+    let line = "check a.dsk --bodies --fs dos --order prodos";
+    checks(&rt, alloc, line, None, true)?;
     let line = "check a.dsk --reserve 3/14,4/0 --order prodos --fs dos";
-    checks(&rt, alloc, line, Some("3/14,4/0".to_string(alloc)?))?;
+    checks(&rt, alloc, line, Some("3/14,4/0".to_string(alloc)?), false)?;
     Ok(())
 }
 

@@ -7,6 +7,7 @@ use crate::pieces::{Piece, hello_with, put_pieces, sub_with};
 use a2_device::Device;
 use edit_formats::EditError;
 use file_edits::delete;
+use file_formats::FileName;
 use pro_format::Prodos;
 use reserved_places::Reserved;
 use std::alloc::{AllocError, Allocator, Global};
@@ -23,7 +24,7 @@ pub fn delete_on_dos<A: Allocator + Copy, D: Device>(
     requires places { (D.state device.old).places ≡ 560 }
 {
     match dos_33(alloc) {
-        Ok(format) => delete(alloc, device, &format, path).err(),
+        Ok(format) => delete(alloc, device, &format, FileName::Path(path)).err(),
         Err(_) => Some(EditError::Memory),
     }
 }
@@ -38,7 +39,7 @@ pub fn delete_on_blocks<A: Allocator + Copy, D: Device>(
     requires places { (16 ≤ (D.state device.old).places) × ((D.state device.old).places < 65536) }
 {
     let format = Prodos::new(alloc, Reserved::none(alloc));
-    delete(alloc, device, &format, path).err()
+    delete(alloc, device, &format, FileName::Path(path)).err()
 }
 
 /// The same, and whether the image then has these bytes.

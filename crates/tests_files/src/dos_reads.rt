@@ -9,6 +9,7 @@ use a2_device::{Device, Order};
 use a2_image::Image;
 use a2_media::ImageDevice;
 use file_cmds::{CmdError, read};
+use file_formats::FileName;
 use refusing::Refusing;
 use std::alloc::{AllocError, Allocator, Global};
 use std::test::Fail;
@@ -28,7 +29,7 @@ fn text_on<A: Allocator + Copy, D: Device>(
     requires places { (D.state device.old).places ≡ 560 }
 {
     let format = dos_33(alloc)?;
-    read(alloc, device, &format, path, whole)
+    read(alloc, device, &format, FileName::Path(path), whole)
 }
 
 /// The bytes that a read of a file of a volume in DOS order gives.

@@ -9,6 +9,7 @@ use a2_media::ImageDevice;
 use edit_formats::EditError;
 use file_cmds::{CmdError, catalog, read};
 use file_edits::lock;
+use file_formats::FileName;
 use pro_format::Prodos;
 use reserved_places::Reserved;
 use std::alloc::{AllocError, Global};
@@ -72,8 +73,8 @@ fn dos_end<D: Device>(alloc: Global, device: &mut D, call: Call) -> End
     };
     match call {
         Call::List => end_by(catalog(alloc, device, &format).err()),
-        Call::Read => end_by(read(alloc, device, &format, b"HELLO", false).err()),
-        Call::Lock => end_of(lock(alloc, device, &format, b"HELLO").err()),
+        Call::Read => end_by(read(alloc, device, &format, FileName::Path(b"HELLO"), false).err()),
+        Call::Lock => end_of(lock(alloc, device, &format, FileName::Path(b"HELLO")).err()),
     }
 }
 
@@ -85,8 +86,8 @@ fn pro_end<D: Device>(alloc: Global, device: &mut D, call: Call) -> End
     let format = Prodos::new(alloc, Reserved::none(alloc));
     match call {
         Call::List => end_by(catalog(alloc, device, &format).err()),
-        Call::Read => end_by(read(alloc, device, &format, b"SUB/A", false).err()),
-        Call::Lock => end_of(lock(alloc, device, &format, b"SUB/A").err()),
+        Call::Read => end_by(read(alloc, device, &format, FileName::Path(b"SUB/A"), false).err()),
+        Call::Lock => end_of(lock(alloc, device, &format, FileName::Path(b"SUB/A")).err()),
     }
 }
 

@@ -31,4 +31,6 @@ mod runs;
 #[cfg(test)]
 mod savings;
 #[cfg(test)]
+mod stored_names;
+#[cfg(test)]
 mod whole_files;

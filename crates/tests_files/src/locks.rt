@@ -7,6 +7,7 @@ use crate::pieces::{hello_with, sub_with};
 use a2_device::{Device, FaultDevice};
 use edit_formats::EditError;
 use file_edits::{lock, unlock};
+use file_formats::FileName;
 use pro_format::Prodos;
 use refusing::Refusing;
 use reserved_places::Reserved;
@@ -24,7 +25,7 @@ fn lock_on<A: Allocator + Copy, D: Device>(
     requires places { (D.state device.old).places ≡ 560 }
 {
     match dos_33(alloc) {
-        Ok(format) => lock(alloc, device, &format, path).err(),
+        Ok(format) => lock(alloc, device, &format, FileName::Path(path)).err(),
         Err(_) => Some(EditError::Memory),
     }
 }
@@ -39,7 +40,7 @@ fn unlock_on<A: Allocator + Copy, D: Device>(
     requires places { (D.state device.old).places ≡ 560 }
 {
     match dos_33(alloc) {
-        Ok(format) => unlock(alloc, device, &format, path).err(),
+        Ok(format) => unlock(alloc, device, &format, FileName::Path(path)).err(),
         Err(_) => Some(EditError::Memory),
     }
 }
@@ -199,9 +200,9 @@ fn relock_on_blocks<D: Device>(
 {
     let format = Prodos::new(alloc, Reserved::none(alloc));
     if on {
-        lock(alloc, device, &format, path).err()
+        lock(alloc, device, &format, FileName::Path(path)).err()
     } else {
-        unlock(alloc, device, &format, path).err()
+        unlock(alloc, device, &format, FileName::Path(path)).err()
     }
 }
 

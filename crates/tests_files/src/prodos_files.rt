@@ -5,6 +5,7 @@ ghost use Rattle.a2_device.specs.Device.{DeviceState};
 use crate::runs::are_runs;
 use a2_device::Device;
 use file_cmds::{CmdError, read, read_volume};
+use file_formats::FileName;
 use file_listings::{EntryStyle, ProLines, Style};
 use pro_format::Prodos;
 use refusing::Refusing;
@@ -86,7 +87,7 @@ fn text_on<A: Allocator + Copy, D: Device>(
     requires places { (16 ≤ (D.state device.old).places) × ((D.state device.old).places < 65536) }
 {
     let format = Prodos::new(alloc, Reserved::none(alloc));
-    read(alloc, device, &format, path, whole)
+    read(alloc, device, &format, FileName::Path(path), whole)
 }
 
 /// The bytes that a read of a file of a volume in ProDOS order gives.

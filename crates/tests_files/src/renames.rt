@@ -7,6 +7,7 @@ use crate::pieces::{Piece, hello_with, sub_with};
 use a2_device::Device;
 use edit_formats::EditError;
 use file_edits::rename;
+use file_formats::FileName;
 use pro_format::Prodos;
 use reserved_places::Reserved;
 use std::alloc::Global;
@@ -24,7 +25,7 @@ fn rename_on_dos<D: Device>(
     requires places { (D.state device.old).places ≡ 560 }
 {
     match dos_33(alloc) {
-        Ok(format) => rename(alloc, device, &format, path, new).err(),
+        Ok(format) => rename(alloc, device, &format, FileName::Path(path), new).err(),
         Err(_) => Some(EditError::Memory),
     }
 }
@@ -97,7 +98,7 @@ fn rename_on_blocks<D: Device>(
     requires places { (16 ≤ (D.state device.old).places) × ((D.state device.old).places < 65536) }
 {
     let format = Prodos::new(alloc, Reserved::none(alloc));
-    rename(alloc, device, &format, path, new).err()
+    rename(alloc, device, &format, FileName::Path(path), new).err()
 }
 
 /// The same, and whether the image then has these bytes; `None` where there is no image.

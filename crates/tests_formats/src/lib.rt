@@ -1,6 +1,7 @@
-//! The tests of both file systems: of `reserved_places`; of `dos_vtoc`, `dos_catalog`, `dos_tslist` and `dos_format`; of
-//! `pro_bitmap`, `pro_dir`, `pro_dates`, `pro_tree` and `pro_format`; and of `new_files` for each of the two. They hold the
-//! worked rows with literal values, printed text, each public call on its happy path, refused memory, and reads that fail.
+//! The tests of both file systems: of `reserved_places`; of `dos_vtoc`, `dos_catalog`, `dos_tslist` and `dos_format`;
+//! of `pro_bitmap`, `pro_dir`, `pro_dates`, `pro_tree` and `pro_format`; and of `new_files` for each of the two. They
+//! hold the worked rows with literal values, printed text, each public call on its happy path, refused memory, and
+//! reads that fail.
 #![tactic(auto)]
 
 #[cfg(test)]

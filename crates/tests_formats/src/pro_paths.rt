@@ -48,6 +48,37 @@ static PATHS: [(&str, [bool; 3]); 9] = [
     ("", [false, false, false]),
 ];
 
+// Which of the first three entries have these bytes as their stored path.
+fn stored(volume: &VolumeDir, path: &str) -> [bool; 3] {
+    if volume.entries().len() < 3 {
+        return [false; 3];
+    }
+    [
+        volume.has_stored_path(0, path.as_bytes()),
+        volume.has_stored_path(1, path.as_bytes()),
+        volume.has_stored_path(2, path.as_bytes()),
+    ]
+}
+
+/// Paths, and which of `BIG`, `SUB` and `SUB/A` each is, byte for byte.
+static STORED: [(&str, [bool; 3]); 6] = [
+    ("BIG", [true, false, false]),
+    ("SUB", [false, true, false]),
+    ("SUB/A", [false, false, true]),
+    ("sub/A", [false, false, false]),
+    ("SUB/a", [false, false, false]),
+    ("", [false, false, false]),
+];
+
+#[test]
+fn stored_paths_are_those_of_entries(rt: HostRuntime) -> Result<(), Fail> {
+    let volume = volume_of(rt.alloc(), tree_and_subdirectory(rt.alloc())?)?;
+    for (path, entries) in &STORED {
+        assert!(rt; stored(&volume, path) == *entries, "{path}");
+    }
+    Ok(())
+}
+
 #[test]
 fn paths_name_entries(rt: HostRuntime) -> Result<(), Fail> {
     let volume = volume_of(rt.alloc(), tree_and_subdirectory(rt.alloc())?)?;

@@ -13,28 +13,9 @@ use Rattle.vol_format.specs.declared.link.Link.{Link}
 use Rattle.vol_format.specs.declared.link.Link.TheVariants.{Null, To}
 use Rattle.vol_format.specs.Directory.{Directory, Listed, no_entry, entries, entry_of, root_of, is_system}
 use Rattle.vol_format.specs.Meaning.{Meaning}
-use Rattle.vol_format.specs.Laws.{IsReadable, IsDirectory}
-use Rattle.file_cmds.specs.OneFile.{entry_alone, entries_alone, file_alone, of_one_file}
-
-pub alone_is_readable : (format : Meaning) → IsReadable format → (directory : Directory) → IsReadable (of_one_file format directory)
-alone_is_readable format laws directory = record {
-  child_place = λ places part child unit i takes is. laws.child_place places part child unit i takes.1 is;
-  child_file = laws.child_file;
-  child_depth = laws.child_depth;
-  child_later = laws.child_later;
-  child_inside = laws.child_inside;
-  children_apart = laws.children_apart;
-  no_more = laws.no_more;
-  few_pointers = laws.few_pointers;
-  few_places = λ places takes. laws.few_places places takes.1;
-  child_type = laws.child_type;
-  child_no_directory = laws.child_no_directory;
-  ends = laws.ends;
-  body_order = laws.body_order;
-  header_fault = λ store d fault fault_at described. fault_at;
-  one_directory = λ store d other described described'. described.0 ∙ sym described'.0;
-  all_places = λ store d described. ap (λ (e : Directory). e.places) described.0 ∙ sym described.1;
-}
+use Rattle.vol_format.specs.Laws.{IsDirectory}
+use Rattle.file_cmds.specs.KnownVolume.{of_known}
+use Rattle.file_cmds.specs.OneFile.{entry_alone, entries_alone, file_alone}
 
 module _ (directory : Directory) (file : ℕ) where
   pub entries-alone : entries (file_alone directory file) ≡ entries directory
@@ -158,7 +139,7 @@ module _ (directory : Directory) (file : ℕ) where
       div_mono a b (suc size) h = le-div (a / suc size) b (suc size) (omega arith) (omega (arith, h, div-mul-le_self a (suc size)))
 
   pub alone_is_directory : (format : Meaning) → IsDirectory format directory → directory.places ≤ 65536
-      → IsDirectory (of_one_file format (file_alone directory file)) (file_alone directory file)
+      → IsDirectory (of_known format (file_alone directory file)) (file_alone directory file)
   alone_is_directory format of few = record {
     root_place = λ entry part is. of.root_place file part (root_of-To entry part is).1;
     root_file = λ entry part is. of.root_file file part (root_of-To entry part is).1 ∙ sym (root_of-To entry part is).0;

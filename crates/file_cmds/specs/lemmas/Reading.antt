@@ -2,7 +2,7 @@
 use Rattle.std.specs.Prelude.{◌≡◌, ◌≤◌, ◌==◌, ℕ, ◌+◌, Bool, true, false, if◌then◌else◌, Contains, IsTrue, IsFalse, Option, Some}
 use Rattle.std.proofs.Common.{refl, sym, ◌∙◌, ap, subst, arith, ⊎_elim}
 use Rattle.a2_device.specs.Device.{DeviceState, FailsRead, MeetsReadFailure, IsSameDevice, OnlyReads, UsesRead, counted, last_count}
-use Rattle.file_cmds.specs.ReadingOn.{FailedBetween, ReadsOn}
+use Rattle.file_cmds.specs.ReadingOn.{FailedAt, FailedBetween, ReadsOn}
 
 pub none_read : (device : DeviceState) → ReadsOn device device
 none_read device = record {
@@ -73,31 +73,34 @@ module _ (old new : DeviceState) where
     quiet = λ honest is. let met = reads.met honest refl in failing_quiet met.0 met.1 is;
   }
 
-  pub one_failed : IsTrue old.honest → OnlyReads true old new → FailedBetween old new
-  one_failed honest reads = let met = reads.met honest refl in record {
-    place = met.0;
-    before = old;
-    after = new;
-    reached = none_read old;
-    failed = met.1;
-    left = none_read new;
-  }
+  pub failed_at : (place : ℕ) → FailsRead place old new → FailedAt place old new
+  failed_at place fails = record { before = old; after = new; reached = none_read old; failed = fails; left = none_read new }
 
-  -- where no failure is to come, a read fails at a place that can't be read
-  pub lacks_where_quiet : IsTrue old.honest → old.read_failures ≡ Some 0 → FailedBetween old new → (place : ℕ) × Contains old.unreadable place
-  lacks_where_quiet honest never failed =
+  pub one_failed : IsTrue old.honest → OnlyReads true old new → FailedBetween old new
+  one_failed honest reads = let met = reads.met honest refl in (met.0, failed_at met.0 met.1)
+
+  -- where no failure is to come, a read fails at a place that can't be read alone
+  pub lacking_where_quiet : IsTrue old.honest → old.read_failures ≡ Some 0 → (place : ℕ) → FailedAt place old new → Contains old.unreadable place
+  lacking_where_quiet honest never place failed =
       ⊎_elim
       (λ met. let used = subst (λ failures. UsesRead failures failed.after.read_failures) (failed.reached.quiet honest never) met.0 in absurd (omega (arith, used.1)))
-      (λ lacks. (failed.place, subst (λ places. Contains places failed.place) failed.reached.same.unreadable lacks.0))
+      (λ lacks. subst (λ places. Contains places place) failed.reached.same.unreadable lacks.0)
       failed.failed
 
+  pub lacks_where_quiet : IsTrue old.honest → old.read_failures ≡ Some 0 → FailedBetween old new → (place : ℕ) × Contains old.unreadable place
+  lacks_where_quiet honest never failed = (failed.0, lacking_where_quiet honest never failed.0 failed.1)
+
 -- a read that failed among some calls failed among more of them
-pub failed_among : (first before after last : DeviceState) → ReadsOn first before → ReadsOn after last → FailedBetween before after → FailedBetween first last
-failed_among first before after last reads later failed = record {
-  place = failed.place;
+pub failed_at_among : (place : ℕ) (first before after last : DeviceState) → ReadsOn first before → ReadsOn after last
+    → FailedAt place before after → FailedAt place first last
+failed_at_among place first before after last reads later failed = record {
   before = failed.before;
   after = failed.after;
   reached = read_twice first before failed.before reads failed.reached;
   failed = failed.failed;
   left = read_twice failed.after after last failed.left later;
 }
+
+pub failed_among : (first before after last : DeviceState) → ReadsOn first before → ReadsOn after last → FailedBetween before after → FailedBetween first last
+failed_among first before after last reads later failed =
+    (failed.0, failed_at_among failed.0 first before after last reads later failed.1)

@@ -56,6 +56,32 @@ fn unknown_and_missing_words_are_refused(rt: HostRuntime) {
     }
 }
 
+const NO_STORED_NAME: &str = "for '<name>' with '--stored'\n  [hexadecimal digits, two a byte]";
+
+#[test]
+fn stored_names_that_are_no_digits_are_refused(rt: HostRuntime) {
+    for (line, usage) in [
+        (
+            "read a.dsk HELLO --stored --fs dos --order dos",
+            "Usage: a2shop read ",
+        ),
+        (
+            "read a.dsk C8C --stored --fs dos --order dos",
+            "Usage: a2shop read ",
+        ),
+        (
+            "lock a.dsk c8:5 --stored --fs dos --order dos --in-place",
+            "Usage: a2shop lock ",
+        ),
+        (
+            "rename a.dsk G8 BYE --stored --fs dos --order dos --in-place",
+            "Usage: a2shop rename ",
+        ),
+    ] {
+        refuses(&rt, rt.alloc(), line, NO_STORED_NAME, usage);
+    }
+}
+
 #[test]
 fn words_that_are_too_many_are_refused(rt: HostRuntime) {
     for (line, wrong) in [

@@ -7,6 +7,7 @@ use Rattle.file_cmds.specs.Text.{IsEntryText, OwnFault}
 use Rattle.file_cmds.proofs.Outcomes.{text_of_first}
 use Rattle.file_cmds.proofs.Told.{header_fault}
 use Rattle.file_cmds.proofs.reading.read.Goals as goal
+use Rattle.file_formats.specs.FileNames.{name_view}
 
 pub returns-in_err-volume-clause-check : goal.returns-in_err-volume-clause-check
 returns-in_err-volume-clause-check g c = λ honest is.
@@ -32,7 +33,7 @@ returns-clause-text g c = λ honest.
     let format = g.F.Format.meaning c.args.format.now in
     let directory = g.F.Format.directory c.args.format.now c.in_ok-volume.volume in
     let volume = c.in_ok-volume.ensures in
-    text_of_first format (g.F.FileFormat.files c.args.format.now) (g.D.Device.state c.args.device.now).store c.args.path.now directory (volume.described honest)
+    text_of_first format (g.F.FileFormat.files c.args.format.now) (g.D.Device.state c.args.device.now).store (name_view c.args.name) directory (volume.described honest)
     c.in-Some.file c.in-Some.ensures.found c.args.whole c.read_entry.result
     (subst (λ (d : DeviceState). IfOk c.read_entry.result (λ text. IsEntryText format (g.F.FileFormat.files c.args.format.now) directory d.store c.in-Some.file c.args.whole text.items))
     (volume.device.kept honest refl) (c.read_entry.ensures.text (subst IsTrue (sym volume.device.same.honest) honest)))

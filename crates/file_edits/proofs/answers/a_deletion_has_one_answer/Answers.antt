@@ -4,6 +4,6 @@ use Rattle.file_edits.proofs.answers.a_deletion_has_one_answer.Goals as goal
 pub returns : goal.returns
 returns g c =
     let format = c.args.format.now in
-    λ store path one other.
+    λ store name one other.
     one_deletion (g.F.Format.meaning format) (g.met.F.Format.readable format) (g.F.FileFormat.files format)
-    (g.F.EditableFormat.erasures format) store path one other
+    (g.F.EditableFormat.erasures format) store name one other

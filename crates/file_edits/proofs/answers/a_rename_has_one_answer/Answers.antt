@@ -4,6 +4,6 @@ use Rattle.file_edits.proofs.answers.a_rename_has_one_answer.Goals as goal
 pub returns : goal.returns
 returns g c =
     let format = c.args.format.now in
-    λ store path new one other.
+    λ store name new one other.
     one_rename (g.F.Format.meaning format) (g.met.F.Format.readable format) (g.F.FileFormat.files format)
-    (g.F.EditableFormat.names format) store path new one other
+    (g.F.EditableFormat.names format) store name new one other

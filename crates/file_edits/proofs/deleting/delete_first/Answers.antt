@@ -9,6 +9,7 @@ use Rattle.vol_format.specs.Directory.{entry_of}
 use Rattle.vol_format.specs.Reach.{IsPartsOf}
 use Rattle.vol_laws.specs.Deletion.{IsDeletion}
 use Rattle.vol_laws.specs.Writes.{Write}
+use Rattle.file_formats.specs.FileNames.{name_view}
 use Rattle.file_formats.specs.Files.{IsFirstNamed}
 use Rattle.edit_formats.specs.declared.writes.Prepared.{Prepared}
 use Rattle.edit_formats.specs.Deleted.{IsDeleteEdit}
@@ -45,7 +46,7 @@ returns-clause-edited g c =
     let meaning = g.F.Format.meaning format in
     let files = g.F.FileFormat.files format in
     let erasures = g.F.EditableFormat.erasures format in
-    let path = c.args.path.now in
+    let name = name_view c.args.name in
     let old = g.D.Device.state c.args.device.now in
     let mid = g.D.Device.state c.check.new.device in
     let read = g.D.Device.state c.deletion.new.device in
@@ -56,7 +57,7 @@ returns-clause-edited g c =
     let file = c.in-Some.file in
     let writes = c.in_ok-writes.writes.items in
     let IsMade : List Write → Type 0 = λ made. made ≡ map write_of c.as_slice.result.now in
-    edited_as c.write_all.result old new IsMade (IsDeleteEdit meaning files erasures old.store path)
+    edited_as c.write_all.result old new IsMade (IsDeleteEdit meaning files erasures old.store name)
     (λ honest made is.
     let kept = checked.device.kept honest refl in
     let accepted : IsAccepted meaning (g.F.Format.directory format c.volume-3.result.now) mid.store =
@@ -73,12 +74,12 @@ returns-clause-edited g c =
     (λ v. (deletion : IsDeletion meaning (g.F.Format.directory format v) file mid.store (map write_of writes)) × erasures.Erases mid.store (g.F.Format.directory format v) file deletion.system)
     c.volume-3.ensures
     (c.in_ok-writes.ensures.deletes (subst IsTrue (sym checked.device.same.honest) honest) accepted parts)) in
-    subst (IsDeleteEdit meaning files erasures old.store path) (sym (is ∙ ap (map write_of) c.as_slice.ensures.value))
+    subst (IsDeleteEdit meaning files erasures old.store name) (sym (is ∙ ap (map write_of) c.as_slice.ensures.value))
     (record {
       directory = directory;
       accepted = checked.accepted honest;
       file = file;
-      first = subst (λ v. IsFirstNamed files (g.F.Format.directory format v) path file) c.volume.ensures c.in-Some.ensures.found;
+      first = subst (λ v. IsFirstNamed files (g.F.Format.directory format v) name file) c.volume.ensures c.in-Some.ensures.found;
       unprotected = subst (λ v. erasures.protects (entry_of (g.F.Format.directory format v) file).bytes ≡ false) c.volume-2.ensures
           (sym c.protects_file.ensures ∙ c.if-protects_file.false);
       deletion = deletes.0;
@@ -97,12 +98,12 @@ returns-clause-told g c = λ honest.
     let erasures = g.F.EditableFormat.erasures format in
     let file = c.in-Some.file in
     let checked = c.in_ok-checked in
-    device_told c.write_all.result (g.F.Format.meaning format) files erasures (g.D.Device.state c.args.device.now).store c.args.path.now c.write_all.ensures.refused
+    device_told c.write_all.result (g.F.Format.meaning format) files erasures (g.D.Device.state c.args.device.now).store (name_view c.args.name) c.write_all.ensures.refused
     (record {
       directory = g.F.Format.directory format (volume_of checked.checked);
       accepted = checked.ensures.accepted honest;
       file = file;
-      first = subst (λ v. IsFirstNamed files (g.F.Format.directory format v) c.args.path.now file) c.volume.ensures c.in-Some.ensures.found;
+      first = subst (λ v. IsFirstNamed files (g.F.Format.directory format v) (name_view c.args.name) file) c.volume.ensures c.in-Some.ensures.found;
       is = subst (λ v. erasures.protects (entry_of (g.F.Format.directory format v) file).bytes ≡ false) c.volume-2.ensures
           (sym c.protects_file.ensures ∙ c.if-protects_file.false);
     })

@@ -4,13 +4,13 @@ use Rattle.file_edits.proofs.deletion.a_deletion_made_takes_out_one_file.Goals a
 pub returns-clause-done : goal.returns-clause-done
 returns-clause-done g c =
     let format = c.args.format.now in
-    λ path result old new honest full edited.
+    λ name result old new honest full edited.
     deletion_done (g.F.Format.meaning format) (g.met.F.Format.readable format) (g.met.F.WritableFormat.movable format) (g.met.F.WritableFormat.writable format)
-    (g.met.F.EditableFormat.file_free format) (g.F.FileFormat.files format) (g.F.EditableFormat.erasures format) path old new full result honest edited
+    (g.met.F.EditableFormat.file_free format) (g.F.FileFormat.files format) (g.F.EditableFormat.erasures format) name old new full result honest edited
 
 pub returns-clause-stopped : goal.returns-clause-stopped
 returns-clause-stopped g c =
     let format = c.args.format.now in
-    λ path result old new honest full edited is.
+    λ name result old new honest full edited is.
     deletion_stopped (g.F.Format.meaning format) (g.met.F.Format.readable format) (g.met.F.WritableFormat.movable format) (g.met.F.WritableFormat.writable format)
-    (g.met.F.EditableFormat.file_free format) (g.F.FileFormat.files format) (g.F.EditableFormat.erasures format) path old new full result honest edited is
+    (g.met.F.EditableFormat.file_free format) (g.F.FileFormat.files format) (g.F.EditableFormat.erasures format) name old new full result honest edited is

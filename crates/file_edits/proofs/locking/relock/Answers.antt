@@ -2,6 +2,7 @@ use Rattle.std.proofs.Common.{◌≡◌, ◌∙◌, List, [], ◌∷◌, refl, a
 use Rattle.a2_device.specs.Device.{DeviceState, unit_at}
 use Rattle.vol_check.specs.Told.{volume_of}
 use Rattle.vol_format.specs.Directory.{Listed, entry_of}
+use Rattle.file_formats.specs.FileNames.{name_view}
 use Rattle.file_formats.specs.Files.{IsFirstNamed}
 use Rattle.edit_formats.specs.Edited.{IsLockEdit}
 use Rattle.vol_laws.specs.Writes.{Write}
@@ -25,12 +26,12 @@ returns-clause-edited g c =
     let edited : HasEdited (IsWrite entry) c.write_lock.result mid new =
     subst (λ volume. HasEdited (IsWrite (entry_of (g.F.Format.directory format volume) c.in-Some.file)) c.write_lock.result mid new) c.volume-2.ensures c.write_lock.ensures.edited in
     edited_as c.write_lock.result old new (IsWrite entry)
-    (IsLockEdit meaning files edits old.store c.args.path.now c.args.on)
+    (IsLockEdit meaning files edits old.store (name_view c.args.name) c.args.on)
     (λ honest writes is. record {
       directory = directory;
       accepted = checked.accepted honest;
       file = c.in-Some.file;
-      first = subst (λ volume. IsFirstNamed files (g.F.Format.directory format volume) c.args.path.now c.in-Some.file) c.volume.ensures c.in-Some.ensures.found;
+      first = subst (λ volume. IsFirstNamed files (g.F.Format.directory format volume) (name_view c.args.name) c.in-Some.file) c.volume.ensures c.in-Some.ensures.found;
       are = is ∙ ap (λ (d : DeviceState). record { place = entry.place; unit = edits.with_lock c.args.on entry (unit_at d.store entry.place) } ∷ [])
           (checked.device.kept honest refl);
     })

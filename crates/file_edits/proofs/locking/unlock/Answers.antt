@@ -4,6 +4,7 @@ use Rattle.edit_formats.specs.Lists.{with_lock_on}
 use Rattle.edit_formats.proofs.Changed.{done_changed, stopped_changed}
 use Rattle.file_edits.proofs.Locked.{lock_is_one_change}
 use Rattle.file_edits.proofs.locking.unlock.Goals as goal
+use Rattle.file_formats.specs.FileNames.{name_view}
 
 pub returns-clause-files : goal.returns-clause-files
 returns-clause-files g c = λ honest.
@@ -11,11 +12,11 @@ returns-clause-files g c = λ honest.
     let meaning = g.F.Format.meaning format in
     let files = g.F.FileFormat.files format in
     let edits = g.F.EditableFormat.edits format in
-    let path = c.args.path.now in
+    let name = name_view c.args.name in
     let old = g.D.Device.state c.args.device.now in
-    done_changed meaning (with_lock_on files edits path false) (IsLockEdit meaning files edits old.store path false) old (g.D.Device.state c.relock.new.device)
+    done_changed meaning (with_lock_on files edits name false) (IsLockEdit meaning files edits old.store name false) old (g.D.Device.state c.relock.new.device)
     (lock_is_one_change meaning (g.met.F.Format.readable format) (g.met.F.WritableFormat.movable format) (g.met.F.WritableFormat.writable format)
-    files edits (g.met.F.EditableFormat.lockable format) path false old (g.met.D.Device.whole c.args.device.now honest) c.requires.fits.unit)
+    files edits (g.met.F.EditableFormat.lockable format) name false old (g.met.D.Device.whole c.args.device.now honest) c.requires.fits.unit)
     c.relock.result honest c.relock.ensures.edited
 
 pub returns-clause-stopped : goal.returns-clause-stopped
@@ -24,9 +25,9 @@ returns-clause-stopped g c = λ honest is.
     let meaning = g.F.Format.meaning format in
     let files = g.F.FileFormat.files format in
     let edits = g.F.EditableFormat.edits format in
-    let path = c.args.path.now in
+    let name = name_view c.args.name in
     let old = g.D.Device.state c.args.device.now in
-    stopped_changed meaning (with_lock_on files edits path false) (IsLockEdit meaning files edits old.store path false) old (g.D.Device.state c.relock.new.device)
+    stopped_changed meaning (with_lock_on files edits name false) (IsLockEdit meaning files edits old.store name false) old (g.D.Device.state c.relock.new.device)
     (lock_is_one_change meaning (g.met.F.Format.readable format) (g.met.F.WritableFormat.movable format) (g.met.F.WritableFormat.writable format)
-    files edits (g.met.F.EditableFormat.lockable format) path false old (g.met.D.Device.whole c.args.device.now honest) c.requires.fits.unit)
+    files edits (g.met.F.EditableFormat.lockable format) name false old (g.met.D.Device.whole c.args.device.now honest) c.requires.fits.unit)
     c.relock.result honest c.relock.ensures.edited is

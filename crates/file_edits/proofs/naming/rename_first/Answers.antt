@@ -2,6 +2,7 @@ use Rattle.std.proofs.Common.{◌≡◌, ◌∙◌, List, [], ◌∷◌, refl, a
 use Rattle.a2_device.specs.Device.{DeviceState, unit_at}
 use Rattle.vol_check.specs.Told.{volume_of}
 use Rattle.vol_format.specs.Directory.{Directory, entry_of}
+use Rattle.file_formats.specs.FileNames.{name_view}
 use Rattle.file_formats.specs.Files.{IsFirstNamed}
 use Rattle.edit_formats.specs.Renamed.{IsRenameEdit, IsRenamable}
 use Rattle.vol_laws.specs.Writes.{Write}
@@ -27,12 +28,12 @@ returns-clause-edited g c =
     let edited : HasEdited (IsWrite directory) c.rename_entry.result mid new =
     subst (λ volume. HasEdited (IsWrite (g.F.Format.directory format volume)) c.rename_entry.result mid new) c.volume-2.ensures c.rename_entry.ensures.edited in
     edited_as c.rename_entry.result old new (IsWrite directory)
-    (IsRenameEdit meaning files names old.store c.args.path.now new_name)
+    (IsRenameEdit meaning files names old.store (name_view c.args.name) new_name)
     (λ honest writes is. record {
       directory = directory;
       accepted = checked.accepted honest;
       file = file;
-      first = subst (λ volume. IsFirstNamed files (g.F.Format.directory format volume) c.args.path.now file) c.volume.ensures c.in-Some.ensures.found;
+      first = subst (λ volume. IsFirstNamed files (g.F.Format.directory format volume) (name_view c.args.name) file) c.volume.ensures c.in-Some.ensures.found;
       renamable = subst (λ (d : DeviceState). IsRenamable names d.store directory file new_name) (checked.device.kept honest refl) is.0;
       are = is.1 ∙ ap (λ (d : DeviceState). record { place = (entry_of directory file).place; unit = names.with_name new_name (entry_of directory file) (unit_at d.store (entry_of directory file).place) } ∷ [])
           (checked.device.kept honest refl);

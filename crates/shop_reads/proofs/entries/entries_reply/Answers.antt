@@ -1,22 +1,23 @@
 use Rattle.std.proofs.Common.{◌∙◌, ap, inl, inr, refl, subst, sym}
-use Rattle.std.specs.Prelude.{Err, IsTrue, true}
+use Rattle.std.specs.Prelude.{Err, IsTrue}
 use Rattle.a2_device.specs.Device.{DeviceState}
 use Rattle.file_cmds.specs.ReadingOn.{FailedBetween}
 use Rattle.vol_format.specs.Directory.{entries}
 use Rattle.shop_replies.specs.declared.reply.Reply.{Reply}
-use Rattle.shop_replies.specs.Volume.{LacksUnit}
-use Rattle.shop_reads.specs.EntriesReply.{AreFactsUpTo, IsEntriesTold, ReadTooMuch, ReadVolume, volume_in}
+use Rattle.shop_reads.specs.EntriesReply.{AreFactsUpTo, IsEntriesTold, ReadTooMuch, volume_in}
+use Rattle.shop_reads.specs.GoingOn.{FailsForLackBy, ReadsBy, list_going}
 use Rattle.shop_reads.specs.TellingFailures.{tells_device}
-use Rattle.shop_reads.proofs.FirstFiles.{wider_too_much, wider_up_to}
-use Rattle.shop_reads.proofs.Readings.{not_told, refusal_failed}
+use Rattle.shop_reads.proofs.ListGoing.{lacks_too_much, lacks_up_to, list_read, list_refused, refused_for_lack}
+use Rattle.shop_reads.proofs.Readings.{not_told}
+use Rattle.shop_reads.proofs.Quiet.{list_quiet}
 use Rattle.shop_reads.proofs.entries.entries_reply.Goals as goal
 
-pub returns-in-Err-clause-failed : goal.returns-in-Err-clause-failed
-returns-in-Err-clause-failed g c = λ tells honest.
+pub returns-in-Err-clause-reads : goal.returns-in-Err-clause-reads
+returns-in-Err-clause-reads g c =
     let old = g.D.Device.state c.args.device.now in
     let new = g.D.Device.state c.read_volume.new.device in
-    refusal_failed g.row.F-Volume.Denot old new c.in-Err.error honest c.in-Err.ensures.device
-    (subst (λ (reply : Reply). IsTrue (tells_device reply)) c.refusal_reply.ensures tells)
+    subst (λ (reply : Reply). ReadsBy (list_going c.args.options) reply old new) (sym c.refusal_reply.ensures)
+    (list_refused g.row.F-Volume.Denot c.args.options old new c.in-Err.error c.in-Err.ensures.device)
 
 pub returns-in-Err-clause-told : goal.returns-in-Err-clause-told
 returns-in-Err-clause-told g c = λ honest lack.
@@ -25,14 +26,22 @@ returns-in-Err-clause-told g c = λ honest lack.
     let form = g.F.ShownFormat.form c.args.format.now in
     let files = g.F.FileFormat.files c.args.format.now in
     let meaning = g.F.Format.meaning c.args.format.now in
+    let lacking = subst (λ (reply : Reply). FailsForLackBy (list_going c.args.options) reply old new) c.refusal_reply.ensures lack in
     subst (λ (reply : Reply). IsEntriesTold c.args.options form files meaning old reply) (sym c.refusal_reply.ensures)
     (not_told files meaning old c.args.options form c.in-Err.error (λ is. c.in-Err.ensures.found (ap Err is)) (λ is. c.in-Err.ensures.check honest (ap Err is))
-    (λ is. lack (refusal_failed g.row.F-Volume.Denot old new c.in-Err.error honest c.in-Err.ensures.device (ap tells_device is))))
+    (refused_for_lack g.row.F-Volume.Denot c.args.options old new c.in-Err.error honest c.in-Err.ensures.device lacking))
+
+pub returns-in-Ok-known_of-clause-reads : goal.returns-in-Ok-known_of-clause-reads
+returns-in-Ok-known_of-clause-reads g c =
+    let old = g.D.Device.state c.args.device.now in
+    let mid = g.D.Device.state c.read_volume.new.device in
+    let new = g.D.Device.state c.known_of.new.device in
+    list_read c.args.options old mid new c.known_reply.result (list_quiet c.in-Ok-known_of.known.complete c.known_reply.result c.known_reply.ensures)
+    c.in-Ok.ensures.device c.known_of.ensures.reads c.known_of.ensures.alone
 
 pub returns-in-Ok-known_of-clause-told : goal.returns-in-Ok-known_of-clause-told
 returns-in-Ok-known_of-clause-told g c = λ honest lack.
     let old = g.D.Device.state c.args.device.now in
-    let mid = g.D.Device.state c.read_volume.new.device in
     let new = g.D.Device.state c.known_of.new.device in
     let form = g.F.ShownFormat.form c.args.format.now in
     let files = g.F.FileFormat.files c.args.format.now in
@@ -47,7 +56,7 @@ returns-in-Ok-known_of-clause-told g c = λ honest lack.
       directory = directory;
       described = c.in-Ok.ensures.described honest;
       facts = facts;
-      are = wider_up_to (volume_in form files meaning old.store directory) c.args.options (FailedBetween old new) (LacksUnit old) lack (entries directory) facts are;
+      are = lacks_up_to (volume_in form files meaning old.store directory) c.args.options c.known_reply.result old new lack (entries directory) facts are;
       few = c.in-Ok-known_of.ensures.few;
       complete = c.in-Ok-known_of.known.complete;
       ended = c.in-Ok-known_of.ensures.complete;
@@ -57,7 +66,6 @@ returns-in-Ok-known_of-clause-told g c = λ honest lack.
 pub returns-in-Err-TooLarge-clause-told : goal.returns-in-Err-TooLarge-clause-told
 returns-in-Err-TooLarge-clause-told g c = λ honest lack.
     let old = g.D.Device.state c.args.device.now in
-    let mid = g.D.Device.state c.read_volume.new.device in
     let new = g.D.Device.state c.known_of.new.device in
     let form = g.F.ShownFormat.form c.args.format.now in
     let files = g.F.FileFormat.files c.args.format.now in
@@ -72,6 +80,6 @@ returns-in-Err-TooLarge-clause-told g c = λ honest lack.
       record {
         directory = directory;
         described = c.in-Ok.ensures.described honest;
-        read = wider_too_much (volume_in form files meaning old.store directory) c.args.options (FailedBetween old new) (LacksUnit old) lack much;
+        read = lacks_too_much (volume_in form files meaning old.store directory) c.args.options c.refused.result old new lack much;
       },
     )))

@@ -27,7 +27,7 @@ returns-then-not-wants-2-clause-facts g c = λ honest.
 pub returns-in-Whole-clause-facts : goal.returns-in-Whole-clause-facts
 returns-in-Whole-clause-facts g c = λ honest.
     let old = g.D.Device.state c.args.device.now in
-    let new = g.D.Device.state c.file_text.new.device in
+    let new = g.D.Device.state c.text.new.device in
     let directory = g.F.Format.directory c.args.format.now c.args.volume.now in
     let meaning = g.F.Format.meaning c.args.format.now in
     let files = g.F.FileFormat.files c.args.format.now in
@@ -51,7 +51,7 @@ returns-in-Whole-clause-facts g c = λ honest.
 pub returns-in-Faulty : goal.returns-in-Faulty
 returns-in-Faulty g c =
     let old = g.D.Device.state c.args.device.now in
-    let new = g.D.Device.state c.file_text.new.device in
+    let new = g.D.Device.state c.text.new.device in
     let directory = g.F.Format.directory c.args.format.now c.args.volume.now in
     let meaning = g.F.Format.meaning c.args.format.now in
     let volume : ReadVolume = volume_in (g.F.ShownFormat.form c.args.format.now) (g.F.FileFormat.files c.args.format.now) meaning old.store directory in
