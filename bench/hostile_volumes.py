@@ -1,6 +1,6 @@
 #!/usr/bin/env python3
 """Peak memory of the commands on hostile ProDOS volumes, beside the bytes of the image. Wanted are at most twice the image
-and 16 MB, and three times the image and 16 MB where a command hands out an image.
+and 16 MB, and three times the image and 16 MB where a command hands out an image; a comparison has two images.
 
 A chain: directories of one block each, every one within the one before, so that the paths together are far longer than the image.
 A file at the end of a chain, its blocks in reverse, so that a plan in words has its long path in every line.
@@ -156,7 +156,7 @@ def edits(path, file, folder, words):
 
 def measure(command):
     status, memory = peak(command)
-    said = [word for word in command if word == command[0] or word in ("--explain", "--words", "--digests", "--bodies", "auto")]
+    said = [word for word in command if word == command[0] or word in ("--explain", "--words", "--digests", "--places", "--bodies", "auto")]
     print(f"  {' '.join(said):17} status {status}, peak {memory >> 10:,} MB")
 
 
@@ -184,7 +184,8 @@ def main():
                             ["optimize", path, *words, "--reclaim", "--out", f"{folder}/out.po"], ["identify", path]):
                 measure(command)
             for command in (["list", path, *words], ["list", path, *words, "--format", "json", "--digests"], ["map", path, *words],
-                            ["check", path, *words, "--bodies"]):
+                            ["list", path, *words, "--format", "json", "--places"], ["check", path, *words, "--bodies"],
+                            ["compare", path, path, *words]):
                 measure(command)
             for command in (["check", path, *AUTO], ["check", path, *AUTO, "--explain"]):
                 measure(command)

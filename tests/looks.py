@@ -703,7 +703,7 @@ class Image:
 
 # ---- words ----
 FILE_SYSTEMS, ORDERS = ["dos", "prodos", "auto"], ["dos", "prodos", "nibble", "auto"]
-VALUES_OF = {"--fs": FILE_SYSTEMS, "--order": ORDERS, "--other-order": ORDERS[:3], "--format": ["names", "json", "csv"]}
+VALUES_OF = {"--fs": FILE_SYSTEMS, "--order": ORDERS, "--other-order": ORDERS, "--format": ["names", "json", "csv"]}
 # How many positional words each command has, its options and its flags.
 COMMANDS = {
     "identify": (1, set(), set()),
@@ -894,11 +894,17 @@ class Looks:
         volume, _ = self.opened(path, said)
         form, digests = said.get("--format", "names"), "--digests" in said
         rows = form != "names"
-        if digests:
-            bounded(map(volume.text, volume.files()), said.get("--most", MOST))
+        self.bound(volume, digests, "--places" in said, said.get("--most", MOST))
         lines = self.row_lines(volume, form, digests, "--places" in said) if rows else self.name_lines(volume, digests)
         without = digests and any(volume.text(entry) is None for entry in volume.files())
         return int(without), text_of_lines(lines)
+
+    def bound(self, volume, digests, places, most):
+        """Refuses where the texts that are read for digests and the units of the parts that are told have too many bytes."""
+        texts = [volume.text(entry) for entry in volume.files()] if digests else []
+        parts = sum(len(volume.own_parts(entry) or ()) for entry in volume.entries) if places else 0
+        if sum(text.count for text in texts if text is not None) + volume.UNIT * parts > most:
+            raise Refused("TooLarge")
 
     def name_lines(self, volume, digests):
         if not digests:
@@ -945,9 +951,9 @@ class Looks:
         for number, image, of_image in both:
             with numbered(number):
                 volumes.append(image.open(*of_image))
-        for number, volume in enumerate(volumes, 1):
+        for number, texts in enumerate(read_texts(*volumes), 1):
             with numbered(number):
-                bounded(map(volume.text, volume.files()), said.get("--most", MOST))
+                bounded(texts, said.get("--most", MOST))
         return compared(*volumes, "--all" in said)
 
 
@@ -962,6 +968,12 @@ def pairs_of(one, other):
         pairs.append((entry, same_path.pop(0) if same_path else None))
     alone = {entry.number for same_path in partners.values() for entry in same_path}
     return pairs + [(None, entry) for entry in other.files() if entry.number in alone]
+
+
+def read_texts(one, other):
+    """The texts that are read of each volume: the partner of a file that can't be read is not read."""
+    seconds = [second for first, second in pairs_of(one, other) if second is not None and (first is None or one.text(first) is not None)]
+    return map(one.text, one.files()), map(other.text, seconds)
 
 
 def outcome(one, other, pair):

@@ -37,7 +37,7 @@ COMMANDS = {
         "list IMAGE FREE_WAY --digests DATA", "list IMAGE FREE_WAY --digests --format json", "list IMAGE FREE_WAY --digests --format csv",
         "list IMAGE FREE_WAY --digests --most FEW"],
     "places": ["list IMAGE FREE_WAY --places --format json", "list IMAGE FREE_WAY --places --format json --digests DATA",
-               "list IMAGE FREE_WAY --places --format FORM"],
+               "list IMAGE FREE_WAY --places --format json --most FEW", "list IMAGE FREE_WAY --places --format FORM"],
     "compare": [
         "compare IMAGE OTHER FREE_WAY OTHER_WAY DATA", "compare IMAGE OTHER FREE_WAY OTHER_WAY --all",
         "compare IMAGE IMAGE FREE_WAY --all", "compare OTHER IMAGE FREE_WAY OTHER_WAY --most FEW"],

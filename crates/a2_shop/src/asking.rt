@@ -8,21 +8,44 @@ use shop_words::{AutoOption, asks_auto, in_place};
 use std::alloc::{AllocError, Global};
 use std::io::Write;
 
-/// Whether a value of the words is `auto`.
-pub fn is_auto(words: &[String]) -> bool {
+/// How images are read, in the place of each `auto`.
+#[derive(Clone, Copy, Debug)]
+pub struct Ways {
+    pub file_system: FileSystem,
+    pub order: Order,
+    /// The order of the other image of a comparison.
+    pub other_order: Order,
+}
+
+/// What stands in the place of each `auto` until the images are known.
+const UNSETTLED: Ways = Ways {
+    file_system: FileSystem::Dos,
+    order: Order::Dos,
+    other_order: Order::Dos,
+};
+
+/// Whether the words leave to the image how it is read.
+pub fn is_image_auto(words: &[String]) -> bool {
     asks_auto(words, AutoOption::FileSystem) || asks_auto(words, AutoOption::Order)
 }
 
+/// Whether a value of the words is `auto`.
+pub fn is_auto(words: &[String]) -> bool {
+    is_image_auto(words) || asks_auto(words, AutoOption::OtherOrder)
+}
+
 // The words with a file system and an order in the place of each `auto`.
-fn put_in_place(
-    alloc: Global,
-    words: &[String],
-    file_system: FileSystem,
-    order: Order,
-) -> Result<Vec<String>, AllocError> {
-    let file_system = file_system_word(file_system);
-    let put = in_place(alloc, words, AutoOption::FileSystem, file_system)?;
-    in_place(alloc, put.as_slice(), AutoOption::Order, order_word(order))
+fn put_in_place(alloc: Global, words: &[String], ways: Ways) -> Result<Vec<String>, AllocError> {
+    let file_system = file_system_word(ways.file_system);
+    let other = order_word(ways.other_order);
+    let words = in_place(alloc, words, AutoOption::FileSystem, file_system)?;
+    let words = in_place(alloc, words.as_slice(), AutoOption::OtherOrder, other)?;
+    in_place(
+        alloc,
+        words.as_slice(),
+        AutoOption::Order,
+        order_word(ways.order),
+    )
 }
 
 // The job of words, or that it was told why there is none.
@@ -33,15 +56,14 @@ fn told_job<T: Write>(rt: &HostRuntime, words: &[String], text: &mut T) -> Resul
     }
 }
 
-/// The job of words with this way to read the image in the place of each `auto`.
+/// The job of words with these ways to read the images in the place of each `auto`.
 pub fn job_with<T: Write>(
     rt: &HostRuntime,
     words: &[String],
-    file_system: FileSystem,
-    order: Order,
+    ways: Ways,
     text: &mut T,
 ) -> Result<Job, Stop> {
-    let words = put_in_place(rt.alloc(), words, file_system, order)?;
+    let words = put_in_place(rt.alloc(), words, ways)?;
     told_job(rt, words.as_slice(), text)
 }
 
@@ -49,7 +71,7 @@ pub fn job_with<T: Write>(
 /// what is wrong with the other words is told first, and the job says which image it is.
 pub fn asked_job<T: Write>(rt: &HostRuntime, words: &[String], text: &mut T) -> Result<Job, Stop> {
     if is_auto(words) {
-        job_with(rt, words, FileSystem::Dos, Order::Dos, text)
+        job_with(rt, words, UNSETTLED, text)
     } else {
         told_job(rt, words, text)
     }

@@ -11,10 +11,10 @@ use crate::stop::Stop;
 use a2_device::{Device, Order};
 use a2_media::{FileDevice, SystemFile};
 use shop_changes::Outcome;
-use shop_commands::{only_reads, read_job_on_device, reply_to, run_job_in_place};
+use shop_commands::{only_reads, read_job_on_device, reply_to, run_job_in_place, unread_reply};
 use shop_files::{ImageDevice, OpenImage, Output, Unwritten, extra_bytes};
 use shop_jobs::{Ask, Job, Look, image_order, is_in_place, volume_of};
-use shop_replies::{Failure, Refusal, Reply, most_bytes};
+use shop_replies::{Failure, Refusal, Reply, Side, most_bytes};
 
 /// What a job has come to.
 #[derive(Drop)]
@@ -65,23 +65,16 @@ fn do_in_place(
 
 // The reply to a job that only reads a volume, of the file of its image; `None` where the job is
 // another, or where the image is no file in which its units stand so, as on standard input.
-fn reply_of_units(
-    rt: &HostRuntime,
-    job: &Job,
-    image: &OpenImage,
-) -> Result<Option<Reply>, Failure> {
-    let Some(volume) = volume_of(job) else {
-        return Ok(None);
-    };
+fn reply_of_units(rt: &HostRuntime, job: &Job, inputs: &mut Inputs) -> Option<Reply> {
+    let volume = volume_of(job)?;
     if !only_reads(job) {
-        return Ok(None);
+        return None;
     }
-    let Ok(mut device) = image.device(volume) else {
-        return Ok(None);
-    };
-    let extra = extra_bytes(rt, job)?;
-    let reply = read_job_on_device(rt.alloc(), job, extra.as_slice(), &mut device);
-    Ok(Some(reply))
+    let mut device = inputs.image.device(volume).ok()?;
+    match inputs.take_extra(rt, job) {
+        Ok(extra) => Some(read_job_on_device(rt.alloc(), job, extra, &mut device)),
+        Err(failure) => Some(unread_reply(job, Side::Second, failure)),
+    }
 }
 
 // The most bytes that are read of an image, but for one that shows that there are more.
@@ -94,21 +87,25 @@ fn most_of(job: &Job) -> u32 {
 }
 
 // The reply to a job on the bytes of its image.
-fn reply_of_bytes(rt: &HostRuntime, job: &Job, image: Vec<u8>) -> Result<Reply, Failure> {
-    let extra = extra_bytes(rt, job)?;
-    Ok(reply_to(rt.alloc(), job, image, extra.as_slice()))
+fn reply_of_bytes(rt: &HostRuntime, job: &Job, image: Vec<u8>, inputs: &mut Inputs) -> Reply {
+    match inputs.take_extra(rt, job) {
+        Ok(extra) => reply_to(rt.alloc(), job, image, extra),
+        Err(failure) => unread_reply(job, Side::Second, failure),
+    }
 }
 
 // The reply to a job that leaves its image's file as it is.
-fn reply_of(rt: &HostRuntime, job: &Job, inputs: &mut Inputs) -> Result<Reply, Failure> {
+fn reply_of(rt: &HostRuntime, job: &Job, inputs: &mut Inputs) -> Reply {
     if let Some(bytes) = inputs.bytes.take() {
-        return reply_of_bytes(rt, job, bytes);
+        return reply_of_bytes(rt, job, bytes, inputs);
     }
-    if let Some(reply) = reply_of_units(rt, job, &inputs.image)? {
-        return Ok(reply);
+    if let Some(reply) = reply_of_units(rt, job, inputs) {
+        return reply;
     }
-    let bytes = inputs.image.bytes(rt, most_of(job))?;
-    reply_of_bytes(rt, job, bytes)
+    match inputs.image.bytes(rt, most_of(job)) {
+        Ok(bytes) => reply_of_bytes(rt, job, bytes, inputs),
+        Err(failure) => unread_reply(job, Side::First, failure),
+    }
 }
 
 /// Does a job. The file of a certificate is made before an image is changed in its own file.
@@ -121,7 +118,16 @@ pub fn do_job(
     if is_in_place(job) {
         return do_in_place(rt, job, &inputs.image, certificate);
     }
-    Ok(Done::Answered(reply_of(rt, job, inputs)?))
+    Ok(Done::Answered(reply_of(rt, job, inputs)))
+}
+
+/// The lines that name the files of faults, of an answer that tells such, if there is memory for
+/// them.
+pub fn fault_files(rt: &HostRuntime, done: &Done) -> Option<String> {
+    match done {
+        Done::Answered(reply) => reply.fault_files()?.to_string(rt.alloc()).ok(),
+        Done::InPlace(_) => None,
+    }
 }
 
 /// Whether what a job tells is the bytes of a file, and no words of the program's.

@@ -1,15 +1,30 @@
 // The inputs of a job, opened.
 use crate::asking::is_auto;
 use crate::stop::Stop;
-use shop_files::{Found, JobFiles, OpenImage, is_in_its_file};
+use shop_files::{Found, JobFiles, OpenImage, extra_bytes, is_in_its_file};
 use shop_jobs::{Job, certificate_path, is_in_place, is_on_standard_input, out_path, volume_of};
-use shop_replies::{Failure, Refusal};
+use shop_replies::{Failure, Refusal, Side};
 
-/// The image of a job, open, and its bytes where all of them were read.
+/// The image of a job, open, and its bytes where all of them were read, and those of a file beside
+/// it.
 #[derive(Drop)]
 pub struct Inputs {
     pub image: OpenImage,
     pub bytes: Option<Vec<u8>>,
+    pub extra: Option<Vec<u8>>,
+}
+
+impl Inputs {
+    /// The bytes of the file that a job reads beside its image, which are read where they were not.
+    ///
+    /// # Errors
+    /// Those of `extra_bytes`.
+    pub fn take_extra(&mut self, rt: &HostRuntime, job: &Job) -> Result<Vec<u8>, Failure> {
+        match self.extra.take() {
+            Some(bytes) => Ok(bytes),
+            None => extra_bytes(rt, job),
+        }
+    }
 }
 
 // Notes the paths that a job names, where its answer is to be explained.
@@ -68,7 +83,7 @@ fn open_image(
         Ok(image) => Ok(image),
         Err(fault) => {
             found.fault = Some(fault);
-            Err(Stop::Failed(Failure::Input))
+            Err(Stop::Failed(Failure::Input).of_image(job, Side::First))
         }
     }
 }
@@ -85,5 +100,9 @@ pub fn open_inputs(
         return Err(Stop::Refused(Refusal::InPlace));
     }
     let image = open_image(rt, job, files, found)?;
-    Ok(Inputs { image, bytes: None })
+    Ok(Inputs {
+        image,
+        bytes: None,
+        extra: None,
+    })
 }

@@ -1,6 +1,6 @@
 // The program, stage by stage.
 use crate::asking::asked_job;
-use crate::doing::{do_job, is_content};
+use crate::doing::{Done, do_job, fault_files, is_content};
 use crate::ending::{Outputs, end, explain_answer};
 use crate::inputs::{Inputs, files_of, open_inputs};
 use crate::settling::settled_job;
@@ -107,6 +107,13 @@ fn run_stages<T: Write>(
     finish_job(rt, job, &files, &mut inputs, found, text)
 }
 
+// Notes the files of faults that an answer keeps, where it is to be explained.
+fn note_faults(rt: &HostRuntime, done: &Done, found: &mut Found) {
+    if found.is_wanted {
+        found.fault_files = fault_files(rt, done);
+    }
+}
+
 // The job done, its files ended and its answer told.
 fn finish_job<T: Write>(
     rt: &HostRuntime,
@@ -119,6 +126,7 @@ fn finish_job<T: Write>(
     let mut outputs = Outputs::of(rt, files);
     match do_job(rt, job, inputs, &mut outputs.certificate) {
         Ok(done) => {
+            note_faults(rt, &done, found);
             let ending = end(rt, done, outputs, text);
             found.is_content = ending.status == 0 && is_content(job);
             Ok(ending)

@@ -2,7 +2,8 @@
 use crate::words::WORDS_REFUSED;
 use a2_media::FileError;
 use shop_files::{Clash, Unwritten};
-use shop_replies::{FAILED, Failure, Refusal, Reply, written};
+use shop_jobs::{Ask, Job, Look};
+use shop_replies::{FAILED, Failure, Refusal, Reply, Side, written};
 use std::alloc::AllocError;
 use std::io::Write;
 
@@ -24,8 +25,25 @@ pub enum Stop {
     Ambiguous,
     /// There is no volume in the image.
     Unknown,
+    /// One of the two images of a comparison could not be read.
+    FailedOf(Side, Failure),
+    /// No way to read one of them is better than all others.
+    AmbiguousOf(Side),
+    /// There is no volume in one of them.
+    UnknownOf(Side),
     /// A file can't be written, so nothing was done.
     Unwritten(Unwritten),
+}
+
+// Whether a job compares its image with another.
+fn compares(job: &Job) -> bool {
+    matches!(
+        job.ask,
+        Ask::Look {
+            look: Look::Compare { .. },
+            ..
+        }
+    )
 }
 
 impl Stop {
@@ -38,7 +56,25 @@ impl Stop {
             Stop::Failed(failure) => Reply::failed(failure).tell(text),
             Stop::Ambiguous => written(b"REFUSED Ambiguous\n", REFUSED, text),
             Stop::Unknown => written(b"REFUSED Unknown\n", REFUSED, text),
+            Stop::FailedOf(side, failure) => Reply::failed(failure).of_image(side).tell(text),
+            Stop::AmbiguousOf(Side::First) => written(b"REFUSED Ambiguous 1\n", REFUSED, text),
+            Stop::AmbiguousOf(Side::Second) => written(b"REFUSED Ambiguous 2\n", REFUSED, text),
+            Stop::UnknownOf(Side::First) => written(b"REFUSED Unknown 1\n", REFUSED, text),
+            Stop::UnknownOf(Side::Second) => written(b"REFUSED Unknown 2\n", REFUSED, text),
             Stop::Unwritten(_) => FAILED,
+        }
+    }
+
+    /// The same of one of the images of a job, where that compares two.
+    pub fn of_image(self, job: &Job, side: Side) -> Stop {
+        if !compares(job) {
+            return self;
+        }
+        match self {
+            Stop::Failed(failure) => Stop::FailedOf(side, failure),
+            Stop::Ambiguous => Stop::AmbiguousOf(side),
+            Stop::Unknown => Stop::UnknownOf(side),
+            stop => stop,
         }
     }
 

@@ -102,6 +102,6 @@ reclaiming = record { reclaim = true }
 
 -- A store on which no session is opened: it has faults, or some part is misplaced and no place is free.
 abbrev pub CantOpen : {A : Type 0} → Meaning → List (List ℕ) → OpenError A → Type 0
-CantOpen format store (Check faults) = AreFaults format store faults
+CantOpen format store (Check list) = AreFaults format store list.faults
 CantOpen format store NoFreePlace = RefusesAccepted {A = Unit {0}} format store reclaiming NoFreePlace
 CantOpen format store error = ⊥

@@ -3,7 +3,7 @@ use crate::explanation::Explanation;
 
 /// The explanations of what a job finds: faults of a volume, faults of a certificate and verdicts; and of words that
 /// are no job.
-pub static FINDINGS: [Explanation; 26] = [
+pub static FINDINGS: [Explanation; 30] = [
     Explanation {
         front: "FAULT Geometry",
         meaning: "The header of the volume is not that of a volume of this size: the table of contents of a DOS disk \
@@ -121,10 +121,35 @@ pub static FINDINGS: [Explanation; 26] = [
     },
     Explanation {
         front: "UNREADABLE",
-        meaning: "The volume is accepted, but this sector or block of a file can't be read from the image. The place \
-            comes first, and behind it the path of the file.",
+        meaning: "This can't be read from the image: with `check --bodies` a sector or block of an accepted volume, \
+            whose place comes first, with the path of the file behind it; with `compare` a file of the first image or \
+            of the second, whose number comes first.",
         advice: "Take the other files off the image, and look for another copy of the disk. `a2shop list --digests` \
-            tells a digest of each file that can be read as a whole.",
+            tells a digest of each file that can be read as a whole, and `a2shop check` the faults of the volume.",
+    },
+    Explanation {
+        front: "BODY",
+        meaning: "Both images have the file, and its contents differ.",
+        advice: "`a2shop read` with each image writes the two contents, which other programs can compare.",
+    },
+    Explanation {
+        front: "ENTRY",
+        meaning: "Both images have the file with the same contents, but something else of it differs: its type, its \
+            address or auxiliary type, its lock or access, its length as the directory tells it, or a date.",
+        advice: "`a2shop list --format json` with each image tells what the directory has of the file.",
+    },
+    Explanation {
+        front: "ONLY",
+        meaning: "One of the images has the file, the first or the second as the number says, and the other has no \
+            more files of this path.",
+        advice: "A file may have another name on the other disk: `a2shop list --digests` with each image shows files \
+            of the same contents by their digests.",
+    },
+    Explanation {
+        front: "DIFFERENT",
+        meaning: "The images do not have the same files: so many are the same, so many differ, and so many are in one \
+            of the images alone or can't be read.",
+        advice: "The lines above it name the files. `--all` names those that are the same too.",
     },
     Explanation {
         front: "PARTS",

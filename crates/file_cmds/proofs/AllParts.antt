@@ -1,7 +1,7 @@
 -- The parts of all files of a volume that was read.
 use Rattle.std.specs.Prelude.{◌≡◌, ◌<◌, ◌==◌, ℕ, List, Contains, Result, Ok, Err, IfOk, filter}
 use Rattle.std.specs.List.Sorted.{IsNonDecreasingBy}
-use Rattle.std.proofs.Common.{refl, sym, ap, subst, arith, get_or, ⊎_elim}
+use Rattle.std.proofs.Common.{refl, sym, ◌∙◌, ap, subst, arith, get_or, ⊎_elim}
 use Rattle.std.proofs.lemmas.Bool.{cases_eq}
 use Rattle.a2_device.specs.declared.part.Part.{Part}
 use Rattle.vol_format.specs.Accepted.{IsAccepted}
@@ -17,6 +17,7 @@ use Rattle.vol_check.specs.declared.error.CheckError.{CheckError}
 use Rattle.vol_check.specs.declared.error.Faults.{Faults}
 use Rattle.vol_check.specs.declared.error.CheckError.TheVariants as check
 use Rattle.file_cmds.specs.EachFile.{AreFaultlessParts, IsTextBy, StandWithin}
+use Rattle.file_cmds.specs.FileParts.{IsPartsAlone}
 use Rattle.file_cmds.specs.FileText.{IsFileText}
 use Rattle.file_cmds.specs.declared.file_texts.FileText.{FileText}
 use Rattle.file_cmds.specs.declared.file_texts.FileText.TheVariants as read
@@ -91,6 +92,15 @@ module _ (format : Meaning) (directory : Directory) (store : List (List ℕ)) wh
   text_of_run laws file within unit_size size parts are run run_is (Ok read.Faulty) is = absurd is
   text_of_run laws file within unit_size size parts are run run_is (Ok read.Failed) is = tt
   text_of_run laws file within unit_size size parts are run run_is (Err error) is = tt
+
+  -- the run of a file's parts is the parts of the file
+  pub parts_of_run : (file : ℕ) → file < entries directory → (parts : List Part) → AreFaultlessParts format directory store parts → (run : List Part)
+      → (IsNonDecreasingBy (λ (part : Part). part.file) parts → run ≡ filter (λ (part : Part). part.file == file) parts)
+      → (given : List Part) → given ≡ run → IsPartsAlone format directory store file given
+  parts_of_run file within parts are run run_is given given_is = record {
+    faultless = are.faultless file within;
+    are_parts = (one_files_parts format directory store parts are.are_parts file given).1 (given_is ∙ run_is (rising parts are.are_parts));
+  }
 
 -- the parts that the checker tells stand at places of the device
 pub parts_within : (directory : Directory) (told : Told) (parts : List Part) (places : ℕ) → IsToldOf directory told → parts ≡ told.parts

@@ -7,3 +7,4 @@ pub mod Runs
 pub mod Whole
 pub mod Outcomes
 pub mod ByList
+pub mod WalkedTexts

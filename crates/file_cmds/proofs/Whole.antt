@@ -14,6 +14,7 @@ use Rattle.vol_check.specs.declared.error.CheckError.TheVariants as check
 use Rattle.vol_check.specs.Answer.{IsRefusal}
 use Rattle.vol_check.specs.Told.{Told, IsToldOf}
 use Rattle.file_cmds.specs.declared.error.CmdError.TheVariants.{Check}
+use Rattle.file_cmds.specs.FileParts.{IsPartsAlone}
 use Rattle.file_cmds.specs.Refusal.{refusal_of_check}
 use Rattle.file_cmds.specs.Text.{OwnFault, IsWholeTextOf, whole_text}
 use Rattle.file_cmds.specs.Walked.{stored_of}
@@ -33,9 +34,18 @@ module _ (format : Meaning) (laws : IsReadable format) (directory : Directory) (
   -- what the checker refuses is a fault of the file's own
   pub own_fault : {A : Type 0} (store : List (List ℕ)) (error : CheckError A) → format.Takes (length store) → length store ≡ directory.places
       → refusal_of_check error ≡ Check → IsRefusal (of_known format (file_alone directory file)) store error → OwnFault format directory store file
-  own_fault store (check.Faults faults) takes size is refused = refused_for format laws directory of file store takes size faults refused
+  own_fault store (check.Faults list) takes size is refused = refused_for format laws directory of file store takes size list.faults refused
   own_fault store check.Device takes size is refused = absurd (cc)
   own_fault store check.Memory takes size is refused = absurd (cc)
+
+  -- the parts of an accepted file are its own
+  pub parts_alone : (store : List (List ℕ)) (parts : List Part) → file < entries directory
+      → IsAccepted (of_known format (file_alone directory file)) (file_alone directory file) store
+      → IsPartsOf (of_known format (file_alone directory file)) (file_alone directory file) store parts → IsPartsAlone format directory store file parts
+  parts_alone store parts within accepted are = record {
+    faultless = faultless format laws directory of file store within accepted;
+    are_parts = own_parts format laws directory of file store parts are;
+  }
 
   -- what is read of the parts of an accepted file is its text
   pub whole_read : (old mid : DeviceState) (parts shown : List Part) (text : List ℕ) → mid ≡ old → old.unit_size ≡ format.unit_size → file < entries directory

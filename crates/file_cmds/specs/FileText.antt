@@ -1,5 +1,5 @@
 -- What is read of the file of an entry.
-use Rattle.std.specs.Prelude.{Bool, true, false, ℕ, List, Result, Ok, Err}
+use Rattle.std.specs.Prelude.{Bool, true, false, ℕ, List, Result, Ok}
 use Rattle.vol_format.specs.Directory.{Directory}
 use Rattle.vol_format.specs.Meaning.{Meaning}
 use Rattle.file_cmds.specs.Text.{IsWholeTextOf, OwnFault}

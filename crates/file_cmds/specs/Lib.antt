@@ -5,6 +5,7 @@ pub mod FileList
 pub mod Walked
 pub mod ReadingOn
 pub mod FileText
+pub mod FileParts
 pub mod KnownVolume
 pub mod OneFile
 pub mod EachFile

@@ -1,5 +1,5 @@
 -- What a read of a file answers.
-use Rattle.std.specs.Prelude.{◌≡◌, ◌⊎◌, ℕ, Bool, List}
+use Rattle.std.specs.Prelude.{◌⊎◌, ℕ, Bool, List}
 use Rattle.vol_format.specs.Directory.{Directory}
 use Rattle.vol_format.specs.Meaning.{Meaning}
 use Rattle.file_formats.specs.FileNames.{FileNameView}

@@ -13,30 +13,33 @@ ghost use Rattle.std.specs.Prelude.{
 ghost use Rattle.std.specs.List.Sorted.{IsNonDecreasingBy};
 ghost use Rattle.a2_device.specs.Device.{OnlyReads};
 ghost use Rattle.a2_device.specs.declared.part.Part.{Part};
+ghost use Rattle.vol_check.specs.FileWalker.{HasTables};
 ghost use Rattle.vol_format.specs.Accepted.{IsAccepted};
 ghost use Rattle.vol_format.specs.Directory.{entries};
 ghost use Rattle.vol_format.specs.Fits.{Fits};
-ghost use Rattle.file_cmds.specs.EachFile.{AreFilesOf, IsTextBy, StandWithin};
+ghost use Rattle.file_cmds.specs.EachFile.{AreFilesOf, HasWalker, IsTextBy, StandWithin};
 ghost use Rattle.file_cmds.specs.FileText.{IsFileText, has_failed};
 ghost use Rattle.file_cmds.specs.ReadingOn.{FailedBetween, ReadsOn};
 
-use crate::file_texts::{FileText, file_text};
+use crate::file_texts::FileText;
 use crate::known_volume::KnownVolume;
+use crate::one_file::OneFile;
 use crate::text::text_of;
 use a2_device::{Device, Part, Stop};
 use std::alloc::{AllocError, Allocator, Global};
-use vol_check::{CheckError, check};
+use vol_check::{CheckError, FileWalker, check};
 use vol_format::Format;
 
 /// A volume of which many files are read. Where the checker accepts it, each file is read by its own run of the parts
-/// of all files, else by a walk of its own.
+/// of all files, else by a walk of its own, on tables that are kept.
 #[derive(Debug, Drop)]
 pub struct VolumeFiles<A: Allocator = Global> {
-    parts: Option<Vec<Part, A>>,
+    pub(crate) parts: Option<Vec<Part, A>>,
+    pub(crate) walker: Option<FileWalker<A>>,
 }
 
 // The parts of the file of an entry, out of those of all files in their order.
-fn parts_of(parts: &[Part], file: u32) -> &[Part]
+pub(crate) fn parts_of(parts: &[Part], file: u32) -> &[Part]
     ensures within { (places : ℕ) → StandWithin places parts.now → StandWithin places result.now }
     ensures run { IsNonDecreasingBy (λ (part : Part). part.file) parts.now
         → result.now ≡ filter (λ (part : Part). part.file == file) parts.now }
@@ -66,7 +69,51 @@ fn text_by<D: Device, A: Allocator + Copy>(
     }
 }
 
+// What is read of the file of an entry, whose parts are walked over for it.
+fn walked_text<D: Device, F: Format, A: Allocator + Copy>(
+    alloc: A,
+    device: &mut D,
+    walker: &mut FileWalker<A>,
+    format: &F,
+    volume: &F::Volume,
+    file: u32,
+) -> Result<FileText<A>, AllocError>
+    requires fits { Fits (F.meaning format.now) (D.state device.old) }
+    requires places { (F.directory format.now volume.now).places ≡ (D.state device.old).places }
+    requires file { file < entries (F.directory format.now volume.now) }
+    requires tables { HasTables (D.state device.old) walker.old }
+
+    ensures device { OnlyReads (has_failed result) (D.state device.old) (D.state device.new) }
+    ensures text { IsTrue (D.state device.old).honest → IfOk result
+        (IsFileText (F.meaning format.now) (F.directory format.now volume.now) (D.state device.old).store file) }
+    ensures tables { HasTables (D.state device.new) walker.new }
+{
+    let one = OneFile {
+        format,
+        volume,
+        file,
+        places: device.places(),
+    };
+    match walker.walk(device, &one, &(), file) {
+        Ok(true) => text_by(alloc, device, walker.parts()),
+        Ok(false) => Ok(FileText::Faulty),
+        Err(Stop::Device) => Ok(FileText::Failed),
+        Err(Stop::Memory) => Err(AllocError),
+    }
+}
+
 impl<A: Allocator + Copy> VolumeFiles<A> {
+    // Files of which no parts are known.
+    fn walked<D: Device>(alloc: A, device: &D) -> Result<VolumeFiles<A>, AllocError>
+        ensures parts { IfOk result (λ files. files.parts ≡ None) }
+        ensures walker { IfOk result (λ files. HasWalker (D.state device.now) None files.walker) }
+    {
+        Ok(VolumeFiles {
+            parts: None,
+            walker: Some(FileWalker::new(alloc, device)?),
+        })
+    }
+
     /// Checks a volume that was read. It reads the unit of each part that has pointers, up to the first that can't be
     /// read.
     ///
@@ -91,10 +138,13 @@ impl<A: Allocator + Copy> VolumeFiles<A> {
         match check(alloc, device, &KnownVolume { format, volume }) {
             Ok(checked) => {
                 let (_, parts, _, _) = checked.into_parts();
-                Ok(VolumeFiles { parts: Some(parts) })
+                Ok(VolumeFiles {
+                    parts: Some(parts),
+                    walker: None,
+                })
             }
-            Err(CheckError::Faults(_)) => Ok(VolumeFiles { parts: None }),
-            Err(CheckError::Device) => Ok(VolumeFiles { parts: None }),
+            Err(CheckError::Faults(_)) => VolumeFiles::walked(alloc, device),
+            Err(CheckError::Device) => VolumeFiles::walked(alloc, device),
             Err(CheckError::Memory) => Err(AllocError),
         }
     }
@@ -105,7 +155,7 @@ impl<A: Allocator + Copy> VolumeFiles<A> {
     /// # Errors
     /// Want of memory alone.
     pub fn text<D: Device, F: Format>(
-        &self,
+        &mut self,
         alloc: A,
         device: &mut D,
         format: &F,
@@ -116,15 +166,20 @@ impl<A: Allocator + Copy> VolumeFiles<A> {
         requires places { (F.directory format.now volume.now).places ≡ (D.state device.old).places }
         requires file { file < entries (F.directory format.now volume.now) }
         requires opened { AreFilesOf (F.meaning format.now) (F.directory format.now volume.now)
-            (D.state device.old) self.now }
+            (D.state device.old) self.old }
 
         ensures device { OnlyReads (has_failed result) (D.state device.old) (D.state device.new) }
         ensures text { IsTrue (D.state device.old).honest → IfOk result
             (IsFileText (F.meaning format.now) (F.directory format.now volume.now) (D.state device.old).store file) }
+        ensures kept { AreFilesOf (F.meaning format.now) (F.directory format.now volume.now)
+            (D.state device.new) self.new }
     {
-        match &self.parts {
-            Some(parts) => text_by(alloc, device, parts_of(parts.as_slice(), file)),
-            None => file_text(alloc, device, format, volume, file),
+        if let Some(parts) = &self.parts {
+            return text_by(alloc, device, parts_of(parts.as_slice(), file));
+        }
+        match &mut self.walker {
+            Some(walker) => walked_text(alloc, device, walker, format, volume, file),
+            None => unreachable!(),
         }
     }
 }

@@ -5,7 +5,8 @@
 //! volumes walks over the volume that has the file alone (`specs/OneFile.antt`). Who reads many files goes on where one
 //! can't be read: `file_text` says why (`specs/FileText.antt`), and `specs/ReadingOn.antt` what such readings do to a
 //! device. `VolumeFiles` reads many files of one volume at the cost of their parts: the volume is checked once, and
-//! where it is accepted, each file is read by its own run of the parts of all files (`specs/EachFile.antt`).
+//! where it is accepted, each file is read by its own run of the parts of all files; else each is walked over by
+//! itself, on the same tables (`specs/EachFile.antt`). It gives the parts of a file alike (`specs/FileParts.antt`).
 //!
 //! What always holds: a command leaves the device's store as it is.
 #![tactic(auto)]
@@ -13,6 +14,7 @@
 mod command;
 mod each_file;
 mod error;
+mod file_parts;
 mod file_texts;
 mod known_volume;
 mod law;
@@ -23,6 +25,7 @@ mod text;
 pub use command::{catalog, listing_of, read_volume};
 pub use each_file::VolumeFiles;
 pub use error::CmdError;
+pub use file_parts::FileParts;
 pub use file_texts::{FileText, file_text};
 pub use law::{a_read_answers_by_the_list_of_files, answers_exclude_one_another};
 pub use reading::{read, read_entry};

@@ -1,3 +1,4 @@
+pub mod KnownLists
 pub mod Names
 pub mod Lines
 mod RowLines

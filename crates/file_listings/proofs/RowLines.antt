@@ -5,7 +5,7 @@ use Rattle.std.specs.declared.alloc.Global.{Global}
 use Rattle.std.proofs.lemmas.List.{append-nil, get_or-map, length-map, take_more}
 use Rattle.std.proofs.lemmas.Grind.{flat_map-append}
 use Rattle.row_text.specs.Row.{RowView, VolumeView}
-use Rattle.vol_format.specs.Directory.{Directory, Listed, entries, entry_of, no_entry}
+use Rattle.vol_format.specs.Directory.{Directory, entries, entry_of, no_entry}
 use Rattle.file_formats.specs.ProFiles.{pro_shown}
 use Rattle.file_formats.specs.declared.listing.ListEntry.{ListEntry}
 use Rattle.file_listings.specs.DosText.{Text}
@@ -13,28 +13,28 @@ use Rattle.file_listings.specs.ProText.{catalog_line, entry_lines, told_line}
 use Rattle.row_text.specs.Shown.{shown}
 use Rattle.row_text.specs.declared.volume.FileSystem.TheVariants.{Prodos}
 use Rattle.file_formats.specs.Listing.{free_count}
-use Rattle.file_listings.specs.Rows.{dos_row, first_facts, head_line, no_facts, pro_row, row_line, rows_of, rows_text, volume_of}
-use Rattle.file_listings.specs.declared.facts.Facts.{Facts}
+use Rattle.file_listings.specs.Rows.{dos_row, first_facts, head_line, pro_row, row_line, rows_of, rows_text, volume_of}
+use Rattle.file_listings.specs.Known.{FileFacts, no_facts}
 use Rattle.file_listings.specs.declared.style.EntryStyle.{EntryStyle}
 use Rattle.file_listings.specs.declared.style.Style.{Style}
 use Rattle.file_listings.specs.declared.style.Style.TheVariants.{Catalog, Entries}
 
 -- an element by its number, behind the first
-facts_behind : (facts : List Facts) (n : ℕ) → get_or (drop 1 facts) n no_facts ≡ get_or facts (n + 1) no_facts
+facts_behind : (facts : List FileFacts) (n : ℕ) → get_or (drop 1 facts) n no_facts ≡ get_or facts (n + 1) no_facts
 facts_behind [] zero = refl
 facts_behind [] (suc n) = refl
 facts_behind (known ∷ facts) n = let next : suc n ≡ n + 1 = omega arith in ap (λ (k : ℕ). get_or (known ∷ facts) k no_facts) next
 
-first_known : (facts : List Facts) → first_facts facts ≡ get_or facts 0 no_facts
+first_known : (facts : List FileFacts) → first_facts facts ≡ get_or facts 0 no_facts
 first_known [] = refl
 first_known (known ∷ facts) = refl
 
-module _ {A : Type 0} (row : ListEntry A → Facts → RowView) where
-  pub length-rows : (files : List (ListEntry A)) (facts : List Facts) → length (rows_of row files facts) ≡ length files
+module _ {A : Type 0} (row : ListEntry A → FileFacts → RowView) where
+  pub length-rows : (files : List (ListEntry A)) (facts : List FileFacts) → length (rows_of row files facts) ≡ length files
   length-rows [] facts = refl
   length-rows (file ∷ files) facts = ap (λ n. suc n) (length-rows files (drop 1 facts))
 
-  pub row_at : (files : List (ListEntry A)) (facts : List Facts) (n : ℕ) (none : RowView) (file : ListEntry A) → n < length files
+  pub row_at : (files : List (ListEntry A)) (facts : List FileFacts) (n : ℕ) (none : RowView) (file : ListEntry A) → n < length files
       → get_or (rows_of row files facts) n none ≡ row (get_or files n file) (get_or facts n no_facts)
   row_at [] facts n none file low = absurd (omega (arith, low))
   row_at (first ∷ files) facts zero none file low = ap (row first) (first_known facts)
@@ -43,7 +43,7 @@ module _ {A : Type 0} (row : ListEntry A → Facts → RowView) where
       row_at files (drop 1 facts) n none file (omega (arith, low))
       ∙ ap (row (get_or files n file)) (facts_behind facts n ∙ ap (λ (k : ℕ). get_or facts k no_facts) next)
 
-pub length-lines : (style : Style) (directory : Directory) (facts : List Facts) → length (entry_lines style directory facts) ≡ entries directory
+pub length-lines : (style : Style) (directory : Directory) (facts : List FileFacts) → length (entry_lines style directory facts) ≡ entries directory
 length-lines Catalog directory facts = length-map directory.listed catalog_line
 length-lines (Entries style) directory facts =
     length-map (rows_of {A = Global} pro_row (map pro_shown directory.listed) facts) (row_line style)
@@ -51,7 +51,7 @@ length-lines (Entries style) directory facts =
     ∙ length-map directory.listed (pro_shown {A = Global})
 
 -- the line of an entry by its number
-module _ (directory : Directory) (facts : List Facts) (n : ℕ) (low : n < entries directory) where
+module _ (directory : Directory) (facts : List FileFacts) (n : ℕ) (low : n < entries directory) where
   pub catalog_line_at : get_or (map catalog_line directory.listed) n [] ≡ catalog_line (entry_of directory n)
   catalog_line_at = get_or-map catalog_line directory.listed n no_entry [] low
 
@@ -65,7 +65,7 @@ module _ (directory : Directory) (facts : List Facts) (n : ℕ) (low : n < entri
       ∙ ap (λ (file : ListEntry Global). pro_row file (slice_index_or facts n no_facts)) (get_or-map (pro_shown {A = Global}) directory.listed n no_entry (pro_shown no_entry) low))
 
 -- whatever memory an entry's path stands in
-pub line_at : (A : Type 0) (directory : Directory) (facts : List Facts) (n : ℕ) (none : RowView) → n < entries directory → (style : Style)
+pub line_at : (A : Type 0) (directory : Directory) (facts : List FileFacts) (n : ℕ) (none : RowView) → n < entries directory → (style : Style)
     → slice_index_or (entry_lines style directory facts) n []
     ≡ told_line {A = A} style (pro_shown (entry_of directory n)) (slice_index_or facts n no_facts)
 line_at A directory facts n none low Catalog = catalog_line_at directory facts n low
@@ -88,7 +88,7 @@ rows_more style volume rows n none low =
     ∙ sym (append_assoc (head_line style volume) (flat_map (row_line style) (take n rows)) (flat_map (row_line style) (row ∷ [])))
     ∙ ap (λ (text : Text). rows_text style volume (take n rows) ++ text) (append-nil (row_line style row))
 
-pub dos_more : {A : Type 0} (style : EntryStyle) (volume : VolumeView) (files : List (ListEntry A)) (facts : List Facts) (n : ℕ) (none : RowView)
+pub dos_more : {A : Type 0} (style : EntryStyle) (volume : VolumeView) (files : List (ListEntry A)) (facts : List FileFacts) (n : ℕ) (none : RowView)
     (file : ListEntry A) → n < length files
     → rows_text style volume (take (n + 1) (rows_of dos_row files facts))
     ≡ rows_text style volume (take n (rows_of dos_row files facts)) ++ row_line style (dos_row (get_or files n file) (get_or facts n no_facts))

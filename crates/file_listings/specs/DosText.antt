@@ -1,5 +1,5 @@
 -- The text of a listing of a DOS 3.3 volume.
-use Rattle.std.specs.Prelude.{◌≡◌, ℕ, ◌-◌, ◌^◌, ◌%◌, ◌==◌, ◌||◌, nat_lt, false, List, [], ◌∷◌, ◌++◌, map, flat_map, codes, decimal, slice_index, if◌then◌else◌, take, length}
+use Rattle.std.specs.Prelude.{◌≡◌, ℕ, ◌-◌, ◌^◌, ◌==◌, false, List, [], ◌∷◌, ◌++◌, map, flat_map, codes, decimal, slice_index, if◌then◌else◌, take, length}
 use Rattle.std.specs.Fmt.{padded_integral, format_spec}
 use Rattle.std.specs.declared.alloc.Global.{Global}
 use Rattle.a2_device.specs.Device.{unit_at}

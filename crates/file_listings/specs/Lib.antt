@@ -1,4 +1,5 @@
 pub mod DosText
+pub mod Known
 pub mod Rows
 pub mod DosEntries
 pub mod ProText

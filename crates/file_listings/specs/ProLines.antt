@@ -12,14 +12,14 @@ use Rattle.row_text.specs.Shown.{shown}
 use Rattle.file_listings.specs.DosText.{Text}
 use Rattle.file_listings.specs.Rows.{volume_of}
 use Rattle.file_listings.specs.ProText.{directory_text, entry_lines}
-use Rattle.file_listings.specs.declared.facts.Facts.{Facts}
+use Rattle.file_listings.specs.Known.{FileFacts, facts_in}
 use Rattle.file_listings.specs.declared.style.Style.{Style}
 
 -- a directory that is listed, how, and what is known of the files of its entries
 pub record ListedDirectory : Type 0 where
   pub style : Style
   pub directory : Directory
-  pub facts : List Facts
+  pub facts : List FileFacts
 
 -- the directory of a volume that was read, and what is told of it
 abbrev pub directory_in : {A : Type 0} → ProVolume A → Directory
@@ -33,7 +33,7 @@ abbrev pub listed_in : {A : Type 0} → ProLines A → ListedDirectory
 listed_in lines = record {
   style = lines.style;
   directory = directory_in lines.volume;
-  facts = lines.facts.items;
+  facts = facts_in lines.known;
 }
 
 -- its listing, and the lines of its entries

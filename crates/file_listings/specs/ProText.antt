@@ -1,5 +1,5 @@
 -- The text of a listing of a ProDOS volume.
-use Rattle.std.specs.Prelude.{ℕ, ◌+◌, ◌-◌, ◌/◌, ◌%◌, ◌^◌, nat_lt, Bool, false, List, [], ◌∷◌, ◌++◌, map, flat_map, codes, decimal, if◌then◌else◌}
+use Rattle.std.specs.Prelude.{ℕ, ◌-◌, ◌/◌, ◌%◌, ◌^◌, Bool, false, List, [], ◌∷◌, ◌++◌, map, flat_map, codes, decimal, if◌then◌else◌}
 use Rattle.std.specs.Fmt.{padded_integral, format_spec}
 use Rattle.std.specs.declared.alloc.Global.{Global}
 use Rattle.vol_format.specs.Directory.{Directory, Listed}
@@ -8,7 +8,7 @@ use Rattle.row_text.specs.Shown.{hex_digit, shown}
 use Rattle.row_text.specs.declared.volume.FileSystem.TheVariants.{Prodos}
 use Rattle.file_listings.specs.DosText.{Text, line}
 use Rattle.file_listings.specs.Rows.{head_line, pro_row, row_line, rows_of, volume_of}
-use Rattle.file_listings.specs.declared.facts.Facts.{Facts}
+use Rattle.file_listings.specs.Known.{FileFacts}
 use Rattle.file_listings.specs.declared.style.Style.{Style}
 use Rattle.file_listings.specs.declared.style.Style.TheVariants.{Catalog, Entries}
 use Rattle.file_formats.specs.Listing.{free_count}
@@ -34,12 +34,12 @@ abbrev pub catalog_line : Listed → Text
 catalog_line entry = line (pro_file_line {A = Global} (pro_shown entry))
 
 -- the line of an entry in a style
-abbrev pub told_line : {A : Type 0} → Style → ListEntry A → Facts → Text
+abbrev pub told_line : {A : Type 0} → Style → ListEntry A → FileFacts → Text
 told_line Catalog entry facts = line (pro_file_line entry)
 told_line (Entries style) entry facts = row_line style (pro_row entry facts)
 
 -- the lines of the entries of a directory in a style, with what is known of each file
-abbrev pub entry_lines : Style → Directory → List Facts → List Text
+abbrev pub entry_lines : Style → Directory → List FileFacts → List Text
 entry_lines Catalog directory facts = map catalog_line directory.listed
 entry_lines (Entries style) directory facts =
     map (row_line style) (rows_of {A = Global} pro_row (map pro_shown directory.listed) facts)
@@ -53,6 +53,6 @@ abbrev pub last_line : Style → Directory → Text
 last_line Catalog directory = line (codes "FREE " ++ decimal (free_count directory))
 last_line (Entries style) directory = []
 
-abbrev pub directory_text : Style → Directory → List Facts → Text
+abbrev pub directory_text : Style → Directory → List FileFacts → Text
 directory_text style directory facts =
     first_line style directory ++ flat_map (λ text. text) (entry_lines style directory facts) ++ last_line style directory

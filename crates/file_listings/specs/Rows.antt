@@ -1,9 +1,10 @@
 -- The entries of a volume as rows of data, and the lines that tell them.
-use Rattle.std.specs.Prelude.{ℕ, ◌/◌, ◌%◌, Bool, false, List, [], ◌∷◌, ◌++◌, Some, None, option_map, map, flat_map, drop, length, decimal, replicate, slice_index, if◌then◌else◌}
+use Rattle.std.specs.Prelude.{◌/◌, ◌%◌, false, List, [], ◌∷◌, ◌++◌, Some, None, option_map, map, flat_map, drop, replicate, if◌then◌else◌}
 use Rattle.serde_json.specs.Written.{compact_text}
 use Rattle.row_text.specs.Csv.{csv_header, csv_row}
 use Rattle.row_text.specs.Row.{RowView, VolumeView, row_data, volume_data}
 use Rattle.row_text.specs.Shown.{hex_digit, lower_hex, shown}
+use Rattle.reserved_places.specs.declared.form.PlaceForm.TheVariants.{Sector, Block}
 use Rattle.row_text.specs.declared.row.Digested.{Digested}
 use Rattle.row_text.specs.declared.row.Digested.TheVariants.{Untold, Missing, Of}
 use Rattle.row_text.specs.declared.volume.FileSystem.{FileSystem}
@@ -13,20 +14,17 @@ use Rattle.vol_format.specs.Directory.{Directory, entries}
 use Rattle.file_formats.specs.Listing.{free_count}
 use Rattle.file_formats.specs.declared.listing.ListEntry.{ListEntry}
 use Rattle.file_listings.specs.DosText.{Text, letter_of, line, name_part}
-use Rattle.file_listings.specs.declared.facts.Facts.{Facts}
+use Rattle.file_listings.specs.Known.{FileFacts, no_facts, places_told}
 use Rattle.file_listings.specs.declared.style.EntryStyle.{EntryStyle}
 use Rattle.file_listings.specs.declared.style.EntryStyle.TheVariants.{Names, Sums, Json, Csv}
 
--- nothing is known of a file beside its entry
-abbrev pub no_facts : Facts
-no_facts = record { address = None; digest = Untold }
-
-abbrev pub first_facts : List Facts → Facts
+-- what is known of the first file
+abbrev pub first_facts : List FileFacts → FileFacts
 first_facts [] = no_facts
 first_facts (facts ∷ others) = facts
 
 -- an entry of DOS 3.3, which keeps no access, no dates and no length in bytes
-abbrev pub dos_row : {A : Type 0} → ListEntry A → Facts → RowView
+abbrev pub dos_row : {A : Type 0} → ListEntry A → FileFacts → RowView
 dos_row file facts = record {
   access = None;
   aux = facts.address;
@@ -41,10 +39,11 @@ dos_row file facts = record {
   stored = file.path;
   type_word = letter_of file.kind ∷ [];
   digest = facts.digest;
+  places = places_told Sector facts.parts;
 }
 
 -- an entry of ProDOS
-abbrev pub pro_row : {A : Type 0} → ListEntry A → Facts → RowView
+abbrev pub pro_row : {A : Type 0} → ListEntry A → FileFacts → RowView
 pro_row file facts = record {
   access = Some file.access;
   aux = Some file.aux;
@@ -59,10 +58,11 @@ pro_row file facts = record {
   stored = file.path;
   type_word = 36 ∷ hex_digit (file.kind / 16) ∷ hex_digit (file.kind % 16) ∷ [];
   digest = facts.digest;
+  places = places_told Block facts.parts;
 }
 
 -- the rows of some entries, each with what is known of its file
-abbrev pub rows_of : {A : Type 0} → (ListEntry A → Facts → RowView) → List (ListEntry A) → List Facts → List RowView
+abbrev pub rows_of : {A : Type 0} → (ListEntry A → FileFacts → RowView) → List (ListEntry A) → List FileFacts → List RowView
 rows_of row [] facts = []
 rows_of row (file ∷ files) facts = row file (first_facts facts) ∷ rows_of row files (drop 1 facts)
 

@@ -1,24 +1,16 @@
 -- The steps of a plan in words.
 use Rattle.std.specs.Prelude.{ℕ, ◌==◌, false, List, ◌∷◌, ◌++◌, length, flat_map, codes, decimal, if◌then◌else◌}
 use Rattle.std.specs.declared.alloc.Global.{Global}
-use Rattle.a2_device.specs.declared.part.PartKind.{PartKind}
-use Rattle.a2_device.specs.declared.part.PartKind.TheVariants as kinds
 use Rattle.reserved_places.specs.Reserved.{told_place}
 use Rattle.reserved_places.specs.declared.form.PlaceForm.{PlaceForm}
 use Rattle.reserved_places.specs.declared.form.PlaceForm.TheVariants.{Sector, Block}
+use Rattle.row_text.specs.Places.{kind_word}
 use Rattle.vol_format.specs.Directory.{Directory, entry_of}
 use Rattle.vol_format.specs.Standing.{no_part}
 use Rattle.file_listings.specs.DosText.{Text, line, name_text}
 use Rattle.file_formats.specs.Files.{FileMeaning}
 use Rattle.file_listings.specs.ProText.{path_text}
 use Rattle.file_listings.specs.declared.step.Step.{Step}
-
--- what a part is: a track/sector list, a master index, an index or a unit of the file's body
-abbrev pub kind_word : PartKind → Text
-kind_word kinds.List = codes "list"
-kind_word kinds.Master = codes "master"
-kind_word kinds.Index = codes "index"
-kind_word kinds.Body = codes "body"
 
 -- the path of a file, as a listing shows it
 abbrev pub shown_path : PlaceForm → List ℕ → Text

@@ -1,10 +1,11 @@
 // The text of a DOS 3.3 volume whose entries are told as data.
 ghost use Rattle.std.specs.Prelude.{◌≡◌, IfOk, string_bytes};
 ghost use Rattle.file_listings.specs.DosEntries.{entries_text, listed_volume};
+ghost use Rattle.file_listings.specs.Known.{facts_in};
 ghost use Rattle.row_text.specs.Row.{volume_view};
 
 use crate::dos_text::first_byte;
-use crate::facts::{Facts, facts_at};
+use crate::known::KnownFiles;
 use crate::rows::{HeadLine, RowLine, dos_row};
 use crate::style::EntryStyle;
 use file_formats::Listing;
@@ -35,9 +36,9 @@ pub fn dos_entries_text<A: Allocator + Copy>(
     alloc: A,
     style: EntryStyle,
     listing: &Listing<A>,
-    facts: &[Facts],
+    known: &KnownFiles<A>,
 ) -> Result<String<A>, AllocError>
-    ensures { IfOk result (λ text. string_bytes text ≡ entries_text style listing.now facts.now) }
+    ensures { IfOk result (λ text. string_bytes text ≡ entries_text style listing.now (facts_in known.now)) }
 {
     let head = HeadLine {
         style,
@@ -48,7 +49,7 @@ pub fn dos_entries_text<A: Allocator + Copy>(
     for (number, entry) in listing.entries.iter().enumerate() {
         let line = RowLine {
             style,
-            row: dos_row(entry, facts_at(facts, number)),
+            row: dos_row(entry, known.at(number)),
         };
         write!(text, "{line}")?;
     }

@@ -1,11 +1,13 @@
 // The lines of a listing of a ProDOS volume.
 ghost use Rattle.std.specs.Prelude.{◌≡◌, ◌<◌, [], length, slice_index_or, IfOk, OnOk, Some};
 ghost use Rattle.pro_format.specs.ProVolume.{tree_of};
+ghost use Rattle.file_listings.specs.Known.{facts_in, facts_of};
 ghost use Rattle.file_listings.specs.ProLines.{directory_in, line_in, lines_of, listed_in, most_path_bytes, pro_volume};
 ghost use Rattle.file_listings.specs.ProText.{first_line, last_line, told_line};
 ghost use Rattle.row_text.specs.Row.{volume_view};
 
-use crate::facts::{Facts, facts_at};
+use crate::facts::KnownFile;
+use crate::known::KnownFiles;
 use crate::pro_text::CatalogLine;
 use crate::rows::{HeadLine, ProRowLine};
 use crate::style::Style;
@@ -27,6 +29,9 @@ const LINE_BYTES: usize = 512;
 
 const OF_A_BYTE: usize = 4;
 
+/// The most bytes that a part of a file takes in a line.
+const PART_BYTES: usize = 40;
+
 /// The most bytes that the path of a file of a volume has.
 pub fn most_path_bytes<A: Allocator>(volume: &ProVolume<A>) -> usize
     ensures { result ≡ most_path_bytes (tree_of volume.now) }
@@ -42,21 +47,21 @@ pub struct ProLines<A: Allocator = Global> {
     alloc: A,
     style: Style,
     volume: ProVolume<A>,
-    facts: Vec<Facts, A>,
+    known: KnownFiles<A>,
     path: Vec<u8, A>,
     line: String<A>,
 }
 
 // The line of an entry, with its end.
 #[derive(Drop)]
-struct EntryLine<'a, A: Allocator> {
+struct EntryLine<'a, 'k, A: Allocator> {
     style: Style,
     entry: &'a ListEntry<A>,
-    facts: Facts,
+    known: KnownFile<'k>,
 }
 
-impl<A: Allocator> fmt::Display for EntryLine<'_, A> {
-    ghost output = { λ l. Some (told_line l.style l.entry.now l.facts) };
+impl<A: Allocator> fmt::Display for EntryLine<'_, '_, A> {
+    ghost output = { λ l. Some (told_line l.style l.entry.now (facts_of l.known)) };
 
     fn fmt<W: fmt::Write>(&self, f: &mut fmt::Formatter<W>) -> fmt::Result {
         match self.style {
@@ -68,7 +73,7 @@ impl<A: Allocator> fmt::Display for EntryLine<'_, A> {
                 let line = ProRowLine {
                     style,
                     entry: self.entry,
-                    facts: self.facts,
+                    known: self.known,
                 };
                 write!(f, "{line}")
             }
@@ -98,22 +103,26 @@ impl<A: Allocator + Copy> ProLines<A> {
         alloc: A,
         style: Style,
         volume: ProVolume<A>,
-        facts: Vec<Facts, A>,
+        known: KnownFiles<A>,
     ) -> Result<ProLines<A>, AllocError>
         ensures { IfOk result (λ lines. listed_in lines ≡ record {
           style = style;
           directory = directory_in volume;
-          facts = facts.items;
+          facts = facts_in known;
         }) }
     {
         let most = most_path_bytes(&volume);
         let path = Vec::with_capacity(alloc, most)?;
-        let line = String::with_capacity(alloc, OF_A_BYTE * most + LINE_BYTES)?;
+        let parts = known.most_parts().saturating_mul(PART_BYTES);
+        let line = String::with_capacity(
+            alloc,
+            parts.saturating_add(OF_A_BYTE * most + LINE_BYTES),
+        )?;
         Ok(ProLines {
             alloc,
             style,
             volume,
-            facts,
+            known,
             path,
             line,
         })
@@ -174,7 +183,7 @@ impl<A: Allocator + Copy> ProLines<A> {
         let text = EntryLine {
             style: self.style,
             entry: &listed,
-            facts: facts_at(self.facts.as_slice(), entry as usize),
+            known: self.known.at(entry as usize),
         };
         self.line.clear();
         write!(self.line, "{text}")?;

@@ -3,15 +3,18 @@ ghost use Rattle.std.specs.Prelude.{◌≡◌, ◌/◌, ◌%◌, [], ◌∷◌, 
 ghost use Rattle.row_text.specs.Row.{row_view, volume_view};
 ghost use Rattle.row_text.specs.Shown.{hex_digit};
 ghost use Rattle.file_listings.specs.DosText.{letter_of};
+ghost use Rattle.file_listings.specs.Known.{facts_of, parts_view, places_told};
+ghost use Rattle.row_text.specs.Places.{places_view};
 ghost use Rattle.file_listings.specs.Rows.{dos_row, head_line, pro_row, row_line, sum_text};
 
 use crate::dos_text::shown_part;
-use crate::facts::Facts;
+use crate::facts::{KnownFile, KnownParts};
 use crate::style::EntryStyle;
 use file_formats::ListEntry;
 use pro_dates::stamp;
+use reserved_places::PlaceForm;
 use row_text::{
-    CsvHeader, CsvRow, Digested, JsonRow, JsonVolume, LowerHex, Row, ShownBytes, hex_digit,
+    CsvHeader, CsvRow, Digested, JsonRow, JsonVolume, LowerHex, Placed, Row, ShownBytes, hex_digit,
 };
 use std::alloc::Allocator;
 use std::fmt;
@@ -112,13 +115,24 @@ fn letter_text(kind: u8) -> &'static [u8]
     }
 }
 
+// Where the parts of a file stand, as a row tells it.
+fn places_told(form: PlaceForm, parts: KnownParts<'_>) -> Placed<'_>
+    ensures { places_view result ≡ places_told form (parts_view parts.entry) }
+{
+    match parts {
+        KnownParts::Untold => Placed::Untold,
+        KnownParts::Missing => Placed::Missing,
+        KnownParts::Of(parts) => Placed::Of { form, parts },
+    }
+}
+
 /// The row of an entry of a DOS 3.3 volume.
-pub fn dos_row<A: Allocator>(entry: &ListEntry<A>, facts: Facts) -> Row<'_>
-    ensures { row_view result ≡ dos_row entry.now facts }
+pub fn dos_row<'a, A: Allocator>(entry: &'a ListEntry<A>, known: KnownFile<'a>) -> Row<'a>
+    ensures { row_view result ≡ dos_row entry.now (facts_of known.entry) }
 {
     Row {
         access: None,
-        aux: facts.address,
+        aux: known.facts.address,
         created: None,
         directory: false,
         eof: None,
@@ -129,7 +143,8 @@ pub fn dos_row<A: Allocator>(entry: &ListEntry<A>, facts: Facts) -> Row<'_>
         size: entry.size,
         stored: entry.path.as_bytes(),
         type_word: letter_text(entry.kind),
-        digest: facts.digest,
+        digest: known.facts.digest,
+        places: places_told(PlaceForm::Sector, known.parts),
     }
 }
 
@@ -142,14 +157,14 @@ fn type_text(kind: u8) -> [u8; 3]
 
 /// The line of an entry of a ProDOS volume.
 #[derive(Drop)]
-pub struct ProRowLine<'a, A: Allocator> {
+pub struct ProRowLine<'a, 'k, A: Allocator> {
     pub style: EntryStyle,
     pub entry: &'a ListEntry<A>,
-    pub facts: Facts,
+    pub known: KnownFile<'k>,
 }
 
-impl<A: Allocator> fmt::Display for ProRowLine<'_, A> {
-    ghost output = { λ l. Some (row_line l.style (pro_row l.entry.now l.facts)) };
+impl<A: Allocator> fmt::Display for ProRowLine<'_, '_, A> {
+    ghost output = { λ l. Some (row_line l.style (pro_row l.entry.now (facts_of l.known))) };
 
     fn fmt<W: fmt::Write>(&self, f: &mut fmt::Formatter<W>) -> fmt::Result {
         let entry = self.entry;
@@ -167,7 +182,8 @@ impl<A: Allocator> fmt::Display for ProRowLine<'_, A> {
             size: entry.size,
             stored: entry.path.as_bytes(),
             type_word: &type_word,
-            digest: self.facts.digest,
+            digest: self.known.facts.digest,
+            places: places_told(PlaceForm::Block, self.known.parts),
         };
         let line = RowLine {
             style: self.style,

@@ -1,10 +1,11 @@
 // One step of a plan, in words.
-ghost use Rattle.std.specs.Prelude.{◌≡◌, Some};
-ghost use Rattle.file_listings.specs.Steps.{kind_word, step_text};
+ghost use Rattle.std.specs.Prelude.{Some};
+ghost use Rattle.file_listings.specs.Steps.{step_text};
 
 use crate::shown_path::ShownPath;
-use a2_device::{Part, PartKind};
+use a2_device::Part;
 use reserved_places::{PlaceForm, PlaceWord};
+use row_text::kind_word;
 use std::fmt;
 
 /// One move of a plan: the part where it stands before the move, and the place to which it goes.
@@ -12,17 +13,6 @@ use std::fmt;
 pub struct Step {
     pub part: Part,
     pub to: u32,
-}
-
-fn kind_word(kind: PartKind) -> &'static str
-    ensures { result.now ≡ kind_word kind }
-{
-    match kind {
-        PartKind::List => "list",
-        PartKind::Master => "master",
-        PartKind::Index => "index",
-        PartKind::Body => "body",
-    }
 }
 
 /// A step of a plan, with the path of its file, as the directory has it.

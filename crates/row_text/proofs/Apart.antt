@@ -4,9 +4,11 @@ use Rattle.std.specs.Prelude.{⊤, option_map}
 use Rattle.std.proofs.lemmas.Bool.Decides.{nat_tests}
 use Rattle.serde_json.specs.Data.{Data, Members, no_members, member}
 use Rattle.row_text.specs.Laws.{AreBytes, DigestHasBytes, HasBytes, AreAlike}
-use Rattle.row_text.specs.Row.{RowView, number_or_null, text_or_null, with_bytes, with_sha256}
-use Rattle.row_text.specs.Row.{size_on, sha256_on, directory_on, bytes_on, row_members, row_data}
-use Rattle.row_text.specs.Shown.{shown, hex_digit, upper_digit, lower_hex, upper_hex}
+use Rattle.row_text.specs.Row.{RowView, number_or_null, text_or_null, texts_items, with_bytes, with_parts, with_sha256}
+use Rattle.row_text.specs.Row.{size_on, sha256_on, parts_on, directory_on, bytes_on, row_members, row_data}
+use Rattle.row_text.specs.Places.{PlacesView}
+use Rattle.row_text.specs.Places as places
+use Rattle.row_text.specs.Shown.{Text, shown, hex_digit, upper_digit, lower_hex, upper_hex}
 use Rattle.row_text.specs.declared.row.Digested.{Digested}
 use Rattle.row_text.specs.declared.row.Digested.TheVariants.{Untold, Missing, Of}
 
@@ -116,6 +118,34 @@ sha256_apart (Of d) (Of e) ms ns count h k same =
     let bytes = lower_hex_apart d.sha256 e.sha256 h k digits in
     (ap₂ (λ (count : ℕ) (sha256 : List ℕ). Of (record { count = count; sha256 = sha256 })) count bytes, cc)
 
+-- ---- places
+
+texts_apart : (xs ys : List Text) → texts_items xs ≡ texts_items ys → xs ≡ ys
+texts_apart [] [] e = refl
+texts_apart [] (y ∷ ys) e = cc
+texts_apart (x ∷ xs) [] e = cc
+texts_apart (x ∷ xs) (y ∷ ys) e =
+    let first : x ≡ y = cc in
+    let rest : texts_items xs ≡ texts_items ys = cc in
+    ap₂ (λ (text : Text) (texts : List Text). text ∷ texts) first (texts_apart xs ys rest)
+
+parts_differ : (a b : Data) (ms ns : Members) → member (codes "parts") a ms ≡ member (codes "path") b ns → ⊥
+parts_differ a b ms ns e = let k = ap first_key e in cc
+
+places_apart : (p q : PlacesView) (a b : Data) (ms ns : Members)
+    → with_parts p (member (codes "path") a ms) ≡ with_parts q (member (codes "path") b ns) → (p ≡ q) × (a ≡ b) × (ms ≡ ns)
+places_apart places.Untold places.Untold a b ms ns same = (refl, cc, cc)
+places_apart places.Untold places.Missing a b ms ns same = absurd (parts_differ _ _ _ _ (sym same))
+places_apart places.Untold (places.Of ys) a b ms ns same = absurd (parts_differ _ _ _ _ (sym same))
+places_apart places.Missing places.Untold a b ms ns same = absurd (parts_differ _ _ _ _ same)
+places_apart places.Missing places.Missing a b ms ns same = (refl, cc, cc)
+places_apart places.Missing (places.Of ys) a b ms ns same = absurd cc
+places_apart (places.Of xs) places.Untold a b ms ns same = absurd (parts_differ _ _ _ _ same)
+places_apart (places.Of xs) places.Missing a b ms ns same = absurd cc
+places_apart (places.Of xs) (places.Of ys) a b ms ns same =
+    let items : texts_items xs ≡ texts_items ys = cc in
+    (ap places.Of (texts_apart xs ys items), cc, cc)
+
 -- ---- rows
 
 pub rows_apart : (r s : RowView) → HasBytes r → HasBytes s → row_data r ≡ row_data s → AreAlike r s
@@ -131,8 +161,11 @@ rows_apart r s h k same =
     let kind : r.kind ≡ s.kind = cc in
     let locked : r.locked ≡ s.locked = cc in
     let modified : text_or_null r.modified ≡ text_or_null s.modified = cc in
+    let parts : parts_on r ≡ parts_on s = cc in
+    let told = places_apart r.places s.places _ _ _ _ parts in
+    let path_value = told.1 in
     let path : map shown r.path ≡ map shown s.path = cc in
-    let digests : sha256_on r ≡ sha256_on s = cc in
+    let digests : sha256_on r ≡ sha256_on s = told.2 in
     let last = sha256_apart r.digest s.digest (size_on r) (size_on s) counts.0 h.digest k.digest digests in
     let sizes : size_on r ≡ size_on s = last.1 in
     let size : r.size ≡ s.size = cc in
@@ -152,4 +185,5 @@ rows_apart r s h k same =
       stored = upper_hex_apart r.stored s.stored h.stored k.stored digits;
       type_word = type_word;
       digest = last.0;
+      places = told.0;
     }

@@ -7,17 +7,29 @@ use Rattle.std.proofs.lemmas.Bool.{and_parts}
 use Rattle.json.specs.Json.{Json, value, if_last}
 use Rattle.json.specs.Lex.{tokens}
 use Rattle.json.specs.Token.{Token}
-use Rattle.json.specs.Tree.{json_tokens, HasNumbers, MembersHaveNumbers, depth, members_depth}
+use Rattle.json.specs.Tree.{json_tokens, HasNumbers, ItemsHaveNumbers, MembersHaveNumbers, depth, items_depth, members_depth}
 use Rattle.json.proofs.Printed.Decimals.{IsNumber-decimal}
 use Rattle.json.proofs.Printed.Tokens.{tokens-print}
 use Rattle.json.proofs.Printed.Trees.{ArePrintable-json_tokens, value-json_tokens}
-use Rattle.serde_json.specs.Data.{Data, unsigned, negative, float, null, boolean, number, string, array, object, Members, no_members, member, put}
-use Rattle.serde_json.specs.Read.{read, of_json, of_members, max_depth}
-use Rattle.serde_json.specs.Written.{compact_text, outline, members_outline}
+use Rattle.serde_json.specs.Data.{Data, unsigned, negative, float, null, boolean, number, string, array, object, Items, no_items, item, Members, no_members, member, put}
+use Rattle.serde_json.specs.Read.{read, of_json, of_items, of_members, max_depth}
+use Rattle.serde_json.specs.Written.{compact_text, outline, items_outline, members_outline}
 use Rattle.serde_json.proofs.Texts.{print-outline}
 use Rattle.serde_json.proofs.Numbers.{number_of-decimal}
 
--- null, a flag, a text, or a number that fits 64 bits
+abbrev pub IsText : Data → Type 0
+IsText null = ⊥
+IsText (boolean b) = ⊥
+IsText (number n) = ⊥
+IsText (string s) = ⊤
+IsText (array ds) = ⊥
+IsText (object ms) = ⊥
+
+abbrev pub AreTexts : Items → Type 0
+AreTexts no_items = ⊤
+AreTexts (item d ds) = IsText d × AreTexts ds
+
+-- null, a flag, a text, a list of texts, or a number that fits 64 bits
 abbrev pub IsFlat : Data → Type 0
 IsFlat null = ⊤
 IsFlat (boolean b) = ⊤
@@ -25,12 +37,21 @@ IsFlat (number (unsigned n)) = n < 2 ^ 64
 IsFlat (number (negative z)) = ⊥
 IsFlat (number (float x)) = ⊥
 IsFlat (string s) = ⊤
-IsFlat (array ds) = ⊥
+IsFlat (array ds) = AreTexts ds
 IsFlat (object ms) = ⊥
 
 abbrev pub AreFlat : Members → Type 0
 AreFlat no_members = ⊤
 AreFlat (member k d ms) = IsFlat d × AreFlat ms
+
+texts_numbers : (ds : Items) → AreTexts ds → ItemsHaveNumbers (items_outline ds)
+texts_numbers no_items h = tt
+texts_numbers (item null ds) h = absurd h.0
+texts_numbers (item (boolean b) ds) h = absurd h.0
+texts_numbers (item (number n) ds) h = absurd h.0
+texts_numbers (item (string s) ds) h = (tt, texts_numbers ds h.1)
+texts_numbers (item (array es) ds) h = absurd h.0
+texts_numbers (item (object ms) ds) h = absurd h.0
 
 value_numbers : (d : Data) → IsFlat d → HasNumbers (outline d)
 value_numbers null h = tt
@@ -39,24 +60,42 @@ value_numbers (number (unsigned n)) h = IsNumber-decimal n h
 value_numbers (number (negative z)) h = absurd h
 value_numbers (number (float x)) h = absurd h
 value_numbers (string s) h = tt
-value_numbers (array ds) h = absurd h
+value_numbers (array ds) h = texts_numbers ds h
 value_numbers (object ms) h = absurd h
 
 members_numbers : (ms : Members) → AreFlat ms → MembersHaveNumbers (members_outline ms)
 members_numbers no_members h = tt
 members_numbers (member k d ms) h = (value_numbers d h.0, members_numbers ms h.1)
 
-value_depth : (d : Data) → IsFlat d → depth (outline d) ≡ 0
-value_depth null h = refl
-value_depth (boolean b) h = refl
-value_depth (number n) h = refl
-value_depth (string s) h = refl
-value_depth (array ds) h = absurd h
+texts_depth : (ds : Items) → AreTexts ds → items_depth (items_outline ds) ≡ 0
+texts_depth no_items h = refl
+texts_depth (item null ds) h = absurd h.0
+texts_depth (item (boolean b) ds) h = absurd h.0
+texts_depth (item (number n) ds) h = absurd h.0
+texts_depth (item (string s) ds) h = omega (arith, texts_depth ds h.1)
+texts_depth (item (array es) ds) h = absurd h.0
+texts_depth (item (object ms) ds) h = absurd h.0
+
+value_depth : (d : Data) → IsFlat d → depth (outline d) ≤ 1
+value_depth null h = omega arith
+value_depth (boolean b) h = omega arith
+value_depth (number n) h = omega arith
+value_depth (string s) h = omega arith
+value_depth (array ds) h = omega (arith, texts_depth ds h)
 value_depth (object ms) h = absurd h
 
-members_shallow : (ms : Members) → AreFlat ms → members_depth (members_outline ms) ≡ 0
-members_shallow no_members h = refl
+members_shallow : (ms : Members) → AreFlat ms → members_depth (members_outline ms) ≤ 1
+members_shallow no_members h = omega arith
 members_shallow (member k d ms) h = omega (arith, value_depth d h.0, members_shallow ms h.1)
+
+texts_read : (ds : Items) → AreTexts ds → of_items (items_outline ds) ≡ Some ds
+texts_read no_items h = refl
+texts_read (item null ds) h = absurd h.0
+texts_read (item (boolean b) ds) h = absurd h.0
+texts_read (item (number n) ds) h = absurd h.0
+texts_read (item (string s) ds) h = ap (option_map (item (string s))) (texts_read ds h.1)
+texts_read (item (array es) ds) h = absurd h.0
+texts_read (item (object ms) ds) h = absurd h.0
 
 value_read : (d : Data) → IsFlat d → of_json (outline d) ≡ Some d
 value_read null h = refl
@@ -65,7 +104,7 @@ value_read (number (unsigned n)) h = ap (option_map number) (number_of-decimal n
 value_read (number (negative z)) h = absurd h
 value_read (number (float x)) h = absurd h
 value_read (string s) h = refl
-value_read (array ds) h = absurd h
+value_read (array ds) h = ap (option_map array) (texts_read ds h)
 value_read (object ms) h = absurd h
 
 -- ---- keys that rise

@@ -4,3 +4,4 @@ pub mod Reading
 pub mod Apart
 pub mod OneLine
 mod WorkedLines
+pub mod Parts

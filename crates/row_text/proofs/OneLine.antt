@@ -8,8 +8,9 @@ use Rattle.std.proofs.lemmas.Bool.Decides.{nat_tests}
 use Rattle.std.proofs.lemmas.List.Elements.{All-nil, All-cons}
 use Rattle.json.specs.Print.{escape, escape_byte, escape_letter, quoted}
 use Rattle.serde_json.specs.Data.{Data, unsigned, negative, float, null, boolean, number, string, array, object}
+use Rattle.serde_json.specs.Data.{Items, no_items, item}
 use Rattle.serde_json.specs.Data.{Members, no_members, member}
-use Rattle.serde_json.specs.Written.{compact_text, members_text, comma_if}
+use Rattle.serde_json.specs.Written.{compact_text, items_text, members_text, comma_if}
 use Rattle.row_text.specs.Csv.{after_commas, csv_fields, csv_header, csv_row, digest_fields, doubled, flag_word}
 use Rattle.row_text.specs.Csv.{csv_quoted, number_or_empty, text_or_empty}
 use Rattle.row_text.specs.Laws.{FitsIfTold, CountFits, IsOneLine, RowFits, VolumeFits}
@@ -18,7 +19,7 @@ use Rattle.row_text.specs.Shown.{Text, hex_digit, lower_pair, shown}
 use Rattle.row_text.specs.declared.row.Digested.{Digested}
 use Rattle.row_text.specs.declared.row.Digested.TheVariants.{Untold, Missing, Of}
 use Rattle.row_text.proofs.Plain.{ArePlain, plain_decimal}
-use Rattle.row_text.proofs.Flat.{IsFlat, AreFlat}
+use Rattle.row_text.proofs.Flat.{AreTexts, IsFlat, AreFlat}
 use Rattle.row_text.proofs.Reading.{flat_row, flat_volume}
 
 -- as a test, which computes on a text that is written out
@@ -97,6 +98,20 @@ escaped x =
 quoted_line : (s : Text) → one_line (quoted s) ≡ true
 quoted_line s = append (escape s) (34 ∷ []) (each escape_byte escaped s) refl
 
+comma_line : (later : Bool) → one_line (comma_if later) ≡ true
+comma_line true = refl
+comma_line false = refl
+
+texts_line : (later : Bool) (ds : Items) → AreTexts ds → one_line (items_text later ds) ≡ true
+texts_line later no_items h = refl
+texts_line later (item null ds) h = absurd h.0
+texts_line later (item (boolean b) ds) h = absurd h.0
+texts_line later (item (number n) ds) h = absurd h.0
+texts_line later (item (string s) ds) h =
+    append (comma_if later) _ (comma_line later) (append (quoted s) _ (quoted_line s) (texts_line true ds h.1))
+texts_line later (item (array es) ds) h = absurd h.0
+texts_line later (item (object ms) ds) h = absurd h.0
+
 value_line : (d : Data) → IsFlat d → one_line (compact_text d) ≡ true
 value_line null h = refl
 value_line (boolean true) h = refl
@@ -105,12 +120,8 @@ value_line (number (unsigned n)) h = number_line n h
 value_line (number (negative z)) h = absurd h
 value_line (number (float x)) h = absurd h
 value_line (string s) h = quoted_line s
-value_line (array ds) h = absurd h
+value_line (array ds) h = texts_line false ds h
 value_line (object ms) h = absurd h
-
-comma_line : (later : Bool) → one_line (comma_if later) ≡ true
-comma_line true = refl
-comma_line false = refl
 
 members_line : (later : Bool) (ms : Members) → AreFlat ms → one_line (members_text later ms) ≡ true
 members_line later no_members h = refl

@@ -2,9 +2,13 @@
 use Rattle.std.proofs.Common.{◌≡◌, ℕ, refl, true, false, List, [], ◌∷◌, Some, None, codes, replicate}
 use Rattle.std.specs.Fmt.{digits}
 use Rattle.json.specs.Print.{escape_byte}
+use Rattle.a2_device.specs.declared.part.PartKind.TheVariants.{List as IsList, Index as IsIndex}
+use Rattle.reserved_places.specs.declared.form.PlaceForm.TheVariants.{Sector, Block}
 use Rattle.serde_json.specs.Written.{compact_text}
 use Rattle.row_text.specs.Csv.{csv_row, csv_header}
 use Rattle.row_text.specs.Row.{RowView, row_data, volume_data}
+use Rattle.row_text.specs.Places.{part_text}
+use Rattle.row_text.specs.Places as places
 use Rattle.row_text.specs.declared.row.Digested.TheVariants.{Untold, Missing, Of}
 use Rattle.row_text.specs.declared.volume.FileSystem.TheVariants.{Prodos}
 
@@ -29,6 +33,7 @@ hello = record {
   stored = 0xc8 ∷ 0xc5 ∷ 0xcc ∷ 0xcc ∷ 0xcf ∷ replicate 25 0xa0;
   type_word = codes "B";
   digest = Of (record { count = 3; sha256 = sha256 });
+  places = places.Of (codes "list 0 3/15" ∷ codes "body 0 3/14" ∷ []);
 }
 
 -- a directory of ProDOS
@@ -47,6 +52,7 @@ sub = record {
   stored = codes "SUB";
   type_word = codes "$0f";
   digest = Missing;
+  places = places.Missing;
 }
 
 -- a name with a quotation mark and a backslash
@@ -65,13 +71,14 @@ odd = record {
   stored = [];
   type_word = codes "T";
   digest = Untold;
+  places = places.Untold;
 }
 
-hello_line : compact_text (row_data hello) ≡ codes "{\"access\":null,\"aux\":768,\"bytes\":3,\"created\":null,\"directory\":false,\"eof\":null,\"kind\":4,\"locked\":true,\"modified\":null,\"path\":\"HELLO\",\"sha256\":\"34831b59f82b9703e0c7f9a85eb844b64d755aa7a58150a3debd249f82c76324\",\"size\":2,\"stored\":\"C8C5CCCCCFA0A0A0A0A0A0A0A0A0A0A0A0A0A0A0A0A0A0A0A0A0A0A0A0A0\",\"type\":\"B\"}"
+hello_line : compact_text (row_data hello) ≡ codes "{\"access\":null,\"aux\":768,\"bytes\":3,\"created\":null,\"directory\":false,\"eof\":null,\"kind\":4,\"locked\":true,\"modified\":null,\"parts\":[\"list 0 3/15\",\"body 0 3/14\"],\"path\":\"HELLO\",\"sha256\":\"34831b59f82b9703e0c7f9a85eb844b64d755aa7a58150a3debd249f82c76324\",\"size\":2,\"stored\":\"C8C5CCCCCFA0A0A0A0A0A0A0A0A0A0A0A0A0A0A0A0A0A0A0A0A0A0A0A0A0\",\"type\":\"B\"}"
 unfolding digits escape_byte hello sha256
 hello_line = refl
 
-sub_line : compact_text (row_data sub) ≡ codes "{\"access\":227,\"aux\":0,\"bytes\":null,\"created\":\"1986-05-01T12:30\",\"directory\":true,\"eof\":512,\"kind\":15,\"locked\":false,\"modified\":\"1986-05-01T12:30\",\"path\":\"SUB\",\"sha256\":null,\"size\":1,\"stored\":\"535542\",\"type\":\"$0f\"}"
+sub_line : compact_text (row_data sub) ≡ codes "{\"access\":227,\"aux\":0,\"bytes\":null,\"created\":\"1986-05-01T12:30\",\"directory\":true,\"eof\":512,\"kind\":15,\"locked\":false,\"modified\":\"1986-05-01T12:30\",\"parts\":null,\"path\":\"SUB\",\"sha256\":null,\"size\":1,\"stored\":\"535542\",\"type\":\"$0f\"}"
 unfolding digits escape_byte sub
 sub_line = refl
 
@@ -100,3 +107,11 @@ header_csv = refl
 
 long_header_csv : csv_header true ≡ codes "path,directory,type,kind,aux,access,locked,size,eof,created,modified,bytes,sha256"
 long_header_csv = refl
+
+sector_part : part_text Sector (record { file = 7; kind = IsList; number = 0; place = 63 }) ≡ codes "list 0 3/15"
+unfolding digits
+sector_part = refl
+
+block_part : part_text Block (record { file = 0; kind = IsIndex; number = 2; place = 8 }) ≡ codes "index 2 block 8"
+unfolding digits
+block_part = refl

@@ -69,3 +69,4 @@ pub record AreAlike (r s : RowView) : Type 0 where
   pub stored : r.stored ≡ s.stored
   pub type_word : map shown r.type_word ≡ map shown s.type_word
   pub digest : r.digest ≡ s.digest
+  pub places : r.places ≡ s.places

@@ -1,4 +1,5 @@
 pub mod Shown
+pub mod Places
 pub mod Row
 pub mod Csv
 pub mod Laws

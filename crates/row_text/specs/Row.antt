@@ -1,7 +1,9 @@
 -- The rows of a listing as values of JSON: an object for the volume, and one for each entry.
-use Rattle.std.specs.Prelude.{ℕ, Bool, List, Option, Some, None, map, codes, decimal}
-use Rattle.serde_json.specs.Data.{Data, unsigned, null, boolean, number, string, object, Members, no_members, member}
+use Rattle.std.specs.Prelude.{ℕ, Bool, List, [], ◌∷◌, Option, Some, None, map, codes, decimal}
+use Rattle.serde_json.specs.Data.{Data, unsigned, null, boolean, number, string, array, object, Items, no_items, item, Members, no_members, member}
 use Rattle.row_text.specs.Shown.{Text, shown, lower_hex, upper_hex}
+use Rattle.row_text.specs.Places.{PlacesView, places_view}
+use Rattle.row_text.specs.Places as places
 use Rattle.row_text.specs.declared.row.Digested.{Digested}
 use Rattle.row_text.specs.declared.row.Digested.TheVariants.{Untold, Missing, Of}
 use Rattle.row_text.specs.declared.row.Row.{Row}
@@ -26,6 +28,7 @@ pub record RowView : Type 0 where
   pub stored : List ℕ
   pub type_word : List ℕ
   pub digest : Digested
+  pub places : PlacesView
 
 abbrev pub row_view : Row → RowView
 row_view r = record {
@@ -42,6 +45,7 @@ row_view r = record {
   stored = r.stored.now;
   type_word = r.type_word.now;
   digest = r.digest;
+  places = places_view r.places;
 }
 
 -- ---- values
@@ -60,6 +64,14 @@ text_value bytes = string (map shown bytes)
 abbrev pub text_or_null : Option (List ℕ) → Data
 text_or_null None = null
 text_or_null (Some bytes) = text_value bytes
+
+-- texts, as a list of strings
+abbrev pub texts_items : List Text → Items
+texts_items [] = no_items
+texts_items (text ∷ texts) = item (string text) (texts_items texts)
+
+abbrev pub texts_value : List Text → Data
+texts_value texts = array (texts_items texts)
 
 -- ---- an entry: its members, in rising order of their keys, and for each key those from it on
 
@@ -80,10 +92,19 @@ sha256_on r = with_sha256 r.digest (size_on r)
 abbrev pub path_on : RowView → Members
 path_on r = member (codes "path") (text_value r.path) (sha256_on r)
 
+-- where places are told, the parts of the file, or null of an entry whose parts are not known
+abbrev pub with_parts : PlacesView → Members → Members
+with_parts places.Untold more = more
+with_parts places.Missing more = member (codes "parts") null more
+with_parts (places.Of texts) more = member (codes "parts") (texts_value texts) more
+
+abbrev pub parts_on : RowView → Members
+parts_on r = with_parts r.places (path_on r)
+
 abbrev pub kind_on : RowView → Members
 kind_on r = member (codes "kind") (number_value r.kind)
     (member (codes "locked") (boolean r.locked)
-    (member (codes "modified") (text_or_null r.modified) (path_on r)))
+    (member (codes "modified") (text_or_null r.modified) (parts_on r)))
 
 abbrev pub directory_on : RowView → Members
 directory_on r = member (codes "directory") (boolean r.directory)

@@ -3,10 +3,12 @@
 // Each part below is that of the members from one key on, with the closing brace behind them.
 ghost use Rattle.std.specs.Prelude.{Some, true};
 ghost use Rattle.serde_json.specs.Written.{compact_text, members_text};
-ghost use Rattle.row_text.specs.Row.{bytes_on, created_on, directory_on, kind_on, path_on};
+ghost use Rattle.row_text.specs.Row.{bytes_on, created_on, directory_on, kind_on, parts_on, path_on};
 ghost use Rattle.row_text.specs.Row.{row_data, row_view, sha256_on, size_on};
 
+use crate::json_parts::PartsList;
 use crate::json_text::{JsonText, LowerString, NumberOrNull, TextOrNull, UpperString};
+use crate::places::Placed;
 use crate::row::{Digested, Row};
 use crate::wide::{wide_byte, wide_word};
 use std::fmt;
@@ -63,6 +65,27 @@ impl fmt::Display for PathOn<'_> {
     }
 }
 
+// The members from `parts` on.
+#[derive(Clone, Copy)]
+struct PartsOn<'a>(&'a Row<'a>);
+
+impl fmt::Display for PartsOn<'_> {
+    ghost output = { λ r. Some (members_text true (parts_on (row_view r.0.now))) };
+
+    #[tactic(auto, unfolding(json::specs::Print::escape_byte))]
+    fn fmt<W: fmt::Write>(&self, f: &mut fmt::Formatter<W>) -> fmt::Result {
+        let path_on = PathOn(self.0);
+        match self.0.places {
+            Placed::Untold => write!(f, "{path_on}"),
+            Placed::Missing => write!(f, ",\"parts\":null{path_on}"),
+            Placed::Of { form, parts } => {
+                let parts = PartsList { form, parts };
+                write!(f, ",\"parts\":{parts}{path_on}")
+            }
+        }
+    }
+}
+
 // The members from `kind` on.
 #[derive(Clone, Copy)]
 struct KindOn<'a>(&'a Row<'a>);
@@ -75,10 +98,10 @@ impl fmt::Display for KindOn<'_> {
         let kind = self.0.kind;
         let locked = self.0.locked;
         let modified = TextOrNull(&self.0.modified);
-        let path_on = PathOn(self.0);
+        let parts_on = PartsOn(self.0);
         write!(
             f,
-            ",\"kind\":{kind},\"locked\":{locked},\"modified\":{modified}{path_on}"
+            ",\"kind\":{kind},\"locked\":{locked},\"modified\":{modified}{parts_on}"
         )
     }
 }

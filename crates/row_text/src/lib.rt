@@ -5,7 +5,8 @@
 //! (`JsonRow`) is the compact text of one value, `row_data`: an object whose keys rise, so that
 //! the line reads back as that value (`a_line_reads_back`). The line of CSV (`CsvRow`) has the
 //! same fields in an order of its own (`specs/Csv.antt`). The first line of JSON tells the volume
-//! (`JsonVolume`), that of CSV the names of the fields (`CsvHeader`).
+//! (`JsonVolume`), that of CSV the names of the fields (`CsvHeader`). Where the places of a file are
+//! told (`Placed`, `specs/Places.antt`), the parts of an entry are a list of texts in its JSON.
 //!
 //! A name on a disk may have any byte in it. Each byte is shown as a character that prints
 //! (`specs/Shown.antt`), so names that differ may be shown alike; `stored` has the bytes
@@ -16,9 +17,11 @@
 #![tactic(auto)]
 
 mod csv;
+mod json_parts;
 mod json_row;
 mod json_text;
 mod law;
+mod places;
 mod row;
 mod shown;
 mod volume;
@@ -27,6 +30,7 @@ mod wide;
 pub use csv::{CsvHeader, CsvRow};
 pub use json_row::JsonRow;
 pub use law::{a_line_has_no_end_within, a_line_reads_back, a_row_tells_entries_apart};
+pub use places::{Placed, kind_word};
 pub use row::{Digest, Digested, Row};
 pub use shown::{LowerHex, ShownBytes, UpperHex, hex_digit, shown_byte};
 pub use volume::{FileSystem, JsonVolume, VolumeName};

@@ -1,5 +1,7 @@
 // What is told of an entry of a volume.
 
+use crate::places::Placed;
+
 /// What is told of the contents of a file: how many bytes, and their SHA-256.
 #[derive(Clone, Copy, Debug, PartialEq, Eq)]
 pub struct Digest {
@@ -44,4 +46,5 @@ pub struct Row<'a> {
     /// The word for its kind.
     pub type_word: &'a [u8],
     pub digest: Digested,
+    pub places: Placed<'a>,
 }

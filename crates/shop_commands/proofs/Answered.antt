@@ -5,14 +5,12 @@ use Rattle.std.proofs.lemmas.Option.{same_Some}
 use Rattle.std.specs.Io.KnownBytes.{Appends, Keeps}
 use Rattle.std.specs.Prelude.{◌⊎◌, Option, Some, None, IfSome, codes}
 use Rattle.a2_device.specs.declared.order.Order.{Order}
-use Rattle.a2_device.specs.Device.{DeviceState}
 use Rattle.given_file.specs.Content.{GivenView, most_input}
-use Rattle.shop_jobs.specs.Job.{AskView, AttributesView, ChangeOf, ChangeView, Convert, EditOf, EditView, Identify, JobView, LookAt, Optimize, Save}
+use Rattle.shop_jobs.specs.Job.{AskView, AttributesView, ChangeOf, ChangeView, Convert, EditOf, EditView, Identify, JobView, LookAt, Catalog, Entries, Check, Map, Compare, Read, Plan, Verify, Optimize, Save}
 use Rattle.shop_jobs.specs.Paths.{from_of, is_in_place}
 use Rattle.shop_jobs.specs.declared.job.FileSystem.{FileSystem}
 use Rattle.shop_jobs.specs.declared.job.VolumeOptions.{VolumeOptions}
-use Rattle.shop_words.specs.Job.{asked_job, IsTaken}
-use Rattle.shop_words.specs.Fault.{IsFaultOf}
+use Rattle.shop_words.specs.Job.{asked_job}
 use Rattle.shop_words.specs.declared.fault.WordsFault.{WordsFault}
 use Rattle.shop_words.specs.declared.fault.WordsFault.TheVariants as words
 use Rattle.shop_replies.specs.declared.refusal.Failure.{Failure}
@@ -21,13 +19,12 @@ use Rattle.shop_replies.specs.declared.reply.Reply.{Reply}
 use Rattle.shop_replies.specs.declared.reply.Status.{Status}
 use Rattle.shop_replies.specs.declared.reply.Told.{Told}
 use Rattle.shop_replies.specs.Disk.{most_bytes}
-use Rattle.shop_replies.specs.Reply.{HandsOut, Held, IsDelivered, IsMade, IsMadeReply, failed, held, refused, status_number, told_text}
+use Rattle.shop_replies.specs.Reply.{HandsOut, Held, IsDelivered, IsMade, IsMadeReply, held, refused, status_number, told_text}
 use Rattle.shop_replies.proofs.Fronts.{convert-whole}
 use Rattle.shop_replies.proofs.NotMade.{converted_image, refused_not_made}
 use Rattle.file_formats.specs.FileNames.{FileNameView}
 use Rattle.shop_reads.specs.FileNames.{named_by}
 use Rattle.shop_reads.specs.Look.{IsLookReply, shown_by}
-use Rattle.shop_reads.specs.VerifyReply.{most_certificate}
 use Rattle.shop_reads.proofs.Fronts.{look-take}
 use Rattle.shop_reads.proofs.NotMade.{look_not_made}
 use Rattle.shop_changes.specs.EditRules.{changed_by}
@@ -36,11 +33,12 @@ use Rattle.shop_changes.specs.Work as works
 use Rattle.shop_image.specs.ChangeReply.{IsChangeReply}
 use Rattle.shop_image.specs.VolumeReply.{IsVolumeReply}
 use Rattle.shop_image.proofs.Fronts.{saved-take, volume-told, volume-whole, with_given_bytes}
-use Rattle.shop_image.proofs.NotMade.{edited_image, saved_image, volume_made, volume_not_made}
+use Rattle.shop_image.proofs.NotMade.{edited_image, saved_image, sided_made, volume_made, volume_not_made}
 use Rattle.image_readings.proofs.Fronts.{identify-whole}
 use Rattle.image_readings.proofs.NotMade.{identify_not_made}
-use Rattle.shop_replies.specs.Reading.{IsReadFailure}
-use Rattle.shop_commands.specs.Answer.{AreToldNoJob, AsksFor, HandsOutFor, IsAnswer, IsCommandAnswer, IsGiven, IsInPlaceAnswer, IsReplyToBytes, IsWordsAnswer, MakesImage, RefusesWords, TellsNoJob, beside, image_order_of}
+use Rattle.shop_replies.specs.Reading.{IsReadFailure, most_beside}
+use Rattle.shop_replies.specs.declared.refusal.Side.{Side}
+use Rattle.shop_commands.specs.Answer.{AreToldNoJob, AsksFor, HandsOutFor, IsAnswer, IsCommandAnswer, IsGiven, IsInPlaceAnswer, IsReplyToBytes, IsWordsAnswer, MakesImage, TellsNoJob, beside, image_order_of, unread_reply}
 
 -- what is told of the work of a change
 abbrev IsWorkTold : VolumeOptions → Option (List ℕ) → List ℕ → WorkView → Reply → Type 0
@@ -77,15 +75,18 @@ abbrev pub front_for : AskView → List ℕ → List ℕ
 front_for ask image = take (most_bytes (image_order_of ask) + 1) image
 
 -- the reply to the bytes that were read is the reply to all
-reply-whole : (ask : AskView) (image more bytes : List ℕ) (reply : Reply) → more ≡ take (most_certificate + 1) bytes
+reply-whole : (ask : AskView) (image more bytes : List ℕ) (reply : Reply) → more ≡ take (most_beside ask + 1) bytes
     → IsReplyToBytes ask (front_for ask image) more reply → IsReplyToBytes ask image bytes reply
 reply-whole Identify image more bytes reply taken is = identify-whole image reply is
 reply-whole (Convert words) image more bytes reply taken is = convert-whole words.order words.to words.volume image reply is
-reply-whole (LookAt volume reserve look) image more bytes reply taken is =
-    volume-told volume reserve image (λ (reserved : List Bool). IsLookReply look more (shown_by volume reserved))
-    (λ (reserved : List Bool). IsLookReply look bytes (shown_by volume reserved)) reply
-    (λ reserved device told. look-take look more bytes (shown_by volume reserved) device reply taken told)
-    (volume-whole volume reserve image (λ (reserved : List Bool). IsLookReply look more (shown_by volume reserved)) reply is)
+reply-whole (LookAt volume reserve look) image more bytes reply taken looked = record {
+  plain = looked.plain;
+  is = volume-told volume reserve image (λ (reserved : List Bool). IsLookReply look more (shown_by volume reserved))
+      (λ (reserved : List Bool). IsLookReply look bytes (shown_by volume reserved)) looked.plain
+      (λ reserved device told. look-take look more bytes (shown_by volume reserved) device looked.plain taken told)
+      (volume-whole volume reserve image (λ (reserved : List Bool). IsLookReply look more (shown_by volume reserved)) looked.plain looked.is);
+  told = looked.told;
+}
 reply-whole (ChangeOf volume reserve change target) image more bytes reply taken (inl refused) = inl refused
 reply-whole (ChangeOf volume reserve change target) image more bytes reply taken (inr (work, asks, told)) =
     inr (asked-whole volume reserve image change more bytes reply taken work asks
@@ -97,7 +98,7 @@ if_known (Some bytes) each is = each bytes is
 
 pub job_answered : (ask : AskView) (known extra : Option (List ℕ)) (order : Order) (front more : List ℕ) (reply : Reply) (status : ℕ) (old new : Held)
     → is_in_place ask ≡ false → order ≡ image_order_of ask → IfSome known (λ image. front ≡ take (most_bytes order + 1) image)
-    → IfSome (beside (from_of ask) extra) (λ bytes. more ≡ take (most_certificate + 1) bytes) → IsReplyToBytes ask front more reply
+    → IfSome (beside (from_of ask) extra) (λ bytes. more ≡ take (most_beside ask + 1) bytes) → IsReplyToBytes ask front more reply
     → IsDelivered reply status old new → IfSome known (λ image. IsAnswer ask image extra status old new)
 job_answered ask None extra order front more reply status old new outside same taken taken' is told = tt
 job_answered ask (Some image) extra order front more reply status old new outside same taken taken' is told =
@@ -112,23 +113,39 @@ placed_answered ask None extra status old new placed told = tt
 placed_answered ask (Some image) extra status old new placed told = (refused refusals.InPlace, inl (inl (placed, refl)), told)
 
 -- a job whose bytes could not be read
-pub unread_answered : (ask : AskView) (known extra : Option (List ℕ)) (failure : Failure) (status : ℕ) (old new : Held) → is_in_place ask ≡ false → IsReadFailure failure
-    → IsDelivered (failed failure) status old new → IfSome known (λ image. IsAnswer ask image extra status old new)
-unread_answered ask None extra failure status old new outside is told = tt
-unread_answered ask (Some image) extra failure status old new outside is told = (failed failure, inr (outside, (failure, is, refl)), told)
+pub unread_answered : (ask : AskView) (known extra : Option (List ℕ)) (side : Side) (failure : Failure) (reply : Reply) (status : ℕ) (old new : Held)
+    → is_in_place ask ≡ false → IsReadFailure failure → reply ≡ unread_reply ask side failure
+    → IsDelivered reply status old new → IfSome known (λ image. IsAnswer ask image extra status old new)
+unread_answered ask None extra side failure reply status old new outside is same told = tt
+unread_answered ask (Some image) extra side failure reply status old new outside is same told = (reply, inr (outside, (failure, side, is, same)), told)
 
 -- and it hands nothing out
-pub none_handed : {O P : Type 0} (failure : Failure) (old new : O) (status : ℕ) (text_old text_new : Option (List ℕ))
-    → (new ≡ old) ⊎ (IsMade (failed failure) × HandsOut (failed failure) status text_old text_new) → (new ≡ old) ⊎ P
-none_handed failure old new status text_old text_new handed = ⊎_elim inl (λ made. absurd (false≢true made.0)) handed
+unread_not_made : (ask : AskView) (side : Side) (failure : Failure) → ¬ IsMade (unread_reply ask side failure)
+unread_not_made (LookAt volume reserve Catalog) side failure made = false≢true made
+unread_not_made (LookAt volume reserve (Entries options)) side failure made = false≢true made
+unread_not_made (LookAt volume reserve (Check bodies)) side failure made = false≢true made
+unread_not_made (LookAt volume reserve Map) side failure made = false≢true made
+unread_not_made (LookAt volume reserve (Compare other options)) side failure made = false≢true made
+unread_not_made (LookAt volume reserve (Read name whole)) side failure made = false≢true made
+unread_not_made (LookAt volume reserve (Plan reclaim in_words)) side failure made = false≢true made
+unread_not_made (LookAt volume reserve (Verify from reclaim)) side failure made = false≢true made
+unread_not_made (ChangeOf volume reserve change target) side failure made = false≢true made
+unread_not_made (Convert words) side failure made = false≢true made
+unread_not_made Identify side failure made = false≢true made
+
+pub none_handed : {O P : Type 0} (ask : AskView) (side : Side) (failure : Failure) (reply : Reply) (old new : O) (status : ℕ) (text_old text_new : Option (List ℕ))
+    → reply ≡ unread_reply ask side failure → (new ≡ old) ⊎ (IsMade reply × HandsOut reply status text_old text_new) → (new ≡ old) ⊎ P
+none_handed ask side failure reply old new status text_old text_new same handed =
+    ⊎_elim inl (λ made. absurd (unread_not_made ask side failure (subst (λ (r : Reply). IsMade r) same made.0))) handed
 
 -- only a job that makes an image has a reply with one
 makes_image : (ask : AskView) (image more : List ℕ) (reply : Reply) → is_in_place ask ≡ false → IsReplyToBytes ask image more reply → IsMade reply → MakesImage ask
 makes_image Identify image more reply outside is made = absurd (identify_not_made image reply is made)
 makes_image (Convert words) image more reply outside is made = tt
-makes_image (LookAt volume reserve look) image more reply outside is made =
-    absurd (volume_not_made volume reserve image (λ (reserved : List Bool). IsLookReply look more (shown_by volume reserved)) reply
-    (λ reserved device. look_not_made look more (shown_by volume reserved) device reply) is made)
+makes_image (LookAt volume reserve look) image more reply outside looked made =
+    absurd (volume_not_made volume reserve image (λ (reserved : List Bool). IsLookReply look more (shown_by volume reserved)) looked.plain
+    (λ reserved device. look_not_made look more (shown_by volume reserved) device looked.plain) looked.is
+    (sided_made look looked.plain (subst (λ (r : Reply). IsMade r) looked.told made)))
 makes_image (ChangeOf volume reserve change target) image more reply outside is made = outside
 
 -- an edit that makes an image answers with it, and hands it out with `OK`

@@ -1,8 +1,10 @@
 -- What is told of a job that lists a DOS 3.3 disk, in the words of its format.
-use Rattle.std.proofs.Common.{◌≡◌, ◌⊎◌, ℕ, List, [], true, false, inl, inr, ⊎_elim}
+use Rattle.std.proofs.Common.{◌≡◌, ◌⊎◌, ℕ, List, [], true, false, inl, inr, subst, sym, ⊎_elim}
 use Rattle.std.specs.Prelude.{Option, Some, None, IfSome}
-use Rattle.shop_jobs.specs.Job.{AskView, Catalog, ChangeOf, Check, Convert, Entries, Identify, LookAt, Map, Plan, Read, Verify}
+use Rattle.shop_jobs.specs.Job.{AskView, Catalog, ChangeOf, Check, Compare, Convert, Entries, Identify, LookAt, Map, Plan, Read, Verify}
+use Rattle.shop_replies.specs.declared.reply.Reply.{Reply}
 use Rattle.shop_replies.specs.Reply.{Held}
+use Rattle.shop_image.specs.DosCatalogReply.{IsDosCatalogReply}
 use Rattle.shop_image.proofs.DosListings.{dos_catalog_listed}
 use Rattle.shop_commands.specs.Answer.{IsAnswer, IsDosCatalogAnswer}
 
@@ -16,12 +18,16 @@ answer-dos : (ask : AskView) (image : List ℕ) (extra : Option (List ℕ)) (sta
 answer-dos (LookAt volume None Catalog) image extra status old new answer = λ dos.
     let reply = answer.0 in (
       reply,
-      ⊎_elim (λ told. inl (dos_catalog_listed volume image [] reply dos (told_of_bytes told))) (λ failed. inr failed.1) answer.1,
+      ⊎_elim
+          (λ told. let looked = told_of_bytes told in
+          inl (subst (λ (r : Reply). IsDosCatalogReply volume.order image r) (sym looked.told) (dos_catalog_listed volume image [] looked.plain dos looked.is)))
+          (λ failed. inr (failed.1.0, failed.1.2, failed.1.3)) answer.1,
       answer.2,
     )
 answer-dos (LookAt volume None (Entries options)) image extra status old new answer = tt
 answer-dos (LookAt volume None (Check bodies)) image extra status old new answer = tt
 answer-dos (LookAt volume None Map) image extra status old new answer = tt
+answer-dos (LookAt volume None (Compare other options)) image extra status old new answer = tt
 answer-dos (LookAt volume None (Read name whole)) image extra status old new answer = tt
 answer-dos (LookAt volume None (Plan reclaim in_words)) image extra status old new answer = tt
 answer-dos (LookAt volume None (Verify from reclaim)) image extra status old new answer = tt

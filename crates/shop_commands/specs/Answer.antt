@@ -9,7 +9,7 @@ use Rattle.given_file.specs.Words.{dos_head, dos_kind, pro_kind}
 use Rattle.given_file.specs.declared.content.Head.{Head}
 use Rattle.given_file.specs.declared.content.Head.TheVariants as heads
 use Rattle.pro_dates.specs.SaidDates.{IsDateOf, NamesDate}
-use Rattle.shop_jobs.specs.Job.{AskView, AttributesView, Catalog, ChangeOf, ChangeView, Convert, EditOf, Identify, JobView, LookAt, Optimize, Save}
+use Rattle.shop_jobs.specs.Job.{AskView, AttributesView, Catalog, ChangeOf, ChangeView, Compare, Convert, EditOf, Identify, JobView, LookAt, Optimize, Save}
 use Rattle.shop_jobs.specs.Paths.{from_of, is_in_place, named_order_of}
 use Rattle.shop_jobs.specs.declared.job.FileSystem.{FileSystem}
 use Rattle.shop_jobs.specs.declared.job.FileSystem.TheVariants as systems
@@ -22,17 +22,18 @@ use Rattle.shop_replies.specs.declared.refusal.Failure.{Failure}
 use Rattle.shop_replies.specs.declared.refusal.Failure.TheVariants as failures
 use Rattle.shop_replies.specs.declared.refusal.Refusal.{Refusal}
 use Rattle.shop_replies.specs.declared.refusal.Refusal.TheVariants as refusals
+use Rattle.shop_replies.specs.declared.refusal.Side.{Side}
 use Rattle.shop_replies.specs.declared.reply.Reply.{Reply}
 use Rattle.shop_replies.specs.ConvertReply.{IsConvertReply}
 use Rattle.shop_replies.specs.Reading.{IsReadFailure}
-use Rattle.shop_replies.specs.Reply.{HandsImage, Held, IsDelivered, IsWritten, failed, failure_line, refused}
+use Rattle.shop_replies.specs.Reply.{HandsImage, Held, IsDelivered, IsWritten, failed, failure_line, of_image, refused}
 use Rattle.shop_reads.specs.FileNames.{named_by}
-use Rattle.shop_reads.specs.Look.{IsLookReply, shown_by}
 use Rattle.shop_changes.specs.EditRules.{changed_by}
 use Rattle.shop_changes.specs.Work.{WorkView}
 use Rattle.shop_changes.specs.Work as works
 use Rattle.shop_image.specs.ChangeReply.{IsChangeReply}
 use Rattle.shop_image.specs.DosCatalogReply.{IsDosCatalogReply}
+use Rattle.shop_image.specs.LookReply.{IsImageLook}
 use Rattle.shop_image.specs.VolumeReply.{IsVolumeReply}
 use Rattle.image_readings.specs.IdentifyReply.{IsIdentifyReply}
 
@@ -93,8 +94,7 @@ RefusesWords volume change refusal = ⊥
 abbrev pub IsReplyToBytes : AskView → List ℕ → List ℕ → Reply → Type 0
 IsReplyToBytes Identify image extra reply = IsIdentifyReply image reply
 IsReplyToBytes (Convert words) image extra reply = IsConvertReply words.order words.to words.volume image reply
-IsReplyToBytes (LookAt volume reserve look) image extra reply =
-    IsVolumeReply volume reserve image (λ reserved. IsLookReply look extra (shown_by volume reserved)) reply
+IsReplyToBytes (LookAt volume reserve look) image extra reply = IsImageLook look extra volume reserve image reply
 IsReplyToBytes (ChangeOf volume reserve change target) image extra reply =
     ((refusal : Refusal) × (reply ≡ refused refusal) × RefusesWords volume change refusal)
     ⊎ ((work : WorkView) × AsksFor volume change extra work
@@ -147,9 +147,18 @@ HandsOutFor (ChangeOf volume reserve (EditOf name edit) target) status old new =
 HandsOutFor (ChangeOf volume reserve (Save name attributes from) target) status old new = Appends old new (codes "OK\n") × ((status ≡ 0) ⊎ (status ≡ 4))
 HandsOutFor ask status old new = HandsImage status old new
 
+-- what is told where bytes could not be read; a comparison says of which of its images
+abbrev pub of_side : AskView → Side → Reply → Reply
+of_side (LookAt volume reserve (Compare other options)) side reply = of_image side reply
+of_side ask side reply = reply
+
+abbrev pub unread_reply : AskView → Side → Failure → Reply
+unread_reply ask side failure = of_side ask side (failed failure)
+
 -- the bytes of a job that reads them could not be read
 abbrev pub IsUnread : AskView → Reply → Type 0
-IsUnread ask reply = ReadsImage ask × ((failure : Failure) × IsReadFailure failure × (reply ≡ failed failure))
+IsUnread ask reply =
+    ReadsImage ask × ((failure : Failure) × (side : Side) × IsReadFailure failure × (reply ≡ unread_reply ask side failure))
 
 -- a job was answered by one reply, told and handed out behind what the writers had: the reply to its bytes, or that they
 -- could not be read

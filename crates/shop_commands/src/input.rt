@@ -2,25 +2,11 @@
 ghost use Rattle.std.specs.Prelude.{◌≡◌, ◌+◌, IfOk, IfErr, IfSome, take};
 ghost use Rattle.shop_replies.specs.Disk.{most_bytes as most};
 ghost use Rattle.shop_replies.specs.Reading.{IsReadFailure};
-ghost use Rattle.shop_reads.specs.VerifyReply.{most_certificate};
 
 use a2_device::Order;
-use shop_reads::MOST_CERTIFICATE;
 use shop_replies::{Failure, most_bytes, read_front};
 use std::alloc::Global;
 use std::io::Read;
-
-/// Reads the file beside the image, up to one byte past the most that is read of one.
-///
-/// # Errors
-/// `Input` where the reader fails, `Memory` where there is no room for the bytes.
-pub fn read_extra<E: Read>(alloc: Global, extra: &mut E) -> Result<Vec<u8>, Failure>
-    ensures read { IfSome
-        (E.remaining extra.old) (λ bytes. IfOk result (λ read. read.items ≡ take (most_certificate + 1) bytes)) }
-    ensures failed { IfErr result IsReadFailure }
-{
-    read_front(alloc, extra, MOST_CERTIFICATE as u32)
-}
 
 /// Reads an image, up to one byte past the most that an image in this order has.
 ///

@@ -3,8 +3,7 @@ ghost use Rattle.std.specs.Prelude.{◌≡◌, ◌⊎◌, ◌↔◌, ◌+◌, ta
 ghost use Rattle.shop_jobs.specs.Job.{ask_view};
 ghost use Rattle.shop_jobs.specs.Paths.{from_of};
 ghost use Rattle.shop_replies.specs.Reply.{held};
-ghost use Rattle.shop_reads.specs.VerifyReply.{most_certificate};
-ghost use Rattle.shop_replies.specs.Reading.{IsReadFailure};
+ghost use Rattle.shop_replies.specs.Reading.{IsReadFailure, most_beside};
 ghost use Rattle.shop_commands.specs.Answer.{
   HandsOutFor,
   IsAnswer,
@@ -18,15 +17,16 @@ ghost use Rattle.shop_commands.specs.Answer.{
   ReadsVolume,
   beside,
   image_order_of,
+  unread_reply as unread,
 };
 
-use crate::input::{read_extra, read_image};
+use crate::input::read_image;
 use crate::work::change_work;
 use a2_device::Order;
 use image_readings::identify_reply;
 use shop_image::{image_change, image_look};
-use shop_jobs::{Ask, Job, from_path, image_order, is_in_place};
-use shop_replies::{Failure, Refusal, Reply, convert_reply};
+use shop_jobs::{Ask, Job, Look, from_path, image_order, is_in_place};
+use shop_replies::{Failure, Refusal, Reply, Side, convert_reply, most_beside, read_front};
 use std::alloc::Global;
 use std::io::{Read, Write};
 
@@ -44,13 +44,26 @@ fn order_to_read(job: &Job) -> Order
 // The bytes of the file beside the image; a job that names no such file has none.
 fn extra_for<E: Read>(alloc: Global, job: &Job, extra: &mut E) -> Result<Vec<u8>, Failure>
     ensures read { IfSome (beside (from_of (ask_view job.now.ask)) (E.remaining extra.old)) (λ bytes.
-        IfOk result (λ read. read.items ≡ take (most_certificate + 1) bytes)) }
+        IfOk result (λ read. read.items ≡ take (most_beside (ask_view job.now.ask) + 1) bytes)) }
     ensures kept { (extra.new ≡ extra.old) ⊎ IsSome (from_of (ask_view job.now.ask)) }
     ensures failed { IfErr result IsReadFailure }
 {
     match from_path(job) {
-        Some(_) => read_extra(alloc, extra),
+        Some(_) => read_front(alloc, extra, most_beside(job)),
         None => Ok(Vec::new(alloc)),
+    }
+}
+
+/// What is told where bytes could not be read; a comparison says of which of its images.
+pub fn unread_reply(job: &Job, side: Side, failure: Failure) -> Reply
+    ensures { result ≡ unread (ask_view job.now.ask) side failure }
+{
+    match &job.ask {
+        Ask::Look {
+            look: Look::Compare { .. },
+            ..
+        } => Reply::failed(failure).of_image(side),
+        _ => Reply::failed(failure),
     }
 }
 
@@ -62,8 +75,8 @@ pub fn only_reads(job: &Job) -> bool
 }
 
 /// The reply to a job on the bytes of its image, and on those of a file beside it.
-pub fn reply_to(alloc: Global, job: &Job, image: Vec<u8>, extra: &[u8]) -> Reply
-    ensures { IsReplyToBytes (ask_view job.now.ask) image.items extra.now result }
+pub fn reply_to(alloc: Global, job: &Job, image: Vec<u8>, extra: Vec<u8>) -> Reply
+    ensures { IsReplyToBytes (ask_view job.now.ask) image.items extra.items result }
 {
     match &job.ask {
         Ask::Identify => identify_reply(alloc, image),
@@ -83,7 +96,7 @@ pub fn reply_to(alloc: Global, job: &Job, image: Vec<u8>, extra: &[u8]) -> Reply
             reserve,
             change,
             ..
-        } => match change_work(*volume, change, extra) {
+        } => match change_work(*volume, change, extra.as_slice()) {
             Ok(work) => image_change(alloc, work, image, *volume, reserve.as_deref()),
             Err(refusal) => Reply::refused(refusal),
         },
@@ -120,11 +133,11 @@ pub fn run_job<I: Read, E: Read, T: Write, O: Write>(
     }
     let bytes = match read_image(alloc, image, order_to_read(job)) {
         Ok(bytes) => bytes,
-        Err(failure) => return Reply::failed(failure).deliver(text, out),
+        Err(failure) => return unread_reply(job, Side::First, failure).deliver(text, out),
     };
     let more = match extra_for(alloc, job, extra) {
         Ok(more) => more,
-        Err(failure) => return Reply::failed(failure).deliver(text, out),
+        Err(failure) => return unread_reply(job, Side::Second, failure).deliver(text, out),
     };
-    reply_to(alloc, job, bytes, more.as_slice()).deliver(text, out)
+    reply_to(alloc, job, bytes, more).deliver(text, out)
 }

@@ -22,6 +22,6 @@ mod on_device;
 mod work;
 
 pub use command::{job_of_words, run_command, tell_words_fault};
-pub use job::{only_reads, reply_to, run_job};
+pub use job::{only_reads, reply_to, run_job, unread_reply};
 pub use on_device::{read_job_on_device, run_job_in_place};
 pub use work::change_work;

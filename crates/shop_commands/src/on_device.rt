@@ -17,7 +17,7 @@ use std::alloc::Global;
 pub fn read_job_on_device<D: Device>(
     alloc: Global,
     job: &Job,
-    extra: &[u8],
+    extra: Vec<u8>,
     device: &mut D,
 ) -> Reply
     requires reading { ReadsVolume (ask_view job.now.ask) }
@@ -25,7 +25,7 @@ pub fn read_job_on_device<D: Device>(
     ensures reads { ReadsForAsk (ask_view job.now.ask) result (D.state device.old) (D.state device.new) }
     ensures told { IsTrue (D.state device.old).honest
         → HasNotFailedIn (ask_view job.now.ask) result (D.state device.old) (D.state device.new)
-        → IsToldOnDevice (ask_view job.now.ask) extra.now (D.state device.old) result }
+        → IsToldOnDevice (ask_view job.now.ask) extra.items (D.state device.old) result }
 {
     match &job.ask {
         Ask::Look {

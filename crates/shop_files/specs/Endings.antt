@@ -73,5 +73,6 @@ nothing_found = record {
   bytes = None;
   fault = None;
   unwritten = None;
+  fault_files = None;
   is_content = false;
 }

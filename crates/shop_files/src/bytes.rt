@@ -4,10 +4,28 @@ ghost use Rattle.shop_replies.specs.Reading.{IsReadFailure};
 ghost use Rattle.shop_jobs.specs.Job.{ask_view};
 ghost use Rattle.shop_jobs.specs.Paths.{from_of};
 
-use given_file::MOST_INPUT;
-use shop_jobs::{Job, from_path};
-use shop_replies::{Failure, read_front};
+use a2_device::Order;
+use shop_jobs::{Job, from_path, other_is_on_standard_input};
+use shop_replies::{Failure, most_beside, most_bytes, read_front};
 use std::fs::File;
+
+// The bytes of the file that a job reads beside its image, up to one past so many; none where it reads none.
+fn front_of_extra(rt: &HostRuntime, job: &Job, most: u32) -> Result<Vec<u8>, Failure>
+    ensures none { from_of (ask_view job.now.ask) ≡ None → IfOk result (λ bytes. bytes.items ≡ []) }
+    ensures failed { IfErr result (λ failure. (from_of (ask_view job.now.ask) ≢ None)
+        × IsReadFailure failure) }
+{
+    let Some(path) = from_path(job) else {
+        return Ok(Vec::new(rt.alloc()));
+    };
+    if other_is_on_standard_input(job) {
+        return read_front(rt.alloc(), &mut rt.stdin(), most);
+    }
+    match File::open(rt, path) {
+        Ok(mut file) => read_front(rt.alloc(), &mut file, most),
+        Err(_) => Err(Failure::Input),
+    }
+}
 
 /// The bytes of the file that a job reads beside its image, up to one past the most that are taken; none where it reads
 /// none.
@@ -19,11 +37,17 @@ pub fn extra_bytes(rt: &HostRuntime, job: &Job) -> Result<Vec<u8>, Failure>
     ensures failed { IfErr result (λ failure. (from_of (ask_view job.now.ask) ≢ None)
         × IsReadFailure failure) }
 {
-    let Some(path) = from_path(job) else {
-        return Ok(Vec::new(rt.alloc()));
-    };
-    match File::open(rt, path) {
-        Ok(mut file) => read_front(rt.alloc(), &mut file, MOST_INPUT as u32),
-        Err(_) => Err(Failure::Input),
-    }
+    front_of_extra(rt, job, most_beside(job))
+}
+
+/// The same of another image whose order is not known: up to one past the most that an image may have.
+///
+/// # Errors
+/// Those of `extra_bytes`.
+pub fn other_bytes(rt: &HostRuntime, job: &Job) -> Result<Vec<u8>, Failure>
+    ensures none { from_of (ask_view job.now.ask) ≡ None → IfOk result (λ bytes. bytes.items ≡ []) }
+    ensures failed { IfErr result (λ failure. (from_of (ask_view job.now.ask) ≢ None)
+        × IsReadFailure failure) }
+{
+    front_of_extra(rt, job, most_bytes(Order::Prodos) as u32)
 }

@@ -37,7 +37,7 @@ mod target;
 mod telling;
 
 pub use aside::AsideFile;
-pub use bytes::extra_bytes;
+pub use bytes::{extra_bytes, other_bytes};
 pub use clash::{Clash, Roles};
 pub use ending::{Ending, Unwritten};
 pub use files::JobFiles;

@@ -39,6 +39,8 @@ pub struct Found {
     pub fault: Option<ImageFault>,
     /// What could not be written.
     pub unwritten: Option<Unwritten>,
+    /// The lines that name the files of faults: a fault as it is told, and the path of its file behind it.
+    pub fault_files: Option<String>,
     /// Whether what is told is the bytes of a file, and no words of the program's.
     pub is_content: bool,
 }
@@ -57,6 +59,7 @@ impl Found {
             bytes: None,
             fault: None,
             unwritten: None,
+            fault_files: None,
             is_content: false,
         }
     }
@@ -119,6 +122,19 @@ fn tell_image(rt: &HostRuntime, found: &Found) -> io::Result<()> {
     }
 }
 
+// Tells of which file the first fault with these words is, if it is of one.
+fn tell_file(rt: &HostRuntime, found: &Found, front: &str) -> io::Result<()> {
+    let Some(lines) = &found.fault_files else {
+        return Ok(());
+    };
+    for line in lines.as_str().lines() {
+        if line.starts_with(front) {
+            eprintln!(rt; "The first of them, and behind its place the path of its file: {line}")?;
+        }
+    }
+    Ok(())
+}
+
 // Tells what each of the words of a table means that begin a line of what was told.
 fn tell_rows(
     rt: &HostRuntime,
@@ -136,6 +152,7 @@ fn tell_rows(
         }
         let colon = if front.ends_with(':') { "" } else { ":" };
         eprintln!(rt; "{front}{colon} {meaning} {advice}")?;
+        tell_file(rt, found, front)?;
     }
     Ok(())
 }

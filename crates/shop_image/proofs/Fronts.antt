@@ -1,44 +1,16 @@
 -- What was read of an image and of a file, up to one byte past the most that they have, answers for all of it.
-use Rattle.std.proofs.Common.{◌≡◌, ◌∙◌, ℕ, ◌+◌, ◌≤◌, Bool, List, length, take, take_all, length-take, arith, sym, ap, subst, inl, inr}
+use Rattle.std.proofs.Common.{◌≡◌, ◌∙◌, ℕ, ◌+◌, Bool, List, length, take, take_all, length-take, arith, ap, subst, inl, inr}
 use Rattle.std.specs.Prelude.{Option}
-use Rattle.a2_device.specs.declared.order.Order.{Order}
-use Rattle.a2_device.specs.declared.order.Order.TheVariants.{Dos, Prodos, Nibble}
-use Rattle.a2_device.specs.Order.{IsImageLength}
 use Rattle.a2_device.specs.Device.{DeviceState}
 use Rattle.vol_format.specs.Meaning.{Meaning}
 use Rattle.save_formats.specs.Saves.{SaveMeaning}
 use Rattle.given_file.specs.Content.{GivenView, most_input}
-use Rattle.shop_jobs.specs.declared.job.FileSystem.{FileSystem}
-use Rattle.shop_jobs.specs.declared.job.FileSystem.TheVariants.{Dos as Dos_volume, Prodos as Prodos_volume}
 use Rattle.shop_jobs.specs.declared.job.VolumeOptions.{VolumeOptions}
 use Rattle.shop_replies.specs.declared.reply.Reply.{Reply}
 use Rattle.shop_replies.specs.Disk.{most_bytes}
-use Rattle.shop_replies.specs.Volume.{OfVolume, TakesBytes}
-use Rattle.shop_replies.proofs.Fronts.{disk_bytes-lt}
+use Rattle.shop_replies.proofs.Fronts.{OfVolume-whole, TakesBytes-take}
 use Rattle.shop_image.specs.SaveReply.{IsSaved}
 use Rattle.shop_image.specs.VolumeReply.{IsVolumeReply}
-
-most-takes : (file_system : FileSystem) (order : Order) (bytes : ℕ) → TakesBytes file_system order bytes → bytes ≤ most_bytes order
-unfolding IsImageLength
-most-takes Dos_volume order bytes takes = let few = disk_bytes-lt order in omega (arith, few, takes)
-most-takes Prodos_volume Dos bytes takes = omega (arith, takes)
-most-takes Prodos_volume Prodos bytes takes = omega (arith, takes.2)
-most-takes Prodos_volume Nibble bytes takes = omega (arith, takes)
-
--- one byte past the most is enough to tell what is taken from what is not
-past-most : (file_system : FileSystem) (order : Order) (image : List ℕ) → TakesBytes file_system order (length (take (most_bytes order + 1) image)) → take (most_bytes order + 1) image ≡ image
-past-most file_system order image takes =
-    take_all (most_bytes order + 1) image
-    (omega (arith, most-takes file_system order (length (take (most_bytes order + 1) image)) takes, length-take (most_bytes order + 1) image))
-
-TakesBytes-take : (file_system : FileSystem) (order : Order) (image : List ℕ) → TakesBytes file_system order (length image)
-    → TakesBytes file_system order (length (take (most_bytes order + 1) image))
-TakesBytes-take file_system order image takes =
-    subst (λ bytes. TakesBytes file_system order (length bytes)) (sym (take_all (most_bytes order + 1) image (omega (arith, most-takes file_system order (length image) takes)))) takes
-
-OfVolume-whole : (file_system : FileSystem) (order : Order) (image : List ℕ) (P : DeviceState → Type 0)
-    → OfVolume file_system order (take (most_bytes order + 1) image) P → OfVolume file_system order image P
-OfVolume-whole file_system order image P volume = subst (λ bytes. OfVolume file_system order bytes P) (past-most file_system order image volume.0) volume
 
 pub volume-whole : (volume : VolumeOptions) (reserve : Option (List ℕ)) (image : List ℕ) (Tells : List Bool → DeviceState → Reply → Type 0) (reply : Reply)
     → IsVolumeReply volume reserve (take (most_bytes volume.order + 1) image) Tells reply → IsVolumeReply volume reserve image Tells reply

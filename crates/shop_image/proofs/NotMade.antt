@@ -17,6 +17,8 @@ use Rattle.shop_replies.proofs.NotMade.{failed_not_made, refused_not_made}
 use Rattle.shop_changes.specs.EditRules.{EditRules}
 use Rattle.shop_image.specs.EditReply.{IsEdited}
 use Rattle.shop_image.specs.SaveReply.{IsSaved}
+use Rattle.shop_jobs.specs.Job.{LookView, Catalog, Entries, Check, Compare, Map, Read, Plan, Verify}
+use Rattle.shop_image.specs.LookReply.{sided}
 use Rattle.shop_image.specs.VolumeReply.{IsUntaken, IsVolumeReply}
 
 untaken_not_made : (volume : VolumeOptions) (reserve : Option (List ℕ)) (image : List ℕ) (reply : Reply) → IsUntaken volume reserve image reply → ¬ IsMade reply
@@ -62,3 +64,14 @@ saved_image path given saves format device reply is made = elim is [
   | inr (_, inr (_, inr (inr (inl failed)))) ↦ absurd (failed_not_made failures.Device reply failed.0 made)
   | inr (_, inr (_, inr (inr (inr failed)))) ↦ absurd (failed_not_made failures.Memory reply failed made)
 ]
+
+-- a look that says of which image it refuses has an image where it has one without that
+pub sided_made : (look : LookView) (reply : Reply) → IsMade (sided look reply) → IsMade reply
+sided_made Catalog reply made = made
+sided_made (Entries options) reply made = made
+sided_made (Check bodies) reply made = made
+sided_made Map reply made = made
+sided_made (Compare other options) reply made = made
+sided_made (Read name whole) reply made = made
+sided_made (Plan reclaim in_words) reply made = made
+sided_made (Verify from reclaim) reply made = made

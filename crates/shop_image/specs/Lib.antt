@@ -1,4 +1,5 @@
 pub mod VolumeReply
+pub mod LookReply
 pub mod ImageBytes
 pub mod OptimizeReply
 pub mod EditReply

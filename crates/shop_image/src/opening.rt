@@ -1,32 +1,14 @@
 // The volume of an image, as a device.
 ghost use Rattle.std.specs.Prelude.{◌≡◌, IfErr, IfOk, option_map};
-ghost use Rattle.a2_image.specs.Image.{IsOfDisk};
-ghost use Rattle.shop_jobs.specs.declared.job.FileSystem.TheVariants.{Dos as OfDos};
-ghost use Rattle.shop_replies.specs.Volume.{HasUnitsOf, device_of as device_by};
 ghost use Rattle.shop_image.specs.VolumeReply.{IsUntaken, IsVolumeIn};
 
 use a2_device::Device;
-use a2_image::Image;
 use a2_media::ImageDevice;
 use reserved_places::Reserved;
-use shop_jobs::{FileSystem, VolumeOptions};
+use shop_jobs::VolumeOptions;
 use shop_reads::{reserve_reply, reserved_by};
-use shop_replies::{Reply, form_of, open_volume};
+use shop_replies::{Reply, device_of, form_of, open_volume};
 use std::alloc::Global;
-
-// The device of the units that an image has for a file system.
-fn device_of(image: Image, file_system: FileSystem) -> ImageDevice
-    requires { file_system ≡ OfDos → IsOfDisk image }
-    ensures device { ⟦<ImageDevice as Device>⟧.state result ≡ device_by file_system image }
-    ensures units { HasUnitsOf file_system (⟦<ImageDevice as Device>⟧.state result) }
-{
-    // Called for what its contract says: an image has 16 to 65,535 blocks.
-    let _blocks = image.blocks();
-    match file_system {
-        FileSystem::Dos => ImageDevice::dos(image),
-        FileSystem::Prodos => ImageDevice::prodos(image),
-    }
-}
 
 /// The device of the volume in an image, and the places that the words reserve there, as sectors or as blocks.
 ///

@@ -3,6 +3,7 @@ use Rattle.std.specs.Prelude.{ℕ, Bool, List, Option, string_bytes, option_map}
 use Rattle.a2_device.specs.declared.order.Order.{Order}
 use Rattle.shop_jobs.specs.declared.job.VolumeOptions.{VolumeOptions}
 use Rattle.shop_jobs.specs.declared.job.ListOptions.{ListOptions}
+use Rattle.shop_jobs.specs.declared.job.CompareOptions.{CompareOptions}
 use Rattle.shop_jobs.specs.declared.job.FileName.{FileName}
 use Rattle.shop_jobs.specs.declared.job.FileName.TheVariants as names
 use Rattle.shop_jobs.specs.declared.job.Edit.{Edit}
@@ -62,13 +63,15 @@ abbrev pub attributes_view : SaveAttributes → AttributesView
 attributes_view a = record { kind = option_map string_bytes a.kind; aux = a.aux; date = option_map string_bytes a.date }
 
 -- what is asked of a volume that is only read: of its entries how they are told; of a check whether the units of bodies
--- are read too; of a file its name, and whether it is read whole; of a plan whether it reclaims, and whether it is told in
--- words; of a certificate the path of its file, and whether it reclaims
+-- are read too; of a comparison the path of the other image's file, and how it is made; of a file its name, and whether it
+-- is read whole; of a plan whether it reclaims, and whether it is told in words; of a certificate the path of its file, and
+-- whether it reclaims
 pub data LookView : Type 0 where
   Catalog : LookView
   Entries : ListOptions → LookView
   Check : Bool → LookView
   Map : LookView
+  Compare : Text → CompareOptions → LookView
   Read : FileNameView → Bool → LookView
   Plan : Bool → Bool → LookView
   Verify : Text → Bool → LookView
@@ -78,6 +81,7 @@ look_view looks.Catalog = Catalog
 look_view (looks.Entries options) = Entries options
 look_view (looks.Check bodies) = Check bodies
 look_view looks.Map = Map
+look_view (looks.Compare other options) = Compare (string_bytes other) options
 look_view (looks.Read name whole) = Read (file_name_view name) whole
 look_view (looks.Plan reclaim in_words) = Plan reclaim in_words
 look_view (looks.Verify from reclaim) = Verify (string_bytes from) reclaim

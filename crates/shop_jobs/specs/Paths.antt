@@ -5,6 +5,7 @@ use Rattle.shop_jobs.specs.declared.job.VolumeOptions.{VolumeOptions}
 use Rattle.shop_jobs.specs.Job.{
   AskView,
   ChangeOf,
+  Compare,
   Convert,
   Identify,
   InPlace,
@@ -21,6 +22,7 @@ use Rattle.shop_jobs.specs.Job.{
 -- the path of the file that a job reads beside the image
 abbrev pub from_of : AskView → Option Text
 from_of (LookAt volume reserve (Verify from reclaim)) = Some from
+from_of (LookAt volume reserve (Compare other options)) = Some other
 from_of (ChangeOf volume reserve (Save name attributes from) target) = Some from
 from_of ask = None
 
@@ -43,6 +45,11 @@ certificate_of ask = None
 -- the job reads its image from standard input: `-` stands in the place of a path
 abbrev pub IsOnStandardInput : JobView → Type 0
 IsOnStandardInput job = job.image ≡ codes "-"
+
+-- the job reads another image, and that from standard input
+abbrev pub OtherIsOnStandardInput : AskView → Type 0
+OtherIsOnStandardInput (LookAt volume reserve (Compare other options)) = other ≡ codes "-"
+OtherIsOnStandardInput ask = ⊥
 
 -- the job changes the image in its own file
 abbrev pub is_in_place : AskView → Bool

@@ -78,7 +78,21 @@ pub struct ListOptions {
     pub form: ListForm,
     /// Whether the digest of each file is told.
     pub digests: bool,
-    /// How many bytes the files that are read for their digests may have in all.
+    /// Whether the places of each file are told.
+    pub places: bool,
+    /// How many bytes the files that are read for their digests may have in all, and the units of the parts whose
+    /// places are told.
+    pub most: u64,
+}
+
+/// How the volume of an image is compared with that of another.
+#[derive(Clone, Copy, Debug, PartialEq, Eq)]
+pub struct CompareOptions {
+    /// The order of the other image.
+    pub other_order: Order,
+    /// Whether files that are alike are told too.
+    pub all: bool,
+    /// How many bytes the files of each image may have in all.
     pub most: u64,
 }
 
@@ -96,6 +110,12 @@ pub enum Look {
     },
     /// Where the parts of its files stand, as a picture.
     Map,
+    /// Whether the files of another image's volume are the same.
+    Compare {
+        /// The path of the other image's file; `-` is standard input.
+        other: String,
+        options: CompareOptions,
+    },
     /// The contents of a file.
     Read {
         /// The name of the file in the volume.

@@ -3,6 +3,7 @@ ghost use Rattle.std.specs.Prelude.{◌≡◌, ◌↔◌, IsTrue, option_map};
 ghost use Rattle.shop_jobs.specs.Job.{ask_view, job_view, target_view};
 ghost use Rattle.shop_jobs.specs.Paths.{
   IsOnStandardInput,
+  OtherIsOnStandardInput,
   certificate_of,
   file_of,
   from_of,
@@ -26,6 +27,19 @@ pub fn is_on_standard_input(job: &Job) -> bool
     job.image.as_str() == STANDARD_INPUT
 }
 
+/// Whether a job reads another image, and that from standard input.
+pub fn other_is_on_standard_input(job: &Job) -> bool
+    ensures { IsTrue result ↔ OtherIsOnStandardInput (ask_view job.now.ask) }
+{
+    match &job.ask {
+        Ask::Look {
+            look: Look::Compare { other, .. },
+            ..
+        } => other.as_str() == STANDARD_INPUT,
+        _ => false,
+    }
+}
+
 /// Whether a job changes the image in its own file.
 pub fn is_in_place(job: &Job) -> bool
     ensures { result ≡ goes_in_place (ask_view job.now.ask) }
@@ -42,7 +56,7 @@ pub fn from_path(job: &Job) -> Option<&str>
 {
     match &job.ask {
         Ask::Look {
-            look: Look::Verify { from, .. },
+            look: Look::Verify { from, .. } | Look::Compare { other: from, .. },
             ..
         }
         | Ask::Change {

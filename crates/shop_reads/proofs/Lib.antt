@@ -12,3 +12,5 @@ mod Pictures
 mod PlaceTables
 mod WorkedMap
 mod OneMap
+mod FirstFaults
+mod Compared

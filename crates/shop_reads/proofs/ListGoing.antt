@@ -1,18 +1,19 @@
 -- A list reads on where it reads files, and ends where a unit can't be read where it does not.
-use Rattle.std.proofs.Common.{◌≡◌, ◌∙◌, ℕ, Bool, true, false, List, ap, refl, subst, sym}
-use Rattle.std.specs.Prelude.{◌||◌, not, Err, IsTrue, if◌then◌else◌, length, slice_index_or}
+use Rattle.std.proofs.Common.{◌≡◌, ℕ, Bool, true, false, List, ap, refl, subst, sym}
+use Rattle.std.specs.Prelude.{◌||◌, ◌&&◌, not, Err, IsTrue, if◌then◌else◌, length, slice_index_or}
 use Rattle.a2_device.specs.Device.{DeviceState, OnlyReads}
 use Rattle.file_cmds.specs.ReadingOn.{FailedBetween, ReadsOn}
 use Rattle.file_cmds.specs.Refusal.{told_device}
 use Rattle.file_cmds.specs.declared.error.CmdError.{CmdError}
 use Rattle.file_cmds.specs.declared.error.CmdError.TheVariants as commands
 use Rattle.file_cmds.specs.lemmas.Reading.{one_reading, read_twice}
-use Rattle.file_listings.specs.Rows.{no_facts}
-use Rattle.file_listings.specs.declared.facts.Facts.{Facts}
+use Rattle.file_listings.specs.Known.{FileFacts, no_facts}
+use Rattle.shop_jobs.specs.declared.job.ListForm.{ListForm}
+use Rattle.shop_jobs.specs.declared.job.ListForm.TheVariants as forms
 use Rattle.shop_jobs.specs.declared.job.ListOptions.{ListOptions}
 use Rattle.shop_replies.specs.declared.reply.Reply.{Reply}
 use Rattle.shop_replies.specs.Volume.{LacksUnit}
-use Rattle.shop_reads.specs.EntriesReply.{AddressIs, AreFacts, AreFactsUpTo, DigestIs, ReadTooMuch, ReadVolume, is_binary, is_names, reads_files, wants_address}
+use Rattle.shop_reads.specs.EntriesReply.{AddressIs, AreFacts, AreFactsUpTo, DigestIs, PartsAre, ReadTooMuch, ReadVolume, is_json, is_names, reads_files, wants_address, wants_places}
 use Rattle.shop_reads.specs.GoingOn.{Ends, FailsForLackBy, ReadsBy, TellsFile, list_going}
 use Rattle.shop_reads.specs.Refusals.{reply_to_refusal}
 use Rattle.shop_reads.specs.TellingFailures.{FailsForLack, tells_device}
@@ -24,18 +25,27 @@ neither false true is = (refl, refl)
 neither false false is = absurd (cc)
 neither true names is = absurd (cc)
 
+-- names tell no places
+unplaced : (form : ListForm) (places : Bool) → is_names form ≡ true → (places && is_json form) ≡ false
+unplaced forms.Names true names = refl
+unplaced forms.Names false names = refl
+unplaced forms.Json places names = absurd (cc)
+unplaced forms.Csv places names = absurd (cc)
+
 module _ (volume : ReadVolume) (options : ListOptions) (failed more : Type 0) where
   -- of a file of which nothing is wanted nothing is told, whatever failed
-  told_alike : reads_files options ≡ false → (file : ℕ) (facts : Facts) → AreFacts volume options failed file facts → AreFacts volume options more file facts
+  told_alike : reads_files options ≡ false → (file : ℕ) (facts : FileFacts) → AreFacts volume options failed file facts → AreFacts volume options more file facts
   told_alike never file facts are =
       let wants = neither options.digests (is_names options.form) never in
       let no_address : wants_address volume options file ≡ false = rw wants.1 refl in
+      let no_places : wants_places options ≡ false = unplaced options.form options.places wants.1 in
       record {
         address = subst (λ b. AddressIs b volume more file facts.address) (sym no_address) (subst (λ b. AddressIs b volume failed file facts.address) no_address are.address);
         digest = subst (λ b. DigestIs b volume more file facts.digest) (sym wants.0) (subst (λ b. DigestIs b volume failed file facts.digest) wants.0 are.digest);
+        parts = subst (λ b. PartsAre b volume more file facts.parts) (sym no_places) (subst (λ b. PartsAre b volume failed file facts.parts) no_places are.parts);
       }
 
-  told_up_to : reads_files options ≡ false → (many : ℕ) (facts : List Facts) → AreFactsUpTo volume options failed many facts → AreFactsUpTo volume options more many facts
+  told_up_to : reads_files options ≡ false → (many : ℕ) (facts : List FileFacts) → AreFactsUpTo volume options failed many facts → AreFactsUpTo volume options more many facts
   told_up_to never many facts are = record {
     within = are.within;
     each = λ file low. told_alike never file (slice_index_or facts file no_facts) (are.each file low);
@@ -43,7 +53,7 @@ module _ (volume : ReadVolume) (options : ListOptions) (failed more : Type 0) wh
 
 module _ (volume : ReadVolume) (options : ListOptions) (reply : Reply) (old new : DeviceState) where
   -- what is known of files, where a list failed only since a unit can't be read
-  pub lacks_up_to : FailsForLackBy (list_going options) reply old new → (many : ℕ) (facts : List Facts)
+  pub lacks_up_to : FailsForLackBy (list_going options) reply old new → (many : ℕ) (facts : List FileFacts)
       → AreFactsUpTo volume options (FailedBetween old new) many facts → AreFactsUpTo volume options (LacksUnit old) many facts
   lacks_up_to lack many facts are = by_reading (reads_files options) refl lack
     where

@@ -12,7 +12,7 @@ use Rattle.vol_mover.specs.declared.error.OpenError.TheVariants as opens
 use Rattle.file_formats.specs.FileNames.{FileNameView}
 use Rattle.shop_reads.specs.FileNames.{named_by}
 use Rattle.file_formats.specs.Files.{FileMeaning}
-use Rattle.shop_jobs.specs.Job.{LookView, Catalog, Entries, Check, Map, Read, Plan, Verify}
+use Rattle.shop_jobs.specs.Job.{LookView, Catalog, Entries, Check, Compare, Map, Read, Plan, Verify}
 use Rattle.shop_replies.specs.declared.refusal.Refusal.TheVariants as refusals
 use Rattle.shop_replies.specs.declared.refusal.Failure.TheVariants as failures
 use Rattle.shop_replies.specs.declared.reply.Reply.{Reply}
@@ -30,6 +30,7 @@ use Rattle.shop_reads.specs.PlanReply.{IsPlanned, TellsOpening}
 use Rattle.shop_reads.specs.PlanWords.{IsPlannedInWords}
 use Rattle.shop_reads.specs.ReadReply.{IsRead}
 use Rattle.shop_reads.specs.VerifyReply.{IsVerdict, IsVerified}
+use Rattle.shop_reads.proofs.Compared.{compared_not_made}
 
 checked_not_made : (form : PlaceForm) (format : Meaning) (device : DeviceState) (reply : Reply) → IsChecked form format device reply → ¬ IsMade reply
 checked_not_made form format device reply is made = elim is [
@@ -156,6 +157,7 @@ look_not_made (Entries options) bytes format device reply is = entries_not_made 
 look_not_made (Check false) bytes format device reply is = checked_not_made format.form format.units device reply is
 look_not_made (Check true) bytes format device reply is = bodies_not_made format.form format.files format.units device reply is
 look_not_made Map bytes format device reply is = mapped_not_made format.form format.units format.unreserved device reply is
+look_not_made (Compare other options) bytes format device reply is = compared_not_made options bytes format.form format.files format.units device reply is
 look_not_made (Read name whole) bytes format device reply is = read_not_made (named_by name) whole format.files format.units device reply is
 look_not_made (Plan reclaim false) bytes format device reply is = planned_not_made reclaim format.units device reply is
 look_not_made (Plan reclaim true) bytes format device reply is = planned_in_words_not_made format.form format.files reclaim format.units device reply is

@@ -1,7 +1,8 @@
 -- Which replies tell a failure of the device.
 use Rattle.std.proofs.Common.{◌≡◌, ◌∙◌, refl, sym, ap, subst, inl, inr}
-use Rattle.std.specs.Prelude.{◌⊎◌, Bool, true, false, Err}
+use Rattle.std.specs.Prelude.{◌⊎◌, Bool, true, false, Err, List}
 use Rattle.a2_device.specs.Device.{DeviceState, OnlyReads}
+use Rattle.a2_device.specs.declared.fault.Fault.{Fault}
 use Rattle.reserved_places.specs.declared.form.PlaceForm.{PlaceForm}
 use Rattle.file_cmds.specs.lemmas.Reading.{one_failed, one_reading}
 use Rattle.vol_check.specs.Answer.{is_device_error as check_failed}
@@ -16,7 +17,7 @@ use Rattle.shop_replies.specs.declared.reply.Status.{Status}
 use Rattle.shop_replies.specs.declared.reply.Status.TheVariants.{Done, Refused, Wrong}
 use Rattle.shop_replies.specs.declared.reply.Told.{Told}
 use Rattle.shop_replies.specs.Reply.{IsTold, failed}
-use Rattle.shop_reads.specs.CheckReply.{TellsRefusal}
+use Rattle.shop_reads.specs.CheckReply.{TellsFaults, TellsRefusal}
 use Rattle.shop_reads.specs.EntriesReply.{list_status}
 use Rattle.shop_reads.specs.GoingOn.{ReadsAll}
 use Rattle.shop_reads.specs.PlanReply.{TellsOpening}
@@ -44,12 +45,16 @@ list_quiet complete reply is = elim is [
     never true told = refl
     never false told = refl
 
--- that of a check that did not accept, where the check met the failure
-check_told : {A : Type 0} (form : PlaceForm) (error : CheckError A) (reply : Reply) → TellsRefusal form error reply → tells_device reply ≡ check_failed {T = Bool} (Err error)
-check_told form (checks.Faults faults) reply is = elim is [
+-- that of a volume that has faults
+faults_quiet : (form : PlaceForm) (faults : List Fault) (reply : Reply) → TellsFaults form faults reply → tells_device reply ≡ false
+faults_quiet form faults reply is = elim is [
   | inl told ↦ told_quiet Wrong reply (λ told. refl) told.0
   | inr failed ↦ ap tells_device failed
 ]
+
+-- that of a check that did not accept, where the check met the failure
+check_told : {A : Type 0} (form : PlaceForm) (error : CheckError A) (reply : Reply) → TellsRefusal form error reply → tells_device reply ≡ check_failed {T = Bool} (Err error)
+check_told form (checks.Faults list) reply is = faults_quiet form list.faults reply is
 check_told form checks.Device reply is = ap tells_device is
 check_told form checks.Memory reply is = ap tells_device is
 
@@ -78,11 +83,23 @@ module _ (reply : Reply) (old new : DeviceState) where
       → OnlyReads (tells_device reply) old new
   check_reads form error is reads = subst (λ (met : Bool). OnlyReads met old new) (sym (check_told form error reply is)) reads
 
+  pub faults_read : (form : PlaceForm) (faults : List Fault) → TellsFaults form faults reply → OnlyReads false old new → OnlyReads (tells_device reply) old new
+  faults_read form faults is reads = subst (λ (met : Bool). OnlyReads met old new) (sym (faults_quiet form faults reply is)) reads
+
   -- and where it would have gone on
   pub check_goes_on : {A : Type 0} (form : PlaceForm) (error : CheckError A) → TellsRefusal form error reply → OnlyReads (check_failed {T = Bool} (Err error)) old new
       → ReadsAll reply old new
   check_goes_on form error is reads =
       let read = check_reads form error is reads in
+      record {
+        reads = one_reading old new (tells_device reply) read;
+        told = λ tells honest. one_failed old new honest (subst (λ (met : Bool). OnlyReads met old new) tells read);
+      }
+
+  -- so of faults
+  pub faults_go_on : (form : PlaceForm) (faults : List Fault) → TellsFaults form faults reply → OnlyReads false old new → ReadsAll reply old new
+  faults_go_on form faults is reads =
+      let read = faults_read form faults is reads in
       record {
         reads = one_reading old new (tells_device reply) read;
         told = λ tells honest. one_failed old new honest (subst (λ (met : Bool). OnlyReads met old new) tells read);

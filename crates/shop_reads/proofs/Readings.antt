@@ -1,5 +1,5 @@
 -- What is told of a listing and of a read that are refused.
-use Rattle.std.proofs.Common.{◌≡◌, ◌≢◌, ℕ, List, inl, inr, refl}
+use Rattle.std.proofs.Common.{◌≡◌, ◌≢◌, List, inl, inr, refl}
 use Rattle.std.specs.Prelude.{Bool, true, Err, IsTrue}
 use Rattle.a2_device.specs.Device.{DeviceState, OnlyReads}
 use Rattle.reserved_places.specs.declared.form.PlaceForm.{PlaceForm}

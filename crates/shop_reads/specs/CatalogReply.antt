@@ -7,7 +7,7 @@ use Rattle.vol_format.specs.Directory.{Directory}
 use Rattle.vol_format.specs.Meaning.{Meaning}
 use Rattle.file_listings.specs.DosText.{Text}
 use Rattle.file_listings.specs.DosEntries.{directory_text as dos_text}
-use Rattle.file_listings.specs.declared.facts.Facts.{Facts}
+use Rattle.file_listings.specs.Known.{FileFacts}
 use Rattle.file_formats.specs.Listing.{HasHeaderFault}
 use Rattle.file_listings.specs.ProText.{directory_text as pro_text}
 use Rattle.file_listings.specs.declared.style.Style.{Style}
@@ -22,12 +22,12 @@ use Rattle.shop_replies.specs.Volume.{LacksUnit}
 
 -- the listing of a directory in a style, with what is known of the files of its entries: of DOS 3.3, whose places are
 -- sectors, or of ProDOS
-abbrev pub text_by : Style → PlaceForm → Directory → List Facts → Text
+abbrev pub text_by : Style → PlaceForm → Directory → List FileFacts → Text
 text_by style Sector directory facts = dos_text style directory facts
 text_by style Block directory facts = pro_text style directory facts
 
 -- a job that ended so told it, or want of memory
-abbrev pub TellsListing : Status → Style → PlaceForm → Directory → List Facts → Reply → Type 0
+abbrev pub TellsListing : Status → Style → PlaceForm → Directory → List FileFacts → Reply → Type 0
 TellsListing status style form directory facts reply =
     (IsTold status reply × (text_of reply ≡ text_by style form directory facts)) ⊎ (reply ≡ failed failures.Memory)
 

@@ -46,7 +46,7 @@ TellsFaults form faults reply = (IsTold Wrong reply × (text_of reply ≡ flat_m
 
 -- the reply to a check that did not accept
 abbrev pub TellsRefusal : {A : Type 0} → PlaceForm → CheckError A → Reply → Type 0
-TellsRefusal form (checks.Faults faults) reply = TellsFaults form faults reply
+TellsRefusal form (checks.Faults list) reply = TellsFaults form list.faults reply
 TellsRefusal form checks.Device reply = reply ≡ failed failures.Device
 TellsRefusal form checks.Memory reply = reply ≡ failed failures.Memory
 

@@ -1,8 +1,10 @@
 -- What is told of a volume whose entries are told as data.
-use Rattle.std.specs.Prelude.{◌≡◌, ◌⊎◌, ◌<◌, ◌≤◌, ◌==◌, ◌||◌, ◌&&◌, not, ℕ, Bool, true, false, List, Option, Some, None, length, sum_by, slice_index_or, if◌then◌else◌}
+use Rattle.std.specs.Prelude.{◌≡◌, ◌⊎◌, ◌<◌, ◌≤◌, ◌+◌, ◌*◌, ◌==◌, ◌||◌, ◌&&◌, not, ℕ, Bool, true, false, List, Option, Some, None, length, sum_by, slice_index_or, if◌then◌else◌}
 use Rattle.std.specs.declared.alloc.Global.{Global}
+use Rattle.std.specs.declared.vec.Vec.{Vec}
 use Rattle.sha2.specs.Sha256.{sha256}
 use Rattle.a2_device.specs.Device.{DeviceState}
+use Rattle.a2_device.specs.declared.part.Part.{Part}
 use Rattle.reserved_places.specs.declared.form.PlaceForm.{PlaceForm}
 use Rattle.reserved_places.specs.declared.form.PlaceForm.TheVariants.{Sector, Block}
 use Rattle.vol_format.specs.Directory.{Directory, entries, entry_of, is_directory}
@@ -11,10 +13,12 @@ use Rattle.file_formats.specs.DosFiles.{number_at}
 use Rattle.file_formats.specs.Files.{FileMeaning}
 use Rattle.file_formats.specs.Listing.{HasHeaderFault}
 use Rattle.file_formats.specs.declared.listing.ListEntry.{ListEntry}
+use Rattle.file_cmds.specs.FileParts.{IsPartsAlone}
 use Rattle.file_cmds.specs.Text.{IsEntryText, IsWholeTextOf, OwnFault}
 use Rattle.row_text.specs.declared.row.Digested.{Digested}
 use Rattle.row_text.specs.declared.row.Digested.TheVariants.{Untold, Missing, Of}
-use Rattle.file_listings.specs.Rows.{no_facts}
+use Rattle.file_listings.specs.Known.{FileFacts, FileParts, no_facts}
+use Rattle.file_listings.specs.Known as known
 use Rattle.file_listings.specs.declared.facts.Facts.{Facts}
 use Rattle.file_listings.specs.declared.style.EntryStyle.{EntryStyle}
 use Rattle.file_listings.specs.declared.style.EntryStyle.TheVariants as styles
@@ -37,7 +41,15 @@ abbrev pub is_names : ListForm → Bool
 is_names forms.Names = true
 is_names form = false
 
--- files are read, for their digests or their addresses
+abbrev pub is_json : ListForm → Bool
+is_json forms.Json = true
+is_json form = false
+
+-- places are told in JSON alone
+abbrev pub wants_places : ListOptions → Bool
+wants_places options = options.places && is_json options.form
+
+-- files are read, for their digests, their addresses or their places
 abbrev pub reads_files : ListOptions → Bool
 reads_files options = options.digests || not (is_names options.form)
 
@@ -92,6 +104,15 @@ IsDigest volume failed file Missing =
     (is_directory (entry_of volume.directory file) ≡ true) ⊎ IsUnread volume failed file
 IsDigest volume failed file Untold = ⊥
 
+-- the parts of the file, in order; a directory has none, nor a file with a fault of its own, or of which a list or an index can't be read
+abbrev pub AreParts : ReadVolume → Type 0 → ℕ → FileParts → Type 0
+AreParts volume failed file (known.Of parts) =
+    (is_directory (entry_of volume.directory file) ≡ false)
+    × IsPartsAlone volume.meaning volume.directory volume.store file parts
+AreParts volume failed file known.Missing =
+    (is_directory (entry_of volume.directory file) ≡ true) ⊎ IsUnread volume failed file
+AreParts volume failed file known.Untold = ⊥
+
 abbrev pub AddressIs : Bool → ReadVolume → Type 0 → ℕ → Option ℕ → Type 0
 AddressIs true volume failed file address = IsAddress volume failed file address
 AddressIs false volume failed file address = address ≡ None
@@ -100,17 +121,29 @@ abbrev pub DigestIs : Bool → ReadVolume → Type 0 → ℕ → Digested → Ty
 DigestIs true volume failed file digest = IsDigest volume failed file digest
 DigestIs false volume failed file digest = digest ≡ Untold
 
--- nothing of a file is wanted beside its entry
-abbrev pub WantsNothing : ReadVolume → ListOptions → ℕ → Type 0
-WantsNothing volume options file = (wants_address volume options file ≡ false) × (options.digests ≡ false)
+abbrev pub PartsAre : Bool → ReadVolume → Type 0 → ℕ → FileParts → Type 0
+PartsAre true volume failed file parts = AreParts volume failed file parts
+PartsAre false volume failed file parts = parts ≡ known.Untold
 
--- what is told of a file beside its entry, where it is wanted
-pub record AreFacts (volume : ReadVolume) (options : ListOptions) (failed : Type 0) (file : ℕ) (facts : Facts) : Type 0 where
+-- nothing of a file is wanted beside its entry
+pub record WantsNothing (volume : ReadVolume) (options : ListOptions) (file : ℕ) : Type 0 where
+  pub address : wants_address volume options file ≡ false
+  pub digest : options.digests ≡ false
+  pub places : wants_places options ≡ false
+
+-- what is told of the text of a file, where it is wanted
+pub record AreTextFacts (volume : ReadVolume) (options : ListOptions) (failed : Type 0) (file : ℕ) (facts : Facts) : Type 0 where
   pub address : AddressIs (wants_address volume options file) volume failed file facts.address
   pub digest : DigestIs options.digests volume failed file facts.digest
 
+-- what is told of a file beside its entry, where it is wanted
+pub record AreFacts (volume : ReadVolume) (options : ListOptions) (failed : Type 0) (file : ℕ) (facts : FileFacts) : Type 0 where
+  pub address : AddressIs (wants_address volume options file) volume failed file facts.address
+  pub digest : DigestIs options.digests volume failed file facts.digest
+  pub parts : PartsAre (wants_places options) volume failed file facts.parts
+
 -- those of the files of the first entries
-pub record AreFactsUpTo (volume : ReadVolume) (options : ListOptions) (failed : Type 0) (many : ℕ) (facts : List Facts) : Type 0 where
+pub record AreFactsUpTo (volume : ReadVolume) (options : ListOptions) (failed : Type 0) (many : ℕ) (facts : List FileFacts) : Type 0 where
   pub within : many ≤ entries volume.directory
   pub each : (file : ℕ) → file < many → AreFacts volume options failed file (slice_index_or facts file no_facts)
 
@@ -130,6 +163,12 @@ no_digest digests = if digests then Missing else Untold
 abbrev pub unread_facts : Bool → Facts
 unread_facts digests = record { address = None; digest = no_digest digests }
 
+-- the parts that were found of a file, or none
+abbrev pub parts_found : Bool → Option (Vec Part Global) → FileParts
+parts_found false parts = known.Untold
+parts_found true None = known.Missing
+parts_found true (Some parts) = known.Of parts.items
+
 -- ---- how many bytes were read, and whether each file was
 
 abbrev pub bytes_of : Digested → ℕ
@@ -137,20 +176,29 @@ bytes_of (Of digest) = digest.count
 bytes_of Missing = 0
 bytes_of Untold = 0
 
-abbrev pub bytes_read : List Facts → ℕ
-bytes_read facts = sum_by (λ (known : Facts). bytes_of known.digest) facts
+-- the units of the parts that are told, of so many bytes each
+abbrev pub bytes_of_parts : ℕ → FileParts → ℕ
+bytes_of_parts unit_size (known.Of parts) = length parts * unit_size
+bytes_of_parts unit_size known.Missing = 0
+bytes_of_parts unit_size known.Untold = 0
+
+abbrev pub bytes_told : ℕ → FileFacts → ℕ
+bytes_told unit_size facts = bytes_of facts.digest + bytes_of_parts unit_size facts.parts
+
+abbrev pub bytes_read : ℕ → List FileFacts → ℕ
+bytes_read unit_size facts = sum_by (bytes_told unit_size) facts
 
 abbrev pub is_missing : Digested → Bool
 is_missing Missing = true
 is_missing digest = false
 
 -- a file has no digest
-abbrev pub lacks_digest : Directory → List Facts → ℕ → Bool
+abbrev pub lacks_digest : Directory → List FileFacts → ℕ → Bool
 lacks_digest directory facts file =
     not (is_directory (entry_of directory file)) && is_missing (slice_index_or facts file no_facts).digest
 
 -- whether each of the first files has a digest, where digests are told
-abbrev pub IsCompleteUpTo : Directory → List Facts → ℕ → Bool → Type 0
+abbrev pub IsCompleteUpTo : Directory → List FileFacts → ℕ → Bool → Type 0
 IsCompleteUpTo directory facts many true = (file : ℕ) → file < many → lacks_digest directory facts file ≡ false
 IsCompleteUpTo directory facts many false = (file : ℕ) × (file < many) × (lacks_digest directory facts file ≡ true)
 
@@ -158,11 +206,11 @@ IsCompleteUpTo directory facts many false = (file : ℕ) × (file < many) × (la
 abbrev pub list_status : Bool → Status
 list_status complete = if complete then Done else Wrong
 
--- the files of the first entries have more bytes than they may
+-- the files of the first entries, and the units of their parts that are told, have more bytes than they may
 pub record ReadTooMuch (volume : ReadVolume) (options : ListOptions) (failed : Type 0) : Type 0 where
-  pub facts : List Facts
+  pub facts : List FileFacts
   pub are : AreFactsUpTo volume options failed (length facts) facts
-  pub many : options.most < bytes_read facts
+  pub many : options.most < bytes_read volume.meaning.unit_size facts
 
 -- ---- the reply
 
@@ -175,9 +223,9 @@ volume_in form files meaning store directory =
 pub record IsEntriesReply (options : ListOptions) (form : PlaceForm) (files : FileMeaning) (format : Meaning) (device : DeviceState) (reply : Reply) : Type 0 where
   pub directory : Directory
   pub described : format.Describes device.store directory
-  pub facts : List Facts
+  pub facts : List FileFacts
   pub are : AreFactsUpTo (volume_in form files format device.store directory) options (LacksUnit device) (entries directory) facts
-  pub few : bytes_read facts ≤ options.most
+  pub few : bytes_read format.unit_size facts ≤ options.most
   pub complete : Bool
   pub ended : IsCompleteUpTo directory facts (entries directory) complete
   pub told : TellsListing (list_status complete) (Entries (style_of options)) form directory facts reply

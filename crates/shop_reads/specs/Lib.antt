@@ -3,6 +3,7 @@ pub mod TellingFailures
 pub mod CatalogReply
 pub mod EntriesReply
 pub mod CheckText
+pub mod FaultLines
 pub mod CheckReply
 pub mod BodiesReply
 pub mod PlanReply
@@ -18,5 +19,7 @@ pub mod MapText
 pub mod MapStates
 pub mod MapSteps
 pub mod MapReply
+pub mod FileSystems
+pub mod CompareReply
 pub mod Look
 pub mod lemmas

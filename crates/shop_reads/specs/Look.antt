@@ -6,7 +6,7 @@ use Rattle.vol_format.specs.Meaning.{Meaning}
 use Rattle.file_formats.specs.DosFiles.{dos_files}
 use Rattle.file_formats.specs.Files.{FileMeaning}
 use Rattle.file_formats.specs.ProFiles.{pro_files}
-use Rattle.shop_jobs.specs.Job.{LookView, Catalog, Entries, Check, Map, Read, Plan, Verify}
+use Rattle.shop_jobs.specs.Job.{LookView, Catalog, Entries, Check, Map, Compare, Read, Plan, Verify}
 use Rattle.shop_jobs.specs.declared.job.FileSystem.{FileSystem}
 use Rattle.shop_jobs.specs.declared.job.FileSystem.TheVariants.{Dos, Prodos}
 use Rattle.shop_jobs.specs.declared.job.VolumeOptions.{VolumeOptions}
@@ -15,6 +15,7 @@ use Rattle.shop_replies.specs.Volume.{form_of, meaning_of}
 use Rattle.shop_reads.specs.BodiesReply.{IsCheckedWhole}
 use Rattle.shop_reads.specs.CatalogReply.{IsListed}
 use Rattle.shop_reads.specs.CheckReply.{IsChecked}
+use Rattle.shop_reads.specs.CompareReply.{IsCompared}
 use Rattle.shop_reads.specs.EntriesReply.{IsEntriesTold}
 use Rattle.shop_reads.specs.FileNames.{named_by}
 use Rattle.shop_reads.specs.MapReply.{IsMapped}
@@ -49,13 +50,15 @@ shown_in file_system data_disk reserved = record {
 abbrev pub shown_by : VolumeOptions → List Bool → ShownMeaning
 shown_by volume reserved = shown_in volume.file_system volume.data_disk reserved
 
--- what is told of each look at the volume of a device, with these bytes of a file beside it: a certificate's, for `verify`
+-- what is told of each look at the volume of a device, with these bytes of a file beside it: another image's, for
+-- `compare`, or a certificate's, for `verify`
 abbrev pub IsLookReply : LookView → List ℕ → ShownMeaning → DeviceState → Reply → Type 0
 IsLookReply Catalog bytes format device reply = IsListed format.form format.units device reply
 IsLookReply (Entries options) bytes format device reply = IsEntriesTold options format.form format.files format.units device reply
 IsLookReply (Check false) bytes format device reply = IsChecked format.form format.units device reply
 IsLookReply (Check true) bytes format device reply = IsCheckedWhole format.form format.files format.units device reply
 IsLookReply Map bytes format device reply = IsMapped format.form format.units format.unreserved device reply
+IsLookReply (Compare other options) bytes format device reply = IsCompared options bytes format.form format.files format.units device reply
 IsLookReply (Read name whole) bytes format device reply = IsRead (named_by name) whole format.files format.units device reply
 IsLookReply (Plan reclaim false) bytes format device reply = IsPlanned reclaim format.units device reply
 IsLookReply (Plan reclaim true) bytes format device reply = IsPlannedInWords format.form format.files reclaim format.units device reply

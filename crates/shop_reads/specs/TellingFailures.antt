@@ -2,6 +2,7 @@
 use Rattle.std.specs.Prelude.{◌≡◌, Bool, true, false}
 use Rattle.a2_device.specs.Device.{DeviceState}
 use Rattle.shop_replies.specs.declared.refusal.Failure.TheVariants as failures
+use Rattle.shop_replies.specs.declared.refusal.Side.TheVariants.{First}
 use Rattle.shop_replies.specs.declared.reply.Reply.{Reply}
 use Rattle.shop_replies.specs.declared.reply.Status.{Status}
 use Rattle.shop_replies.specs.declared.reply.Status.TheVariants as statuses
@@ -10,9 +11,10 @@ use Rattle.shop_replies.specs.declared.reply.Told.TheVariants as tells
 use Rattle.shop_replies.specs.Reply.{failed}
 use Rattle.shop_replies.specs.Volume.{LacksUnit}
 
--- whether a reply tells a failure of the device
+-- whether a reply tells a failure of the device; of two that of the first
 abbrev is_of_device : Told → Bool
 is_of_device (tells.Failure failures.Device) = true
+is_of_device (tells.FailureOf First failures.Device) = true
 is_of_device told = false
 
 abbrev pub fails_device : Status → Told → Bool

@@ -35,7 +35,7 @@ ghost use Rattle.shop_reads.specs.BodiesReply.{
 };
 ghost use Rattle.shop_reads.specs.GoingOn.{FailsForLackBy, ReadsBy, TellsUnit};
 
-use crate::check::{accepted_reply, refused_reply};
+use crate::check::{accepted_reply, faults_reply, refused_reply};
 use crate::listing::ShownFormat;
 use a2_device::{Device, Part};
 use file_formats::FileFormat;
@@ -44,7 +44,7 @@ use reserved_places::{PlaceForm, PlaceWord};
 use shop_replies::{Failure, Reply};
 use std::alloc::{AllocError, Global};
 use std::fmt;
-use vol_check::{Checked, check};
+use vol_check::{Checked, Judgement, judge};
 
 // A part whose unit can't be read, of the file of this path.
 #[derive(Clone, Copy)]
@@ -152,7 +152,8 @@ fn bodies_told<F: ShownFormat>(
     }
 }
 
-/// Whether the volume on a device is accepted and each unit of its files can be read, or what is wrong with it.
+/// Whether the volume on a device is accepted and each unit of its files can be read, or what is wrong with it. Beside
+/// the faults that it tells it keeps the files of the first of each kind.
 pub fn bodies_reply<D: Device, F: ShownFormat>(alloc: Global, device: &mut D, format: &F) -> Reply
     requires fits { Fits (F.meaning format.now) (D.state device.old) }
     ensures reads { ReadsBy TellsUnit result (D.state device.old) (D.state device.new) }
@@ -160,8 +161,11 @@ pub fn bodies_reply<D: Device, F: ShownFormat>(alloc: Global, device: &mut D, fo
         → FailsForLackBy TellsUnit result (D.state device.old) (D.state device.new)
         → IsCheckedWhole (F.form format.now) (F.files format.now) (F.meaning format.now) (D.state device.old) result }
 {
-    let checked = match check(alloc, device, format) {
-        Ok(checked) => checked,
+    let checked = match judge(alloc, device, format) {
+        Ok(Judgement::Accepted(checked)) => checked,
+        Ok(Judgement::Refused(volume, faults)) => {
+            return faults_reply(alloc, format.form(), format, &volume, &faults);
+        }
         Err(error) => return refused_reply(alloc, format.form(), &error),
     };
     match unread_parts(alloc, device, checked.parts()) {

@@ -48,11 +48,11 @@ fn fault_place(fault: Fault) -> u32
     }
 }
 
-// The text of one fault.
+/// The text of one fault.
 #[derive(Clone, Copy)]
-struct FaultText {
-    form: PlaceForm,
-    fault: Fault,
+pub struct FaultText {
+    pub form: PlaceForm,
+    pub fault: Fault,
 }
 
 impl fmt::Display for FaultText {

@@ -4,9 +4,10 @@ ghost use Rattle.vol_format.specs.Fits.{Fits};
 ghost use Rattle.shop_reads.specs.CatalogReply.{TellsListing};
 ghost use Rattle.shop_reads.specs.EntriesReply.{IsEntriesTold, list_status, style_of};
 ghost use Rattle.shop_reads.specs.GoingOn.{FailsForLackBy, ReadsBy, list_going};
+ghost use Rattle.file_listings.specs.Known.{facts_in};
 ghost use Rattle.file_listings.specs.declared.style.Style.TheVariants.{Entries};
 
-use crate::facts::{FactsError, Known, known_of};
+use crate::known::{FactsError, Known, known_of};
 use crate::listing::{ShownFormat, refusal_reply};
 use a2_device::Device;
 use file_cmds::read_volume;
@@ -49,10 +50,10 @@ fn known_reply<F: ShownFormat>(
     known: Known,
 ) -> Reply
     ensures { TellsListing (list_status known.complete) (Entries (style_of options)) (F.form format.now)
-        (F.directory format.now volume) known.facts.items result }
+        (F.directory format.now volume) (facts_in known.files) result }
 {
-    let Known { facts, complete } = known;
-    match format.listing(alloc, volume, Style::Entries(style_of(options)), facts) {
+    let Known { files, complete } = known;
+    match format.listing(alloc, volume, Style::Entries(style_of(options)), files) {
         Ok(told) => Reply::told(list_status(complete), told),
         Err(_) => Reply::failed(Failure::Memory),
     }

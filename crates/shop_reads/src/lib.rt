@@ -7,8 +7,8 @@
 //! on any format whose volumes are told of (`ShownFormat`).
 //!
 //! The model: which reply comes, by the state of the device, is a relation for each look (`CatalogReply`,
-//! `EntriesReply`, `ReadReply`, `CheckReply` with `CheckText`, `BodiesReply`, `MapReply` with `MapStates` and
-//! `MapText`, `PlanReply`, `PlanWords` with `Steps`, and `VerifyReply`, all in `specs/`), and `specs/Look.antt` is all
+//! `EntriesReply`, `ReadReply`, `CheckReply` with `CheckText` and `FaultLines`, `BodiesReply`, `MapReply` with
+//! `MapStates` and `MapText`, `PlanReply`, `PlanWords` with `Steps`, and `VerifyReply`, all in `specs/`), and `specs/Look.antt` is all
 //! of them, over what a format is to who is told of one. `specs/GoingOn.antt` says which looks go on where a unit can't
 //! be read, and what that does to a device, `specs/Unreserved.antt` what a format is where nothing is reserved,
 //! `specs/Reserving.antt` which places the words reserve and what is told where they name none, and
@@ -21,8 +21,11 @@
 mod bodies;
 mod check;
 mod check_text;
+mod compare;
 mod entries;
 mod facts;
+mod fault_files;
+mod known;
 mod listing;
 mod looking;
 mod map;
@@ -37,11 +40,13 @@ mod reading;
 mod reserving;
 mod steps;
 mod verify;
+mod wants;
 
 pub use bodies::bodies_reply;
 pub use check::check_reply;
+pub use compare::compare_reply;
 pub use entries::entries_reply;
-pub use facts::{FactsError, Known, known_of};
+pub use known::{FactsError, Known, known_of};
 pub use listing::{ShownFormat, listing_reply};
 pub use looking::{look_at_volume, look_on_device, look_reply};
 pub use map::map_reply;

@@ -1,6 +1,7 @@
 // The job that lists the files of a volume.
 ghost use Rattle.std.specs.Prelude.{◌≡◌, [], IfOk, IsTrue, string_bytes};
 ghost use Rattle.file_listings.specs.DosEntries.{directory_text as dos_text};
+ghost use Rattle.file_listings.specs.Known.{facts_in};
 ghost use Rattle.file_listings.specs.declared.style.Style.TheVariants.{Catalog as AsCatalog};
 ghost use Rattle.shop_replies.specs.declared.reply.Status.TheVariants.{Done as IsDone};
 ghost use Rattle.a2_device.specs.Device.{OnlyReads};
@@ -14,7 +15,9 @@ use a2_device::Device;
 use dos_format::{Dos33, DosVolume};
 use file_cmds::{CmdError, listing_of, read_volume};
 use file_formats::FileFormat;
-use file_listings::{Facts, ProLines, ProSteps, Step, Style, dos_entries_text, dos_listing_text};
+use file_listings::{
+    KnownFiles, ProLines, ProSteps, Step, Style, dos_entries_text, dos_listing_text,
+};
 use pro_format::{ProVolume, Prodos};
 use reserved_places::PlaceForm;
 use shop_replies::{Failure, Refusal, Reply, Status, Told};
@@ -39,15 +42,15 @@ fn dos_listing(
     format: &Dos33,
     volume: &DosVolume,
     style: Style,
-    facts: &[Facts],
+    known: &KnownFiles,
 ) -> Result<String, AllocError>
     ensures { IfOk result (λ text. string_bytes text
-        ≡ dos_text style (⟦<Dos33 as Format>⟧.directory format.now volume.now) facts.now) }
+        ≡ dos_text style (⟦<Dos33 as Format>⟧.directory format.now volume.now) (facts_in known.now)) }
 {
     let listing = listing_of(alloc, format, volume)?;
     match style {
         Style::Catalog => dos_listing_text(alloc, &listing),
-        Style::Entries(style) => dos_entries_text(alloc, style, &listing, facts),
+        Style::Entries(style) => dos_entries_text(alloc, style, &listing, known),
     }
 }
 
@@ -56,10 +59,15 @@ pub trait ShownFormat: FileFormat + Drop {
     ghost use Rattle.std.specs.Prelude.{◌≡◌, ◌<◌, All, IfOk, IfNone, IfSome};
     ghost use Rattle.reserved_places.specs.declared.form.PlaceForm.{PlaceForm};
     ghost use Rattle.vol_format.specs.Directory.{entries};
+    ghost use Rattle.file_listings.specs.Known.{facts_in};
     ghost use Rattle.shop_replies.specs.Reply.{told_text};
     ghost use Rattle.shop_reads.specs.CatalogReply.{text_by};
     ghost use Rattle.shop_reads.specs.PlanWords.{TellsSteps};
+    ghost use Rattle.shop_reads.specs.FileSystems.{file_system_of};
     ghost use Rattle.shop_reads.specs.Unreserved.{IsUnreserved};
+    ghost use Rattle.shop_replies.specs.Volume.{HasUnitsOf};
+    ghost use Rattle.a2_device.specs.Device.{DeviceState};
+    ghost use Rattle.vol_format.specs.Fits.{Fits};
 
     ghost form: { Self → PlaceForm };
 
@@ -78,10 +86,10 @@ pub trait ShownFormat: FileFormat + Drop {
         alloc: Global,
         volume: Self::Volume,
         style: Style,
-        facts: Vec<Facts>,
+        known: KnownFiles,
     ) -> Result<Told, AllocError>
         ensures { IfOk result (λ told. told_text told
-            ≡ text_by style (form self.now) (Self.directory self.now volume) facts.items) };
+            ≡ text_by style (form self.now) (Self.directory self.now volume) (facts_in known)) };
 
     /// The steps of a plan of a volume that was read, in words, or want of memory.
     fn plan(&self, alloc: Global, volume: Self::Volume, steps: Vec<Step>) -> Reply
@@ -98,6 +106,9 @@ pub trait ShownFormat: FileFormat + Drop {
         ensures none { IfOk result (λ other. IfNone other (self.now ≡ unreserved self.now)) };
 
     ghost reserving: { (format : Self) → IsUnreserved (Self.meaning format) (Self.meaning (unreserved format)) };
+
+    ghost fitting: { (format : Self) (device : DeviceState) → HasUnitsOf (file_system_of (form format)) device
+        → Fits (Self.meaning format) device };
 }
 
 impl ShownFormat for Dos33 {
@@ -111,6 +122,8 @@ impl ShownFormat for Dos33 {
 
     ghost reserving = { λ f. dos_unreserved f.data_disk f.reserved };
 
+    ghost fitting = { λ f device units. record { unit = units.0; places = units.1 } };
+
     fn form(&self) -> PlaceForm {
         PlaceForm::Sector
     }
@@ -120,9 +133,9 @@ impl ShownFormat for Dos33 {
         alloc: Global,
         volume: DosVolume,
         style: Style,
-        facts: Vec<Facts>,
+        known: KnownFiles,
     ) -> Result<Told, AllocError> {
-        let text = dos_listing(alloc, self, &volume, style, facts.as_slice())?;
+        let text = dos_listing(alloc, self, &volume, style, &known)?;
         Ok(Told::Text(text))
     }
 
@@ -149,6 +162,8 @@ impl ShownFormat for Prodos {
 
     ghost reserving = { λ f. pro_unreserved f };
 
+    ghost fitting = { λ f device units. record { unit = units.0; places = (units.1, units.2) } };
+
     fn form(&self) -> PlaceForm {
         PlaceForm::Block
     }
@@ -158,9 +173,9 @@ impl ShownFormat for Prodos {
         alloc: Global,
         volume: ProVolume,
         style: Style,
-        facts: Vec<Facts>,
+        known: KnownFiles,
     ) -> Result<Told, AllocError> {
-        let lines = ProLines::new(alloc, style, volume, facts)?;
+        let lines = ProLines::new(alloc, style, volume, known)?;
         Ok(Told::Listing(lines))
     }
 
@@ -180,7 +195,7 @@ impl ShownFormat for Prodos {
 fn catalog_reply<F: ShownFormat>(alloc: Global, format: &F, volume: F::Volume) -> Reply
     ensures { TellsListing IsDone AsCatalog (F.form format.now) (F.directory format.now volume) [] result }
 {
-    match format.listing(alloc, volume, Style::Catalog, Vec::new(alloc)) {
+    match format.listing(alloc, volume, Style::Catalog, KnownFiles::none(alloc)) {
         Ok(told) => Reply::told(Status::Done, told),
         Err(_) => Reply::failed(Failure::Memory),
     }

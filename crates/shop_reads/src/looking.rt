@@ -12,6 +12,7 @@ ghost use Rattle.vol_format.specs.Fits.{Fits};
 
 use crate::bodies::bodies_reply;
 use crate::check::check_reply;
+use crate::compare::compare_reply;
 use crate::entries::entries_reply;
 use crate::listing::{ShownFormat, listing_reply};
 use crate::map::map_reply;
@@ -35,7 +36,7 @@ use std::alloc::Global;
 pub fn look_reply<D: Device, F: ShownFormat>(
     alloc: Global,
     look: &Look,
-    extra: &[u8],
+    extra: Vec<u8>,
     device: &mut D,
     format: &F,
 ) -> Reply
@@ -43,7 +44,7 @@ pub fn look_reply<D: Device, F: ShownFormat>(
     ensures reads { ReadsFor (look_view look.now) result (D.state device.old) (D.state device.new) }
     ensures told { IsTrue (D.state device.old).honest
         → FailsForLackIn (look_view look.now) result (D.state device.old) (D.state device.new)
-        → IsLookReply (look_view look.now) extra.now
+        → IsLookReply (look_view look.now) extra.items
         (record {
           form = F.form format.now;
           files = F.files format.now;
@@ -67,7 +68,10 @@ pub fn look_reply<D: Device, F: ShownFormat>(
             reclaim,
             words: true,
         } => plan_words_reply(alloc, device, format, *reclaim),
-        Look::Verify { reclaim, .. } => verify_reply(alloc, device, format, *reclaim, extra),
+        Look::Compare { options, .. } => compare_reply(alloc, device, format, extra, *options),
+        Look::Verify { reclaim, .. } => {
+            verify_reply(alloc, device, format, *reclaim, extra.as_slice())
+        }
     }
 }
 
@@ -75,7 +79,7 @@ pub fn look_reply<D: Device, F: ShownFormat>(
 fn look_at_dos<D: Device>(
     alloc: Global,
     look: &Look,
-    extra: &[u8],
+    extra: Vec<u8>,
     device: &mut D,
     data_disk: bool,
     reserved: Reserved,
@@ -84,7 +88,7 @@ fn look_at_dos<D: Device>(
     ensures reads { ReadsFor (look_view look.now) result (D.state device.old) (D.state device.new) }
     ensures told { IsTrue (D.state device.old).honest
         → FailsForLackIn (look_view look.now) result (D.state device.old) (D.state device.new)
-        → (result ≡ failed OfMemory) ⊎ IsLookReply (look_view look.now) extra.now
+        → (result ≡ failed OfMemory) ⊎ IsLookReply (look_view look.now) extra.items
         (shown_in OfDos data_disk reserved) (D.state device.old) result }
 {
     let Ok(format) = Dos33::new(alloc, data_disk, reserved) else {
@@ -97,7 +101,7 @@ fn look_at_dos<D: Device>(
 fn look_at_prodos<D: Device>(
     alloc: Global,
     look: &Look,
-    extra: &[u8],
+    extra: Vec<u8>,
     device: &mut D,
     reserved: Reserved,
 ) -> Reply
@@ -105,7 +109,7 @@ fn look_at_prodos<D: Device>(
     ensures reads { ReadsFor (look_view look.now) result (D.state device.old) (D.state device.new) }
     ensures told { IsTrue (D.state device.old).honest
         → FailsForLackIn (look_view look.now) result (D.state device.old) (D.state device.new)
-        → IsLookReply (look_view look.now) extra.now (shown_in OfProdos false reserved) (D.state device.old) result }
+        → IsLookReply (look_view look.now) extra.items (shown_in OfProdos false reserved) (D.state device.old) result }
 {
     let format = Prodos::new(alloc, reserved);
     look_reply(alloc, look, extra, device, &format)
@@ -116,7 +120,7 @@ fn look_at_prodos<D: Device>(
 pub fn look_at_volume<D: Device>(
     alloc: Global,
     look: &Look,
-    extra: &[u8],
+    extra: Vec<u8>,
     device: &mut D,
     options: VolumeOptions,
     reserved: Reserved,
@@ -125,7 +129,7 @@ pub fn look_at_volume<D: Device>(
     ensures reads { ReadsFor (look_view look.now) result (D.state device.old) (D.state device.new) }
     ensures told { IsTrue (D.state device.old).honest
         → FailsForLackIn (look_view look.now) result (D.state device.old) (D.state device.new)
-        → (result ≡ failed OfMemory) ⊎ IsLookReply (look_view look.now) extra.now (shown_by options reserved)
+        → (result ≡ failed OfMemory) ⊎ IsLookReply (look_view look.now) extra.items (shown_by options reserved)
         (D.state device.old) result }
 {
     match options.file_system {
@@ -139,7 +143,7 @@ pub fn look_at_volume<D: Device>(
 pub fn look_on_device<D: Device>(
     alloc: Global,
     look: &Look,
-    extra: &[u8],
+    extra: Vec<u8>,
     device: &mut D,
     options: VolumeOptions,
     reserve: Option<&str>,
@@ -149,7 +153,7 @@ pub fn look_on_device<D: Device>(
     ensures told { IsTrue (D.state device.old).honest
         → HasNotFailed (look_view look.now) result (D.state device.old) (D.state device.new)
         → IsDeviceReply options.file_system (option_map (λ s. s.now) reserve.entry)
-        (λ reserved. IsLookReply (look_view look.now) extra.now (shown_by options reserved)
+        (λ reserved. IsLookReply (look_view look.now) extra.items (shown_by options reserved)
         (D.state device.old) result) result }
 {
     match reserved_by(alloc, form_of(options.file_system), reserve) {

@@ -1,8 +1,20 @@
--- What may go wrong where bytes are read.
-use Rattle.std.specs.Prelude.{◌≡◌, ◌⊎◌}
+-- How many bytes are read, and what may go wrong.
+use Rattle.std.specs.Prelude.{◌≡◌, ◌⊎◌, ℕ}
+use Rattle.shop_jobs.specs.Job.{AskView, Compare, LookAt, LookView}
+use Rattle.shop_replies.specs.Disk.{most_bytes}
 use Rattle.shop_replies.specs.declared.refusal.Failure.{Failure}
 use Rattle.shop_replies.specs.declared.refusal.Failure.TheVariants.{Input, Memory}
 
 -- the reader fails, or there is no room for what it has
 abbrev pub IsReadFailure : Failure → Type 0
 IsReadFailure failure = (failure ≡ Input) ⊎ (failure ≡ Memory)
+
+-- the most bytes that are taken of the file beside the image: of another image those of its order, of a certificate or of a
+-- file that is saved 16,777,216
+abbrev pub most_of_look : LookView → ℕ
+most_of_look (Compare other options) = most_bytes options.other_order
+most_of_look look = 16777216
+
+abbrev pub most_beside : AskView → ℕ
+most_beside (LookAt volume reserve look) = most_of_look look
+most_beside ask = 16777216

@@ -1,5 +1,5 @@
 -- What a job answers, and how it is told.
-use Rattle.std.specs.Prelude.{◌≡◌, ◌⊎◌, ℕ, List, [], ◌++◌, Option, Some, None, IsSome, option_map, unwrap_or, take, codes, string_bytes}
+use Rattle.std.specs.Prelude.{◌≡◌, ◌⊎◌, ◌-◌, ℕ, List, [], ◌++◌, Option, Some, None, IsSome, length, option_map, unwrap_or, take, codes, string_bytes}
 use Rattle.std.specs.Io.KnownBytes.{Appends, Keeps}
 use Rattle.a2_image.specs.declared.error.ImageError.{ImageError}
 use Rattle.a2_image.specs.declared.error.ImageError.TheVariants as images
@@ -9,6 +9,8 @@ use Rattle.shop_replies.specs.declared.refusal.Refusal.{Refusal}
 use Rattle.shop_replies.specs.declared.refusal.Refusal.TheVariants as refusals
 use Rattle.shop_replies.specs.declared.refusal.Failure.{Failure}
 use Rattle.shop_replies.specs.declared.refusal.Failure.TheVariants as failures
+use Rattle.shop_replies.specs.declared.refusal.Side.{Side}
+use Rattle.shop_replies.specs.declared.refusal.Side.TheVariants.{First, Second}
 use Rattle.shop_replies.specs.declared.reply.Reply.{Reply}
 use Rattle.shop_replies.specs.declared.reply.Status.{Status}
 use Rattle.shop_replies.specs.declared.reply.Status.TheVariants as statuses
@@ -39,6 +41,14 @@ failure_line failures.Input = codes "FAILED Input\n"
 failure_line failures.Device = codes "FAILED Device\n"
 failure_line failures.Memory = codes "FAILED Memory\n"
 
+-- a line with the number of an image in the place of its end
+abbrev pub number_end : Side → List ℕ
+number_end First = codes " 1\n"
+number_end Second = codes " 2\n"
+
+abbrev pub numbered : Side → List ℕ → List ℕ
+numbered side line = take (length line - 1) line ++ number_end side
+
 -- the status as the program's: 0 done, 1 something is wrong, 3 refused, 4 failed
 abbrev pub status_number : Status → ℕ
 status_number statuses.Done = 0
@@ -52,15 +62,23 @@ told_text tells.Ok = codes "OK\n"
 told_text (tells.Text text) = string_bytes text
 told_text (tells.Bytes bytes) = bytes.items
 told_text (tells.Report line certificate) = string_bytes line ++ certificate.items
+told_text (tells.Faults text files) = string_bytes text
 told_text (tells.Listing lines) = listed_text (listed_in lines)
 told_text (tells.Plan lines) = plan_text (plan_in lines)
 told_text (tells.Refusal refusal) = refusal_line refusal
 told_text (tells.Failure failure) = failure_line failure
+told_text (tells.RefusalOf side refusal) = numbered side (refusal_line refusal)
+told_text (tells.FailureOf side failure) = numbered side (failure_line failure)
 
 -- the certificate that is told behind the line of a report; none of anything else
 abbrev pub certificate_in : Told → Option (List ℕ)
 certificate_in (tells.Report line certificate) = Some certificate.items
 certificate_in told = None
+
+-- the lines that name the files of faults: they are kept beside the lines of the faults, and not told
+abbrev pub fault_files_in : Told → Option (List ℕ)
+fault_files_in (tells.Faults text files) = Some (string_bytes files)
+fault_files_in told = None
 
 -- of a reply the status, what is written of it, and what the output file gets
 abbrev pub status_of : Reply → ℕ
@@ -78,6 +96,23 @@ refused refusal = record { status = statuses.Refused; told = tells.Refusal refus
 
 abbrev pub failed : Failure → Reply
 failed failure = record { status = statuses.Failed; told = tells.Failure failure; image = None }
+
+-- the same of one of two images
+abbrev pub refused_of : Side → Refusal → Reply
+refused_of side refusal = record { status = statuses.Refused; told = tells.RefusalOf side refusal; image = None }
+
+abbrev pub failed_of : Side → Failure → Reply
+failed_of side failure = record { status = statuses.Failed; told = tells.FailureOf side failure; image = None }
+
+-- what is told, with the image of which it refuses or fails; want of memory is of none
+abbrev pub told_of_image : Side → Told → Told
+told_of_image side (tells.Refusal refusal) = tells.RefusalOf side refusal
+told_of_image side (tells.Failure failures.Input) = tells.FailureOf side failures.Input
+told_of_image side (tells.Failure failures.Device) = tells.FailureOf side failures.Device
+told_of_image side told = told
+
+abbrev pub of_image : Side → Reply → Reply
+of_image side reply = record reply { told = told_of_image side reply.told }
 
 -- a reply with a status, which hands out no image, or hands one out
 abbrev pub IsTold : Status → Reply → Type 0

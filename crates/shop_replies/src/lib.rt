@@ -25,8 +25,8 @@ mod writing;
 
 pub use convert::convert_reply;
 pub use disk::{most_bytes, open_disk};
-pub use opening::{form_of, open_volume};
-pub use reading::read_front;
-pub use refusal::{Failure, Refusal};
+pub use opening::{device_of, form_of, open_volume};
+pub use reading::{most_beside, read_front};
+pub use refusal::{Failure, Refusal, Side};
 pub use reply::{FAILED, Reply, Status, Told};
 pub use writing::written;

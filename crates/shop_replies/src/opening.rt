@@ -1,12 +1,20 @@
-// Taking the bytes of an image.
+// Taking the bytes of an image, and the device of its volume.
 ghost use Rattle.std.specs.Prelude.{◌≡◌, IfErr, IfOk, length};
 ghost use Rattle.a2_image.specs.Image.{IsOfDisk};
 ghost use Rattle.shop_jobs.specs.declared.job.FileSystem.TheVariants.{Dos as OfDos};
-ghost use Rattle.shop_replies.specs.Volume.{IsImageOf, RefusesBytes, TakesBytes, form_of as form_by};
+ghost use Rattle.shop_replies.specs.Volume.{
+  HasUnitsOf,
+  IsImageOf,
+  RefusesBytes,
+  TakesBytes,
+  device_of as device_by,
+  form_of as form_by,
+};
 
 use crate::open_disk;
-use a2_device::Order;
+use a2_device::{Device, Order};
 use a2_image::{Image, ImageError};
+use a2_media::ImageDevice;
 use reserved_places::PlaceForm;
 use shop_jobs::FileSystem;
 
@@ -40,5 +48,19 @@ pub fn open_volume(
     match Image::open(bytes, order) {
         Ok(image) => Ok(image),
         Err((error, _)) => Err(error),
+    }
+}
+
+/// The device of the units that an image has for a file system.
+pub fn device_of(image: Image, file_system: FileSystem) -> ImageDevice
+    requires { file_system ≡ OfDos → IsOfDisk image }
+    ensures device { ⟦<ImageDevice as Device>⟧.state result ≡ device_by file_system image }
+    ensures units { HasUnitsOf file_system (⟦<ImageDevice as Device>⟧.state result) }
+{
+    // Called for what its contract says: an image has 16 to 65,535 blocks.
+    let _blocks = image.blocks();
+    match file_system {
+        FileSystem::Dos => ImageDevice::dos(image),
+        FileSystem::Prodos => ImageDevice::prodos(image),
     }
 }

@@ -1,10 +1,29 @@
 // Bytes, read from readers that may fail.
 ghost use Rattle.std.specs.Prelude.{◌≡◌, ◌+◌, IfErr, IfOk, IfSome, take};
-ghost use Rattle.shop_replies.specs.Reading.{IsReadFailure};
+ghost use Rattle.shop_jobs.specs.Job.{ask_view};
+ghost use Rattle.shop_replies.specs.Reading.{IsReadFailure, most_beside};
 
+use crate::disk::most_bytes;
 use crate::refusal::Failure;
+use shop_jobs::{Ask, Job, Look};
 use std::alloc::Global;
 use std::io::{ErrorKind, Read};
+
+/// The most bytes that a certificate and a file that is saved may have.
+const MOST_GIVEN: u32 = 16_777_216;
+
+/// The most bytes that are taken of the file beside the image of a job; of another image those of its order.
+pub fn most_beside(job: &Job) -> u32
+    ensures { result ≡ most_beside (ask_view job.now.ask) }
+{
+    match &job.ask {
+        Ask::Look {
+            look: Look::Compare { options, .. },
+            ..
+        } => most_bytes(options.other_order) as u32,
+        _ => MOST_GIVEN,
+    }
+}
 
 /// Reads up to one byte past so many.
 ///

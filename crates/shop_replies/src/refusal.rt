@@ -1,6 +1,6 @@
 // Why a job is refused, and what fails under one.
 ghost use Rattle.std.specs.Prelude.{◌≡◌};
-ghost use Rattle.shop_replies.specs.Reply.{failure_line, refusal_line};
+ghost use Rattle.shop_replies.specs.Reply.{failure_line, number_end, refusal_line};
 
 /// Why a job was refused.
 #[derive(Clone, Copy, Debug, PartialEq, Eq)]
@@ -49,6 +49,25 @@ pub enum Failure {
     /// A sector of the image could not be read.
     Device,
     Memory,
+}
+
+/// One of the two images that a job compares.
+#[derive(Clone, Copy, Debug, PartialEq, Eq)]
+pub enum Side {
+    First,
+    Second,
+}
+
+impl Side {
+    // What stands behind a line that tells it of this image.
+    pub(crate) fn end(self) -> &'static [u8]
+        ensures { result.now ≡ number_end self }
+    {
+        match self {
+            Side::First => b" 1\n",
+            Side::Second => b" 2\n",
+        }
+    }
 }
 
 impl Refusal {

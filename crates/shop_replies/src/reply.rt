@@ -9,17 +9,22 @@ ghost use Rattle.shop_replies.specs.Reply.{
   IsWritten,
   certificate_in,
   failed,
+  failed_of,
+  fault_files_in,
   held,
+  of_image,
   refused,
+  refused_of,
   status_number,
   status_of,
   text_of,
+  told_of_image,
   told_text,
 };
 
 use crate::plan_writing::write_plan;
-use crate::refusal::{Failure, Refusal};
-use crate::writing::{write_both, write_lines, write_whole, written};
+use crate::refusal::{Failure, Refusal, Side};
+use crate::writing::{write_both, write_lines, write_numbered, write_whole, written};
 use file_listings::{ProLines, ProSteps};
 use std::alloc::{AllocError, Global};
 use std::io::Write;
@@ -48,6 +53,9 @@ pub enum Told {
     Bytes(Vec<u8>),
     /// What was done to a volume: a line, with its end, and the certificate of the plan behind it.
     Report { line: String, certificate: Vec<u8> },
+    /// The lines of the faults of a volume. The lines that name files are kept beside them for who explains the faults,
+    /// and are not told.
+    Faults { text: String, files: String },
     /// The lines of a listing, which are made as they are told.
     Listing(ProLines),
     /// The steps of a plan in words, which are made as they are told.
@@ -56,6 +64,10 @@ pub enum Told {
     Refusal(Refusal),
     /// What failed.
     Failure(Failure),
+    /// Why it was refused, and for which of two images.
+    RefusalOf(Side, Refusal),
+    /// What failed, and of which of two images.
+    FailureOf(Side, Failure),
 }
 
 /// What a job answers.
@@ -99,10 +111,25 @@ impl Told {
             Told::Report { line, certificate } => {
                 write_both(line.as_bytes(), certificate.as_slice(), text)
             }
+            Told::Faults { text: lines, .. } => write_whole(lines.as_bytes(), text),
             Told::Listing(lines) => write_lines(lines, text),
             Told::Plan(lines) => write_plan(lines, text),
             Told::Refusal(refusal) => write_whole(refusal.line(), text),
             Told::Failure(failure) => write_whole(failure.line(), text),
+            Told::RefusalOf(side, refusal) => write_numbered(refusal.line(), *side, text),
+            Told::FailureOf(side, failure) => write_numbered(failure.line(), *side, text),
+        }
+    }
+
+    // The same of one of two images.
+    fn of_image(self, side: Side) -> Told
+        ensures { result ≡ told_of_image side self }
+    {
+        match self {
+            Told::Refusal(refusal) => Told::RefusalOf(side, refusal),
+            Told::Failure(Failure::Input) => Told::FailureOf(side, Failure::Input),
+            Told::Failure(Failure::Device) => Told::FailureOf(side, Failure::Device),
+            told => told,
         }
     }
 
@@ -156,6 +183,13 @@ impl Reply {
         Reply::told(Status::Wrong, Told::Text(text))
     }
 
+    /// The lines of the faults of a volume, and the lines that name the files of some of them.
+    pub fn faults(text: String, files: String) -> Reply
+        ensures { result ≡ record { status = Status.Wrong; told = Told.Faults text files; image = None } }
+    {
+        Reply::told(Status::Wrong, Told::Faults { text, files })
+    }
+
     /// The text of a refusal that says more than its name.
     pub fn unopened(text: String) -> Reply
         ensures { result ≡ record { status = Status.Refused; told = Told.Text text; image = None } }
@@ -189,6 +223,30 @@ impl Reply {
         ensures { result ≡ failed failure }
     {
         Reply::told(Status::Failed, Told::Failure(failure))
+    }
+
+    /// A job was refused for one of two images.
+    pub fn refused_of(side: Side, refusal: Refusal) -> Reply
+        ensures { result ≡ refused_of side refusal }
+    {
+        Reply::told(Status::Refused, Told::RefusalOf(side, refusal))
+    }
+
+    /// Something failed of one of two images.
+    pub fn failed_of(side: Side, failure: Failure) -> Reply
+        ensures { result ≡ failed_of side failure }
+    {
+        Reply::told(Status::Failed, Told::FailureOf(side, failure))
+    }
+
+    /// The same reply, which says of which of two images it refuses or fails; want of memory is of none.
+    pub fn of_image(self, side: Side) -> Reply
+        ensures { result ≡ of_image side self }
+    {
+        Reply {
+            told: self.told.of_image(side),
+            ..self
+        }
     }
 
     /// The image that a job has made: it tells `OK`.
@@ -230,6 +288,16 @@ impl Reply {
     {
         match &self.told {
             Told::Report { certificate, .. } => Some(certificate.as_slice()),
+            _ => None,
+        }
+    }
+
+    /// The lines that name the files of faults, where there are such; they are not told.
+    pub fn fault_files(&self) -> Option<&str>
+        ensures { option_map (λ s. s.now) result ≡ fault_files_in self.now.told }
+    {
+        match &self.told {
+            Told::Faults { files, .. } => Some(files.as_str()),
             _ => None,
         }
     }

@@ -3,8 +3,9 @@ ghost use Rattle.std.specs.Prelude.{◌<◌, ◌≡◌, ◌++◌, [], IsTrue, fl
 ghost use Rattle.std.specs.Io.KnownBytes.{Appends};
 ghost use Rattle.file_listings.specs.ProLines.{lines_of, listed_in, listed_text};
 ghost use Rattle.file_listings.specs.ProText.{first_line, last_line};
-ghost use Rattle.shop_replies.specs.Reply.{AppendsFront, IsWritten};
+ghost use Rattle.shop_replies.specs.Reply.{AppendsFront, IsWritten, numbered};
 
+use crate::refusal::Side;
 use crate::reply::FAILED;
 use file_listings::ProLines;
 use std::io::{ErrorKind, Write};
@@ -49,6 +50,16 @@ pub(crate) fn write_both<W: Write>(first: &[u8], other: &[u8], writer: &mut W) -
     ensures front { AppendsFront (W.contents writer.old) (W.contents writer.new) (first.now ++ other.now) }
 {
     write_whole(first, writer) && write_whole(other, writer)
+}
+
+// Writes a line with the number of an image in it, or as much of it as the writer takes, and answers whether it took
+// all.
+pub(crate) fn write_numbered<W: Write>(line: &[u8], side: Side, writer: &mut W) -> bool
+    ensures whole { IsTrue result
+        → Appends (W.contents writer.old) (W.contents writer.new) (numbered side line.now) }
+    ensures front { AppendsFront (W.contents writer.old) (W.contents writer.new) (numbered side line.now) }
+{
+    write_both(&line[..line.len().saturating_sub(1)], side.end(), writer)
 }
 
 // Writes the line of an entry of a listing, or as much of it as the writer takes, and answers whether it took all.

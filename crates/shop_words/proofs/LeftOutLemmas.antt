@@ -4,10 +4,10 @@ use Rattle.std.proofs.lemmas.List.{map-append, take-map, drop-map, drop_all}
 use Rattle.std.specs.Prelude.{◌||◌, ◌&&◌, not, codes, cond, if◌then◌else◌, Option, Some, slice_get}
 use Rattle.std.specs.List.{insert, list_any, position_or_len}
 use Rattle.shop_words.specs.declared.auto.AutoOption.{AutoOption}
-use Rattle.shop_words.specs.declared.auto.AutoOption.TheVariants.{FileSystem, Order}
+use Rattle.shop_words.specs.declared.auto.AutoOption.TheVariants.{FileSystem, Order, OtherOrder}
 use Rattle.shop_words.specs.Auto.{option_word}
 use Rattle.shop_words.specs.Front.{Text}
-use Rattle.shop_words.specs.LeftOut.{asks_to_fill_in, completed, ends_options, filled_in, gives, is_auto_word, is_option_of, leaves_out, may_leave_out, with_option}
+use Rattle.shop_words.specs.LeftOut.{asks_to_fill_in, completed, ends_options, filled_in, gives, is_auto_word, is_option_of, leaves_out, may_leave_out, other_completed, with_option}
 
 pub any-map : {A B : Type 0} (p : B → Bool) (f : A → B) (xs : List A) → list_any p (map f xs) ≡ list_any (λ x. p (f x)) xs
 any-map p f [] = refl
@@ -77,14 +77,16 @@ module _ {S : Type 0} (view : S → Text) (words : List S) where
   pub asked_else : (beside left : Bool) → beside ≡ is_beside_others → beside ≡ false → left ≡ may_leave_out (map view words) → left ≡ asks_to_fill_in (map view words)
   asked_else beside left is fails left_is = left_is ∙ sym (asks_words ∙ ap (λ b. b || may_leave_out (map view words)) (sym is ∙ fails))
 
-  pub filled : (asks : Bool) (kept one two : List S) → asks ≡ asks_to_fill_in (map view words) → asks ≡ true
+  pub filled : (asks : Bool) (kept one two three : List S) → asks ≡ asks_to_fill_in (map view words) → asks ≡ true
       → kept ≡ filter (λ word. not (is_auto_word (view word))) words → map view one ≡ completed FileSystem (map view kept)
-      → map view two ≡ completed Order (map view one) → map view two ≡ filled_in (map view words)
-  filled asks kept one two asks_is holds kept_is one_is two_is =
+      → map view two ≡ completed Order (map view one) → map view three ≡ other_completed (map view two)
+      → map view three ≡ filled_in (map view words)
+  filled asks kept one two three asks_is holds kept_is one_is two_is three_is =
       let others : List Text = filter (λ word. not (is_auto_word word)) (map view words) in
-      two_is
-      ∙ ap (completed Order) (one_is ∙ ap (completed FileSystem) (ap (map view) kept_is ∙ filter-map (λ word. not (is_auto_word word)) view words))
-      ∙ sym (ap (λ b. if b then completed Order (completed FileSystem others) else map view words) (sym asks_is ∙ holds))
+      three_is
+      ∙ ap other_completed (two_is
+      ∙ ap (completed Order) (one_is ∙ ap (completed FileSystem) (ap (map view) kept_is ∙ filter-map (λ word. not (is_auto_word word)) view words)))
+      ∙ sym (ap (λ b. if b then other_completed (completed Order (completed FileSystem others)) else map view words) (sym asks_is ∙ holds))
 
   pub option_put : (option : AutoOption) (one two : List S) (end : ℕ) (value name : S) → two ≡ insert one end name → one ≡ insert words end value
       → view value ≡ codes "auto" → view name ≡ option_word option → end ≡ position_or_len ends_options (map view words)

@@ -15,6 +15,7 @@ pub mod PlainStored
 pub mod HexWords
 pub mod CatalogLine
 pub mod ListLine
+pub mod CompareLine
 pub mod MapLine
 pub mod CheckLine
 pub mod ReadLine

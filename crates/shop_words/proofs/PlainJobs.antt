@@ -21,10 +21,10 @@ use Rattle.shop_words.proofs.PlainValues.{Test, flag_same, leaves_off, option_sa
 
 -- the names by which a job is said, and those of its flags
 abbrev pub option_names : List Text
-option_names = codes "image" ∷ codes "fs" ∷ codes "order" ∷ codes "to" ∷ codes "out" ∷ codes "volume" ∷ codes "reserve" ∷ codes "name" ∷ codes "new" ∷ codes "stop-after" ∷ codes "cert" ∷ codes "from" ∷ codes "type" ∷ codes "aux" ∷ codes "date" ∷ codes "format" ∷ codes "most" ∷ []
+option_names = codes "image" ∷ codes "fs" ∷ codes "order" ∷ codes "to" ∷ codes "out" ∷ codes "volume" ∷ codes "reserve" ∷ codes "name" ∷ codes "new" ∷ codes "stop-after" ∷ codes "cert" ∷ codes "from" ∷ codes "type" ∷ codes "aux" ∷ codes "date" ∷ codes "format" ∷ codes "most" ∷ codes "other" ∷ codes "other-order" ∷ []
 
 abbrev pub flag_names : List Text
-flag_names = codes "data-disk" ∷ codes "whole" ∷ codes "reclaim" ∷ codes "words" ∷ codes "in-place" ∷ codes "digests" ∷ codes "bodies" ∷ codes "stored" ∷ []
+flag_names = codes "data-disk" ∷ codes "whole" ∷ codes "reclaim" ∷ codes "words" ∷ codes "in-place" ∷ codes "digests" ∷ codes "bodies" ∷ codes "stored" ∷ codes "places" ∷ codes "all" ∷ []
 
 abbrev pub leaves_all_off : FormView → Test → List Text → Bool
 leaves_all_off f q names = list_all (λ id. list_all (leaves_off q id) (shape_named f.name).rules) names
@@ -59,6 +59,8 @@ job_by-same command s t options flags =
       options (codes "date") refl,
       options (codes "format") refl,
       options (codes "most") refl,
+      options (codes "other") refl,
+      options (codes "other-order") refl,
       flags (codes "data-disk") refl,
       flags (codes "whole") refl,
       flags (codes "reclaim") refl,
@@ -67,6 +69,8 @@ job_by-same command s t options flags =
       flags (codes "digests") refl,
       flags (codes "bodies") refl,
       flags (codes "stored") refl,
+      flags (codes "places") refl,
+      flags (codes "all") refl,
     ) refl
 
 -- what clap finds under a name

@@ -4,7 +4,7 @@ use Rattle.std.proofs.lemmas.List.Elements.{All-contains, All-cons}
 use Rattle.clap.specs.Faults.{is_simple_and_free}
 use Rattle.clap.specs.Simple.{is_simple, subcommand_of}
 use Rattle.clap.specs.Takes.{takes}
-use Rattle.shop_words.specs.Table.{Text, FormView, catalog_form, list_form, map_form, check_form, read_form, convert_form, plan_form, optimize_form, lock_form, unlock_form, delete_form, rename_form, save_form, verify_form, identify_form, forms}
+use Rattle.shop_words.specs.Table.{Text, FormView, catalog_form, list_form, compare_form, map_form, check_form, read_form, convert_form, plan_form, optimize_form, lock_form, unlock_form, delete_form, rename_form, save_form, verify_form, identify_form, forms}
 use Rattle.shop_words.specs.Grammar.{shop}
 use Rattle.shop_words.specs.Plain.{Use, IsPlainLine, line_words}
 use Rattle.shop_jobs.specs.Job.{Lock, Unlock, Delete}
@@ -14,6 +14,7 @@ use Rattle.shop_words.proofs.PlainTaken.{is_simple-whole, is_simple_and_free-who
 use Rattle.shop_words.proofs.PlainJobs.{HasPlainDefaults, job_by-rows}
 use Rattle.shop_words.proofs.CatalogLine.{catalog_defaults, catalog_known, is_some-line_job-catalog}
 use Rattle.shop_words.proofs.ListLine.{list_defaults, list_known, is_some-line_job-list}
+use Rattle.shop_words.proofs.CompareLine.{compare_defaults, compare_known, is_some-line_job-compare}
 use Rattle.shop_words.proofs.MapLine.{map_defaults, map_known, is_some-line_job-map}
 use Rattle.shop_words.proofs.CheckLine.{check_defaults, check_known, is_some-line_job-check}
 use Rattle.shop_words.proofs.ReadLine.{read_defaults, read_known, is_some-line_job-read}
@@ -35,6 +36,9 @@ serves_catalog = record { known = catalog_known; defaults = catalog_defaults; jo
 
 serves_list : IsServed list_form
 serves_list = record { known = list_known; defaults = list_defaults; job = is_some-line_job-list }
+
+serves_compare : IsServed compare_form
+serves_compare = record { known = compare_known; defaults = compare_defaults; job = is_some-line_job-compare }
 
 serves_map : IsServed map_form
 serves_map = record { known = map_known; defaults = map_defaults; job = is_some-line_job-map }
@@ -77,8 +81,9 @@ serves_identify = record { known = identify_known; defaults = identify_defaults;
 
 all_served : All IsServed forms
 all_served =
-    All-cons IsServed catalog_form (list_form ∷ map_form ∷ check_form ∷ read_form ∷ convert_form ∷ plan_form ∷ optimize_form ∷ lock_form ∷ unlock_form ∷ delete_form ∷ rename_form ∷ save_form ∷ verify_form ∷ identify_form ∷ []) serves_catalog
-    (All-cons IsServed list_form (map_form ∷ check_form ∷ read_form ∷ convert_form ∷ plan_form ∷ optimize_form ∷ lock_form ∷ unlock_form ∷ delete_form ∷ rename_form ∷ save_form ∷ verify_form ∷ identify_form ∷ []) serves_list
+    All-cons IsServed catalog_form (list_form ∷ compare_form ∷ map_form ∷ check_form ∷ read_form ∷ convert_form ∷ plan_form ∷ optimize_form ∷ lock_form ∷ unlock_form ∷ delete_form ∷ rename_form ∷ save_form ∷ verify_form ∷ identify_form ∷ []) serves_catalog
+    (All-cons IsServed list_form (compare_form ∷ map_form ∷ check_form ∷ read_form ∷ convert_form ∷ plan_form ∷ optimize_form ∷ lock_form ∷ unlock_form ∷ delete_form ∷ rename_form ∷ save_form ∷ verify_form ∷ identify_form ∷ []) serves_list
+    (All-cons IsServed compare_form (map_form ∷ check_form ∷ read_form ∷ convert_form ∷ plan_form ∷ optimize_form ∷ lock_form ∷ unlock_form ∷ delete_form ∷ rename_form ∷ save_form ∷ verify_form ∷ identify_form ∷ []) serves_compare
     (All-cons IsServed map_form (check_form ∷ read_form ∷ convert_form ∷ plan_form ∷ optimize_form ∷ lock_form ∷ unlock_form ∷ delete_form ∷ rename_form ∷ save_form ∷ verify_form ∷ identify_form ∷ []) serves_map
     (All-cons IsServed check_form (read_form ∷ convert_form ∷ plan_form ∷ optimize_form ∷ lock_form ∷ unlock_form ∷ delete_form ∷ rename_form ∷ save_form ∷ verify_form ∷ identify_form ∷ []) serves_check
     (All-cons IsServed read_form (convert_form ∷ plan_form ∷ optimize_form ∷ lock_form ∷ unlock_form ∷ delete_form ∷ rename_form ∷ save_form ∷ verify_form ∷ identify_form ∷ []) serves_read
@@ -91,7 +96,7 @@ all_served =
     (All-cons IsServed rename_form (save_form ∷ verify_form ∷ identify_form ∷ []) serves_rename
     (All-cons IsServed save_form (verify_form ∷ identify_form ∷ []) serves_save
     (All-cons IsServed verify_form (identify_form ∷ []) serves_verify
-    (All-cons IsServed identify_form [] serves_identify (λ k d lt. absurd (omega arith))))))))))))))))
+    (All-cons IsServed identify_form [] serves_identify (λ k d lt. absurd (omega arith)))))))))))))))))
 
 served : (f : FormView) → Contains forms f → IsServed f
 served f at = All-contains IsServed forms f all_served at

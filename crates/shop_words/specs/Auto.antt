@@ -3,12 +3,13 @@ use Rattle.std.specs.Prelude.{Bool, ◌||◌, ◌&&◌, List, [], ◌∷◌, ◌
 use Rattle.std.specs.List.{list_any}
 use Rattle.std.specs.Str.{bytes_eq}
 use Rattle.shop_words.specs.declared.auto.AutoOption.{AutoOption}
-use Rattle.shop_words.specs.declared.auto.AutoOption.TheVariants.{FileSystem, Order}
+use Rattle.shop_words.specs.declared.auto.AutoOption.TheVariants.{FileSystem, Order, OtherOrder}
 use Rattle.shop_words.specs.Front.{Text}
 
 abbrev pub option_word : AutoOption → Text
 option_word FileSystem = codes "--fs"
 option_word Order = codes "--order"
+option_word OtherOrder = codes "--other-order"
 
 -- `auto` is a word of its own, right behind the option's
 abbrev pub is_behind : AutoOption → Text → Text → Bool

@@ -5,6 +5,9 @@ use Rattle.std.specs.Prelude.{
   Bool,
   true,
   false,
+  ◌&&◌,
+  ◌||◌,
+  not,
   IsSome,
   List,
   [],
@@ -32,10 +35,11 @@ use Rattle.shop_words.specs.Plain.{Use, alone, valued, use_name, positional_name
 use Rattle.shop_jobs.specs.declared.job.ListForm.{ListForm}
 use Rattle.shop_jobs.specs.declared.job.ListForm.TheVariants as list_forms
 use Rattle.shop_jobs.specs.declared.job.ListOptions.{ListOptions}
+use Rattle.shop_jobs.specs.declared.job.CompareOptions.{CompareOptions}
 use Rattle.shop_jobs.specs.declared.job.FileSystem.{FileSystem}
 use Rattle.shop_jobs.specs.declared.job.FileSystem.TheVariants as file_systems
 use Rattle.shop_jobs.specs.declared.job.VolumeOptions.{VolumeOptions}
-use Rattle.shop_jobs.specs.Job.{AskView, AttributesView, ByPath, ByStored, Catalog, ChangeOf, ChangeView, Check, Convert, Delete, EditOf, EditView, FileNameView, Identify, InPlace, JobView, Lock, Entries, LookAt, LookView, Map, Optimize, Plan, Read, Rename, Save, TargetView, ToFile, Unlock, Verify}
+use Rattle.shop_jobs.specs.Job.{AskView, AttributesView, ByPath, ByStored, Catalog, ChangeOf, ChangeView, Check, Compare, Convert, Delete, EditOf, EditView, FileNameView, Identify, InPlace, JobView, Lock, Entries, LookAt, LookView, Map, Optimize, Plan, Read, Rename, Save, TargetView, ToFile, Unlock, Verify}
 
 -- ---- what a word names
 
@@ -124,13 +128,52 @@ name_by said = option_and_then (file_named (is_on (said (codes "stored")))) (sai
 
 -- ---- what is asked of a volume that is only read
 
--- a list in the form that is said, with digests where a flag says so
-abbrev pub list_of : Option ListForm → Bool → Option ℕ → Option LookView
-list_of (Some form) digests (Some most) = Some (Entries (record { form = form; digests = digests; most = most }))
-list_of _ digests _ = None
+-- places are told in JSON alone
+abbrev pub is_json : ListForm → Bool
+is_json list_forms.Json = true
+is_json form = false
+
+abbrev pub form_for : Bool → Option ListForm → Option ListForm
+form_for places (Some form) = if not places || is_json form then Some form else None
+form_for places None = None
+
+-- a list in the form that is said, with digests and with places where flags say so
+abbrev pub list_of : Option ListForm → Bool → Bool → Option ℕ → Option LookView
+list_of (Some form) digests places (Some most) =
+    Some (Entries (record { form = form; digests = digests; places = places; most = most }))
+list_of _ digests places _ = None
 
 abbrev pub list_by : Said → Option LookView
-list_by said = list_of (form_said (said (codes "format"))) (is_on (said (codes "digests"))) (most_bytes (said (codes "most")))
+list_by said = let places = is_on (said (codes "places")) in
+    list_of (form_for places (form_said (said (codes "format")))) (is_on (said (codes "digests"))) places
+    (most_bytes (said (codes "most")))
+
+-- the path of the other image, where not both are standard input
+abbrev pub other_named : Option Text → Option Text → Option Text
+other_named (Some image) (Some other) =
+    if bytes_eq image (codes "-") && bytes_eq other (codes "-") then None else Some other
+other_named _ _ = None
+
+-- the order of the other image, that of the image where none is said
+abbrev pub other_order : Option Text → Option Text → Option Order
+other_order None order = option_and_then order_named order
+other_order (Some word) order = order_named word
+
+-- how it is compared; files that are the same are told too where a flag says so
+abbrev pub options_of : Option Order → Bool → Option ℕ → Option CompareOptions
+options_of (Some order) all (Some most) = Some (record { other_order = order; all = all; most = most })
+options_of _ all _ = None
+
+abbrev pub options_by : Said → Option CompareOptions
+options_by said = options_of (other_order (said (codes "other-order")) (said (codes "order")))
+    (is_on (said (codes "all"))) (most_bytes (said (codes "most")))
+
+abbrev pub compare_of : Option Text → Option CompareOptions → Option LookView
+compare_of (Some other) (Some options) = Some (Compare other options)
+compare_of _ _ = None
+
+abbrev pub compare_by : Said → Option LookView
+compare_by said = compare_of (other_named (said (codes "image")) (said (codes "other"))) (options_by said)
 
 -- the bodies are checked too where a flag says so
 abbrev pub check_by : Said → LookView
@@ -205,6 +248,7 @@ abbrev pub ask_by : Text → Said → Option AskView
 ask_by command said =
     if bytes_eq command (codes "catalog") then look_by (Some Catalog) None said else
     if bytes_eq command (codes "list") then look_by (list_by said) None said else
+    if bytes_eq command (codes "compare") then look_by (compare_by said) None said else
     if bytes_eq command (codes "map") then look_by (Some Map) (said (codes "reserve")) said else
     if bytes_eq command (codes "check") then look_by (Some (check_by said)) (said (codes "reserve")) said else
     if bytes_eq command (codes "read") then look_by (read_by said) None said else

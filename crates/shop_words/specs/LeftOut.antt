@@ -1,11 +1,12 @@
--- Of `--fs` and `--order`, what the words of a command leave out is `auto`: where they say `--auto`, and of some commands always.
+-- Of `--fs` and `--order`, what the words of a command leave out is `auto`: where they say `--auto`, and of some commands always. Where `--order` is `auto`, so
+-- is the `--other-order` that they leave out.
 use Rattle.std.specs.Prelude.{Bool, false, ◌||◌, ◌&&◌, not, List, [], ◌∷◌, ◌++◌, codes, filter, if◌then◌else◌}
 use Rattle.std.specs.Prelude.{nat_eq}
 use Rattle.std.specs.List.{insert, list_any, position_or_len, starts_with}
 use Rattle.std.specs.Str.{bytes_eq}
 use Rattle.shop_words.specs.declared.auto.AutoOption.{AutoOption}
-use Rattle.shop_words.specs.declared.auto.AutoOption.TheVariants.{FileSystem, Order}
-use Rattle.shop_words.specs.Auto.{option_word}
+use Rattle.shop_words.specs.declared.auto.AutoOption.TheVariants.{FileSystem, Order, OtherOrder}
+use Rattle.shop_words.specs.Auto.{asks_auto, option_word}
 use Rattle.shop_words.specs.Front.{Text}
 use Rattle.shop_words.specs.Table.{FormView, forms}
 
@@ -20,6 +21,7 @@ gives option word = bytes_eq word (option_word option) || starts_with nat_eq wor
 abbrev pub option_name : AutoOption → Text
 option_name FileSystem = codes "fs"
 option_name Order = codes "order"
+option_name OtherOrder = codes "other-order"
 
 -- the form has the option
 abbrev pub has_option : AutoOption → FormView → Bool
@@ -51,16 +53,21 @@ completed option words = if leaves_out option words then with_option option word
 -- the words are those of a command that may leave both out
 abbrev pub may_leave_out : List Text → Bool
 may_leave_out [] = false
-may_leave_out (command ∷ words) = bytes_eq command (codes "list") || bytes_eq command (codes "map")
+may_leave_out (command ∷ words) =
+    bytes_eq command (codes "list") || bytes_eq command (codes "compare") || bytes_eq command (codes "map")
 
 -- one of the words is `--auto` and one is another, or both options may be left out
 abbrev pub asks_to_fill_in : List Text → Bool
 asks_to_fill_in words =
     list_any is_auto_word words && list_any (λ word. not (is_auto_word word)) words || may_leave_out words
 
+-- the same of the order of another image, where that of the image is `auto`
+abbrev pub other_completed : List Text → List Text
+other_completed words = if asks_auto Order words then completed OtherOrder words else words
+
 -- The words without `--auto`, and with the file system and the order that they leave out, where they ask for that.
 abbrev pub filled_in : List Text → List Text
 filled_in words =
     if asks_to_fill_in words
-    then completed Order (completed FileSystem (filter (λ word. not (is_auto_word word)) words))
+    then other_completed (completed Order (completed FileSystem (filter (λ word. not (is_auto_word word)) words)))
     else words

@@ -1,11 +1,11 @@
 -- The plain lists of words: no word at all, or printed from a command's form, its positional words
 -- and its uses of flags and options.
-use Rattle.std.specs.Prelude.{◌≡◌, ◌⊎◌, ◌==◌, All, Any, Contains, IsSome, ℕ, Bool, true, false, not, ◌&&◌, nat_le, List, [], ◌∷◌, ◌++◌, length, filter, map}
+use Rattle.std.specs.Prelude.{◌≡◌, ◌⊎◌, ◌==◌, All, Any, Contains, IsSome, Some, ℕ, Bool, true, false, not, ◌&&◌, nat_le, List, [], ◌∷◌, ◌++◌, codes, length, filter, find, map}
 use Rattle.std.specs.List.{AllPass, AllZip, IsDistinct, list_all}
 use Rattle.std.specs.Char.{is_ascii_digit}
 use Rattle.std.specs.Str.{bytes_eq}
 use Rattle.std.specs.Str.Parse.{digits_value}
-use Rattle.shop_words.specs.Table.{Text, ValuesView, any, one_of, number, KindView, positional, needed, optional, flag, ParameterView, FormView, forms, in_place, name_of_file, out_file, parameter, stored}
+use Rattle.shop_words.specs.Table.{Text, ValuesView, any, one_of, number, KindView, positional, needed, optional, flag, ParameterView, FormView, format, forms, in_place, name_of_file, out_file, parameter, places, stored}
 use Rattle.shop_words.specs.Hexadecimal.{bytes_named}
 
 -- `-`
@@ -81,8 +81,12 @@ UsesOneOf one other uses =
 abbrev pub WritesBytes : List Text → List Text → Type 0
 WritesBytes names words = AllZip (λ name word. name ≡ name_of_file.name → IsSome (bytes_named word)) names words
 
+-- the form of a list that is used is JSON
+abbrev pub UsesJson : List Use → Type 0
+UsesJson uses = find (λ u. bytes_eq (use_name u) format.name) uses ≡ Some (valued format.name (codes "json"))
+
 -- the positional words and uses are those of a plain list of the form; where the image may be changed in place, exactly one of `--out` and `--in-place` is used;
--- with `--stored` the name of the file is in hexadecimal digits
+-- with `--stored` the name of the file is in hexadecimal digits, and with `--places` the form is JSON
 pub record IsPlainLine (f : FormView) (positionals : List Text) (uses : List Use) : Type 0 where
   pub as_many : length positionals ≡ length (positional_names f)
   pub plain : AllPass is_plain_word positionals
@@ -92,6 +96,7 @@ pub record IsPlainLine (f : FormView) (positionals : List Text) (uses : List Use
       All (λ p. is_needed p.kind ≡ true → Contains (map use_name uses) p.name) f.parameters
   pub targeted : Contains f.parameters in_place → UsesOneOf out_file.name in_place.name uses
   pub stored : Contains (map use_name uses) stored.name → WritesBytes (positional_names f) positionals
+  pub placed : Contains (map use_name uses) places.name → UsesJson uses
 
 -- the list that is printed from them
 abbrev pub line_words : FormView → List Text → List Use → List Text

@@ -81,12 +81,15 @@ catalog_form = record {
   parameters = image ∷ file_system ∷ order ∷ data_disk ∷ [];
 }
 
--- `--format FORM`, `--digests` and `--most BYTES`
+-- `--format FORM`, `--digests`, `--places` and `--most BYTES`
 abbrev pub format : ParameterView
 format = parameter (codes "format") (optional (one_of (codes "names" ∷ codes "json" ∷ codes "csv" ∷ [])))
 
 abbrev pub digests : ParameterView
 digests = parameter (codes "digests") flag
+
+abbrev pub places : ParameterView
+places = parameter (codes "places") flag
 
 abbrev pub most : ParameterView
 most = parameter (codes "most") (optional (number greatest_number))
@@ -94,7 +97,23 @@ most = parameter (codes "most") (optional (number greatest_number))
 abbrev pub list_form : FormView
 list_form = record {
   name = codes "list";
-  parameters = image ∷ file_system ∷ order ∷ format ∷ digests ∷ most ∷ data_disk ∷ [];
+  parameters = image ∷ file_system ∷ order ∷ format ∷ digests ∷ places ∷ most ∷ data_disk ∷ [];
+}
+
+-- `other`, `--other-order ORDER` and `--all`
+abbrev pub other : ParameterView
+other = parameter (codes "other") positional
+
+abbrev pub other_order : ParameterView
+other_order = parameter (codes "other-order") (optional (one_of order_words))
+
+abbrev pub all_files : ParameterView
+all_files = parameter (codes "all") flag
+
+abbrev pub compare_form : FormView
+compare_form = record {
+  name = codes "compare";
+  parameters = image ∷ other ∷ file_system ∷ order ∷ other_order ∷ all_files ∷ most ∷ data_disk ∷ [];
 }
 
 -- `--reserve LIST`
@@ -241,4 +260,4 @@ identify_form = record {
 
 -- the forms of all commands
 abbrev pub forms : List FormView
-forms = catalog_form ∷ list_form ∷ map_form ∷ check_form ∷ read_form ∷ convert_form ∷ plan_form ∷ optimize_form ∷ lock_form ∷ unlock_form ∷ delete_form ∷ rename_form ∷ save_form ∷ verify_form ∷ identify_form ∷ []
+forms = catalog_form ∷ list_form ∷ compare_form ∷ map_form ∷ check_form ∷ read_form ∷ convert_form ∷ plan_form ∷ optimize_form ∷ lock_form ∷ unlock_form ∷ delete_form ∷ rename_form ∷ save_form ∷ verify_form ∷ identify_form ∷ []

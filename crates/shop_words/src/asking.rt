@@ -8,7 +8,9 @@ ghost use Rattle.shop_words.specs.Job.{ask_by, found_job, job_by, rows_say};
 
 use crate::changing::{edit_in, optimize_in, rename_in};
 use crate::converting::convert_in;
-use crate::looking::{catalog_in, check_in, list_in, map_in, plan_in, read_in, verify_in};
+use crate::looking::{
+    catalog_in, check_in, compare_in, list_in, map_in, plan_in, read_in, verify_in,
+};
 use crate::reading::said;
 use crate::saving::save_in;
 use clap::ArgMatches;
@@ -23,6 +25,7 @@ fn ask_in(alloc: Global, command: &str, matches: &ArgMatches<'_>) -> Result<Opti
     match command {
         "catalog" => Ok(catalog_in(matches)),
         "list" => Ok(list_in(matches)),
+        "compare" => compare_in(alloc, matches),
         "map" => map_in(alloc, matches),
         "check" => check_in(alloc, matches),
         "read" => read_in(alloc, matches),

@@ -19,6 +19,8 @@ pub enum AutoOption {
     FileSystem,
     /// `--order`.
     Order,
+    /// `--other-order`, of the other image of a comparison.
+    OtherOrder,
 }
 
 impl AutoOption {
@@ -28,6 +30,7 @@ impl AutoOption {
         match self {
             AutoOption::FileSystem => "--fs",
             AutoOption::Order => "--order",
+            AutoOption::OtherOrder => "--other-order",
         }
     }
 
@@ -38,6 +41,7 @@ impl AutoOption {
         match self {
             AutoOption::FileSystem => "--fs=auto",
             AutoOption::Order => "--order=auto",
+            AutoOption::OtherOrder => "--other-order=auto",
         }
     }
 }

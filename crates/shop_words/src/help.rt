@@ -28,6 +28,10 @@ pub enum Help {
     Stored,
     Format,
     Digests,
+    Places,
+    OtherImage,
+    OtherOrder,
+    All,
     Most,
     Bodies,
 }
@@ -66,8 +70,13 @@ impl Help {
                 "Date and time of its creation, for ProDOS, as 1986-05-01T12:30; none if left out",
             Help::Format => "What a line tells: names, json or csv; names if left out",
             Help::Digests => "Tell the SHA-256 of the contents of each file too",
+            Help::Places => "Tell too where each part of a file stands; with --format json",
+            Help::OtherImage => "File of the other disk image; '-' is standard input",
+            Help::OtherOrder =>
+                "Order of the sectors in the other image, as --order; that of --order if left out",
+            Help::All => "Tell the files that are the same too",
             Help::Most =>
-                "How many bytes the files that are read for --digests may have in all; 1073741824 if left out",
+                "How many bytes the files that are read may have in all, those of an image; 1073741824 if left out",
             Help::Bodies => "Read the sectors of each file too, and tell those that can't be read",
             Help::Whole => "Take all bytes of the file's sectors, and not its content alone",
             Help::Stored =>
@@ -82,6 +91,7 @@ pub fn of(command: &str) -> &'static str {
     match command {
         "catalog" => "List the files of a volume",
         "list" => "Tell the files of a volume, a line each: their names, or all about them as data",
+        "compare" => "Tell which files of two volumes differ, or that none does",
         "map" => "Show where the files of a volume stand, a character for each sector or block",
         "check" => "Tell whether a volume is sound, or what is wrong with it",
         "read" => "Write the bytes of a file of a volume to standard output",

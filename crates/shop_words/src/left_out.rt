@@ -1,9 +1,10 @@
-// `--auto`: the file system and the order that words leave out.
+// `--auto`: the file system and the orders that words leave out.
 ghost use Rattle.std.specs.Prelude.{
   ◌≡◌,
   ◌≤◌,
   ◌++◌,
   ◌&&◌,
+  ◌||◌,
   codes,
   false,
   filter,
@@ -29,11 +30,12 @@ ghost use Rattle.shop_words.specs.LeftOut.{
   leaves_out as words_leave_out,
   may_leave_out as words_may_leave_out,
   option_name,
+  other_completed,
   with_option,
 };
 ghost use Rattle.shop_words.specs.Table.{form_view};
 
-use crate::auto::AutoOption;
+use crate::auto::{AutoOption, asks_auto};
 use crate::table::{Form, Parameter, table};
 use std::alloc::{AllocError, Global};
 
@@ -45,6 +47,7 @@ impl AutoOption {
         match self {
             AutoOption::FileSystem => "fs",
             AutoOption::Order => "order",
+            AutoOption::OtherOrder => "other-order",
         }
     }
 
@@ -55,6 +58,7 @@ impl AutoOption {
         match self {
             AutoOption::FileSystem => b"--fs=",
             AutoOption::Order => b"--order=",
+            AutoOption::OtherOrder => b"--other-order=",
         }
     }
 }
@@ -177,12 +181,31 @@ fn complete(alloc: Global, words: &mut Vec<String>, option: AutoOption) -> Resul
     Ok(())
 }
 
+// Puts `--other-order auto` behind the last option, where the words leave it out and the order of the image is `auto`.
+fn complete_other(alloc: Global, words: &mut Vec<String>) -> Result<(), AllocError>
+    ensures { OnOk result (map string_bytes words.new.items
+        ≡ other_completed (map string_bytes words.old.items)) }
+{
+    if asks_auto(words.as_slice(), AutoOption::Order) {
+        complete(alloc, words, AutoOption::OtherOrder)?;
+    }
+    Ok(())
+}
+
+// Whether the command with this name may leave out the file system and the order.
+fn may_leave_both(command: &str) -> bool
+    ensures { result ≡ (bytes_eq command.now (codes "list") || bytes_eq command.now (codes "compare")
+        || bytes_eq command.now (codes "map")) }
+{
+    command == "list" || command == "compare" || command == "map"
+}
+
 // Whether the words are those of a command that may leave out the file system and the order.
 fn may_leave_out(words: &[String]) -> bool
     ensures { result ≡ words_may_leave_out (map string_bytes words.now) }
 {
     match words.first() {
-        Some(command) => command.as_str() == "list" || command.as_str() == "map",
+        Some(command) => may_leave_both(command.as_str()),
         None => false,
     }
 }
@@ -232,7 +255,7 @@ fn without_auto(mut words: Vec<String>) -> Vec<String>
 
 /// The words without `--auto`, with `auto` for the file system and the order that they leave out,
 /// where they ask for that: by `--auto` beside other words, or as those of a command that may leave
-/// both out.
+/// both out. Where the order is `auto`, so is that of another image that they leave out.
 ///
 /// # Errors
 /// Want of memory.
@@ -250,5 +273,6 @@ pub fn filled_in(alloc: Global, words: Vec<String>) -> Result<Vec<String>, Alloc
     let mut words = without_auto(words);
     complete(alloc, &mut words, AutoOption::FileSystem)?;
     complete(alloc, &mut words, AutoOption::Order)?;
+    complete_other(alloc, &mut words)?;
     Ok(words)
 }

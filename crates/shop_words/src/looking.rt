@@ -1,13 +1,25 @@
 //! What is asked by the commands that only read a volume.
-ghost use Rattle.std.specs.Prelude.{◌≡◌, codes, IfOk, None, option_map, Some};
+ghost use Rattle.std.specs.Prelude.{◌≡◌, codes, IfOk, None, option_and_then, option_map, Some};
 ghost use Rattle.clap.specs.Matches.{found_of};
 ghost use Rattle.clap.specs.Walk.{rows_of};
 ghost use Rattle.shop_jobs.specs.Job.{ask_view, look_view};
-ghost use Rattle.shop_words.specs.Job.{ask_by, form_said, look_by, most_bytes, rows_say};
+ghost use Rattle.shop_words.specs.Job.{
+  ask_by,
+  compare_by,
+  form_for as form_taken,
+  form_said,
+  look_by,
+  most_bytes,
+  options_by,
+  other_named as names_other,
+  other_order as order_of_other,
+  rows_say,
+};
 
-use crate::reading::{has_flag, name_in, number_named, said, text_said, volume_in};
+use crate::reading::{has_flag, name_in, number_named, order_in, said, text_said, volume_in};
+use a2_device::Order;
 use clap::ArgMatches;
-use shop_jobs::{Ask, ListForm, ListOptions, Look};
+use shop_jobs::{Ask, CompareOptions, ListForm, ListOptions, Look};
 use std::alloc::{AllocError, Global};
 
 /// How many bytes the files that are read for a list may have in all, where the words say nothing.
@@ -43,6 +55,17 @@ fn form_said(word: Option<&str>) -> Option<ListForm>
     }
 }
 
+// The form of a list, which is JSON where places are told.
+fn form_for(places: bool, form: Option<ListForm>) -> Option<ListForm>
+    ensures { result ≡ form_taken places form }
+{
+    match form {
+        Some(ListForm::Json) => Some(ListForm::Json),
+        Some(form) if !places => Some(form),
+        _ => None,
+    }
+}
+
 // How many bytes files may have in all.
 fn most_bytes(word: Option<&str>) -> Option<u64>
     ensures { result ≡ most_bytes (option_map (λ s. s.now) word.entry) }
@@ -56,9 +79,11 @@ fn most_bytes(word: Option<&str>) -> Option<u64>
 pub fn list_in(matches: &ArgMatches<'_>) -> Option<Ask>
     ensures { option_map ask_view result ≡ ask_by (codes "list") (rows_say (rows_of (found_of matches.now))) }
 {
+    let places = has_flag(matches, "places");
     let options = ListOptions {
-        form: form_said(said(matches, "format"))?,
+        form: form_for(places, form_said(said(matches, "format")))?,
         digests: has_flag(matches, "digests"),
+        places,
         most: most_bytes(said(matches, "most"))?,
     };
     listing_in(matches, Look::Entries(options))
@@ -78,6 +103,64 @@ fn look_in(alloc: Global, matches: &ArgMatches<'_>, look: Look) -> Result<Option
         reserve: text_said(alloc, matches, "reserve")?,
         look,
     }))
+}
+
+// The path of the other image of a comparison; `None` where both are standard input.
+fn other_named<'a>(image: Option<&'a str>, other: Option<&'a str>) -> Option<&'a str>
+    ensures { option_map (λ s. s.now) result
+        ≡ names_other (option_map (λ s. s.now) image.entry) (option_map (λ s. s.now) other.entry) }
+{
+    match (image?, other?) {
+        ("-", "-") => None,
+        (_, other) => Some(other),
+    }
+}
+
+// The order of the other image, that of the image where none is said.
+fn other_order(matches: &ArgMatches<'_>) -> Option<Order>
+    ensures { result ≡ (let say = rows_say (rows_of (found_of matches.now)) in
+        order_of_other (say (codes "other-order")) (say (codes "order"))) }
+{
+    match said(matches, "other-order") {
+        Some(_) => order_in(matches, "other-order"),
+        None => order_in(matches, "order"),
+    }
+}
+
+// How another image is compared with the image.
+fn options_in(matches: &ArgMatches<'_>) -> Option<CompareOptions>
+    ensures { result ≡ options_by (rows_say (rows_of (found_of matches.now))) }
+{
+    Some(CompareOptions {
+        other_order: other_order(matches)?,
+        all: has_flag(matches, "all"),
+        most: most_bytes(said(matches, "most"))?,
+    })
+}
+
+// The other image that words name, and how it is compared.
+fn comparison_in(alloc: Global, matches: &ArgMatches<'_>) -> Result<Option<Look>, AllocError>
+    ensures { IfOk result (λ look. option_map look_view look
+        ≡ compare_by (rows_say (rows_of (found_of matches.now)))) }
+{
+    let other = other_named(said(matches, "image"), said(matches, "other"));
+    let (Some(other), Some(options)) = (other, options_in(matches)) else {
+        return Ok(None);
+    };
+    Ok(Some(Look::Compare {
+        other: other.to_string(alloc)?,
+        options,
+    }))
+}
+
+pub fn compare_in(alloc: Global, matches: &ArgMatches<'_>) -> Result<Option<Ask>, AllocError>
+    ensures { IfOk result (λ ask. option_map ask_view ask
+        ≡ ask_by (codes "compare") (rows_say (rows_of (found_of matches.now)))) }
+{
+    match comparison_in(alloc, matches)? {
+        Some(look) => Ok(listing_in(matches, look)),
+        None => Ok(None),
+    }
 }
 
 pub fn map_in(alloc: Global, matches: &ArgMatches<'_>) -> Result<Option<Ask>, AllocError>

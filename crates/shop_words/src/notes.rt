@@ -30,17 +30,41 @@ Examples:
   a2shop list disk.dsk
   a2shop list disk.po --format json
   a2shop list disk.po --format csv --digests
+  a2shop list disk.dsk --format json --places
 
 --fs and --order are auto where they are left out. A name of a directory has a slash behind it.
 With --digests each file is read; one that can't be read has no digest, and the others are told.
+With --places each object of JSON has its parts, as \"body 0 3/14\"; no other form can tell them.
 
 Status:
   0  the entries are listed
   1  they are, and a file has no digest, since it can't be read
   3  REFUSED Length    the image has another length than one in its order
      REFUSED Check     the header, the directory or the map's pointer has a fault
-     REFUSED TooLarge  the files have more bytes than --most
+     REFUSED TooLarge  the files, or the parts that are told, have more bytes than --most
   4  FAILED Input, Device or Memory: the file, a sector of the image or memory failed";
+
+const COMPARE: &str = "\
+Examples:
+  a2shop compare disk.dsk copy.dsk
+  a2shop compare disk.dsk disk.po --fs dos --order dos --other-order prodos --all
+
+--fs and --order are auto where they are left out; --other-order is then auto too. Both images have
+the file system of the first. Files of one path are compared, whatever the places that they stand at:
+  BODY PATH          their contents differ
+  ENTRY PATH         they have the same contents, and another type, address, lock or date
+  ONLY 1 PATH        only the first image has the file; ONLY 2 only the second
+  UNREADABLE 1 PATH  the file of the first image can't be read; UNREADABLE 2 that of the second
+  SAME PATH          with --all: they are the same
+
+Status:
+  0  EQUAL files N: all files are the same, N of each image
+  1  they are not; the last line counts the differences
+  3  each line names the image, as REFUSED Check 2:
+     REFUSED Length    the image has another length than one in its order
+     REFUSED Check     the header, the directory or the map's pointer has a fault
+     REFUSED TooLarge  the files have more bytes than --most
+  4  FAILED Input, Device or Memory: a file, a sector of an image or memory failed";
 
 const MAP: &str = "\
 Example:
@@ -257,6 +281,7 @@ pub fn of(command: &str) -> &'static str {
     match command {
         "catalog" => CATALOG,
         "list" => LIST,
+        "compare" => COMPARE,
         "map" => MAP,
         "check" => CHECK,
         "read" => READ,

@@ -105,6 +105,10 @@ enum Misfit<'a> {
     NoStoredName {
         word: &'a str,
     },
+    /// Places are to be told in another form than JSON.
+    PlacesWithoutJson,
+    /// Both images are to be read from standard input.
+    TwoInputs,
     /// The image is to go to a file and to be changed in place.
     TwoTargets,
     /// The words do not say where the image goes.
@@ -170,22 +174,38 @@ fn name_misfit<'a>(matches: &ArgMatches<'a>) -> Option<Misfit<'a>> {
     Some(Misfit::NoStoredName { word })
 }
 
-/// The first option of the command that does not take its value, or what is wrong with its name or with where its image
-/// goes.
-fn misfit_of<'a>(form: &Form, matches: &ArgMatches<'a>) -> Option<Misfit<'a>> {
-    let value = form
-        .parameters
-        .iter()
-        .find_map(|parameter| value_misfit(parameter, matches));
-    match value.or_else(|| name_misfit(matches)) {
-        Some(misfit) => Some(misfit),
-        None => target_misfit(form, matches),
+/// Whether places are to be told in another form than JSON.
+fn places_misfit<'a>(matches: &ArgMatches<'a>) -> Option<Misfit<'a>> {
+    if has_flag(matches, "places") && said(matches, "format") != Some("json") {
+        Some(Misfit::PlacesWithoutJson)
+    } else {
+        None
     }
+}
+
+/// Whether both images of a comparison are to be read from standard input.
+fn inputs_misfit<'a>(matches: &ArgMatches<'a>) -> Option<Misfit<'a>> {
+    match (said(matches, "image"), said(matches, "other")) {
+        (Some("-"), Some("-")) => Some(Misfit::TwoInputs),
+        _ => None,
+    }
+}
+
+/// The first option of the command that does not take its value, or what is wrong with its name, its form, its images
+/// or with where its image goes.
+fn misfit_of<'a>(form: &Form, matches: &ArgMatches<'a>) -> Option<Misfit<'a>> {
+    form.parameters
+        .iter()
+        .find_map(|parameter| value_misfit(parameter, matches))
+        .or_else(|| name_misfit(matches))
+        .or_else(|| places_misfit(matches))
+        .or_else(|| inputs_misfit(matches))
+        .or_else(|| target_misfit(form, matches))
 }
 
 /// Whether an option takes `auto` too, in whose place the program puts one of the words.
 fn takes_auto(name: &str) -> bool {
-    matches!(name, "fs" | "order")
+    matches!(name, "fs" | "order" | "other-order")
 }
 
 /// What an option takes, for the user.
@@ -215,7 +235,9 @@ impl Misfit<'_> {
     fn kind(self) -> ErrorKind {
         match self {
             Misfit::Value { .. } | Misfit::NoStoredName { .. } => ErrorKind::InvalidValue,
-            Misfit::TwoTargets => ErrorKind::ArgumentConflict,
+            Misfit::PlacesWithoutJson | Misfit::TwoInputs | Misfit::TwoTargets => {
+                ErrorKind::ArgumentConflict
+            }
             Misfit::NoTarget => ErrorKind::MissingRequiredArgument,
         }
     }
@@ -236,6 +258,12 @@ impl Misfit<'_> {
                 format!(in alloc;
                     "invalid value '{word}' for '<name>' with '--stored'\n  [hexadecimal digits, two a byte]"
                 )
+            }
+            Misfit::PlacesWithoutJson => {
+                "the argument '--places' can only be used with '--format json'".to_string(alloc)
+            }
+            Misfit::TwoInputs => {
+                "the arguments '<image>' and '<other>' cannot both be '-'".to_string(alloc)
             }
             Misfit::TwoTargets => {
                 "the argument '--out <out>' cannot be used with '--in-place'".to_string(alloc)

@@ -208,6 +208,30 @@ const DIGESTS: Parameter = Parameter {
     help: Help::Digests,
 };
 
+const PLACES: Parameter = Parameter {
+    name: "places",
+    kind: Kind::Flag,
+    help: Help::Places,
+};
+
+const OTHER: Parameter = Parameter {
+    name: "other",
+    kind: Kind::Positional,
+    help: Help::OtherImage,
+};
+
+const OTHER_ORDER: Parameter = Parameter {
+    name: "other-order",
+    kind: Kind::Optional(ORDERS),
+    help: Help::OtherOrder,
+};
+
+const ALL: Parameter = Parameter {
+    name: "all",
+    kind: Kind::Flag,
+    help: Help::All,
+};
+
 const BODIES: Parameter = Parameter {
     name: "bodies",
     kind: Kind::Flag,
@@ -227,7 +251,29 @@ const FORMS: &[Form] = &[
     },
     Form {
         name: "list",
-        parameters: &[IMAGE, FILE_SYSTEM, ORDER, FORMAT, DIGESTS, MOST, DATA_DISK],
+        parameters: &[
+            IMAGE,
+            FILE_SYSTEM,
+            ORDER,
+            FORMAT,
+            DIGESTS,
+            PLACES,
+            MOST,
+            DATA_DISK,
+        ],
+    },
+    Form {
+        name: "compare",
+        parameters: &[
+            IMAGE,
+            OTHER,
+            FILE_SYSTEM,
+            ORDER,
+            OTHER_ORDER,
+            ALL,
+            MOST,
+            DATA_DISK,
+        ],
     },
     Form {
         name: "map",

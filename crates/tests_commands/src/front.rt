@@ -80,6 +80,22 @@ fn what_is_left_out_is_auto(rt: HostRuntime) -> Result<(), Fail> {
         ("list a", "list a --fs auto --order auto "),
         ("list a --order dos --auto", "list a --order dos --fs auto "),
         ("--auto list a --fs=dos", "list a --fs=dos --order auto "),
+        (
+            "compare a b",
+            "compare a b --fs auto --order auto --other-order auto ",
+        ),
+        (
+            "compare a b --order dos",
+            "compare a b --order dos --fs auto ",
+        ),
+        (
+            "compare a b --other-order dos",
+            "compare a b --other-order dos --fs auto --order auto ",
+        ),
+        (
+            "compare a b --fs dos --order=auto",
+            "compare a b --fs dos --order=auto --other-order auto ",
+        ),
         ("catalog list", "catalog list "),
         ("frobnicate a --auto", "frobnicate a "),
         ("--auto", "--auto "),

@@ -7,6 +7,7 @@ use std::alloc::Global;
 use std::process::Abort;
 use std::test::Fail;
 
+mod comparisons;
 mod conversions;
 mod escapes;
 mod moves;
@@ -131,6 +132,7 @@ fn a_list_names_an_image(rt: HostRuntime) -> Result<(), Fail> {
         look: Look::Entries(ListOptions {
             form: ListForm::Names,
             digests: false,
+            places: false,
             most: 1 << 30,
         }),
     };

@@ -5,7 +5,7 @@ ghost use Rattle.a2_device.specs.Device.{DeviceState};
 use a2_device::{Device, FaultDevice};
 use dos_format::Dos33;
 use file_cmds::{CmdError, catalog};
-use file_listings::{EntryStyle, dos_entries_text, dos_listing_text};
+use file_listings::{EntryStyle, KnownFiles, dos_entries_text, dos_listing_text};
 use refusing::Refusing;
 use reserved_places::Reserved;
 use std::alloc::{AllocError, Allocator, Global};
@@ -44,7 +44,7 @@ fn names_on<D: Device>(alloc: Global, device: &mut D) -> Result<Vec<u8>, CmdErro
 {
     let format = dos_33(alloc)?;
     let listing = catalog(alloc, device, &format)?;
-    let text = dos_entries_text(alloc, EntryStyle::Names, &listing, &[])?;
+    let text = dos_entries_text(alloc, EntryStyle::Names, &listing, &KnownFiles::none(alloc))?;
     Ok(text.into_bytes())
 }
 

@@ -3,10 +3,10 @@ ghost use Rattle.std.specs.Prelude.{◌≡◌, ◌+◌, ◌<◌, ◌≤◌, leng
 ghost use Rattle.a2_device.specs.Device.{DeviceState};
 
 use crate::runs::are_runs;
-use a2_device::Device;
+use a2_device::{Device, Part, PartKind};
 use file_cmds::{CmdError, read, read_volume};
 use file_formats::FileName;
-use file_listings::{EntryStyle, ProLines, Style};
+use file_listings::{EntryStyle, KnownFile, KnownFiles, ProLines, Style};
 use pro_format::Prodos;
 use refusing::Refusing;
 use reserved_places::Reserved;
@@ -50,7 +50,10 @@ fn listing_on<A: Allocator + Copy, D: Device>(
 {
     let format = Prodos::new(alloc, Reserved::none(alloc));
     let volume = read_volume(device, &format)?;
-    Ok(text_of_lines(alloc, ProLines::new(alloc, style, volume, Vec::new(alloc))?)?)
+    Ok(text_of_lines(
+        alloc,
+        ProLines::new(alloc, style, volume, KnownFiles::none(alloc))?,
+    )?)
 }
 
 /// The text of the listing of a volume in ProDOS order.
@@ -195,18 +198,41 @@ fn each_refused_block_is_memory(rt: HostRuntime) -> Result<(), Fail> {
     Ok(())
 }
 
-/// How many blocks are asked for while the lines of the listing of a volume are made.
+/// What is known of files where each has so many parts, whose words are as long as words can be.
+fn with_parts<A: Allocator + Copy>(
+    alloc: A,
+    files: usize,
+    count: usize,
+) -> Result<KnownFiles<A>, AllocError> {
+    let part = Part {
+        file: 0,
+        kind: PartKind::Master,
+        number: u32::MAX,
+        place: u32::MAX,
+    };
+    let parts = vec![in alloc; part; count]?;
+    let mut known = KnownFiles::with_capacity(alloc, files, true)?;
+    for _ in 0..files {
+        known.add(KnownFile::NONE.facts, Some(parts.as_slice()))?;
+    }
+    Ok(known)
+}
+
+/// How many blocks are asked for while the lines of the listing of a volume are made, each file with so many parts.
 fn asked_for_lines<D: Device>(
     heap: &Refusing<Global>,
     device: &mut D,
     style: Style,
+    parts: usize,
 ) -> Result<u64, CmdError>
     requires unit { (D.state device.old).unit_size ≡ 512 }
     requires places { (16 ≤ (D.state device.old).places) × ((D.state device.old).places < 65536) }
 {
     let format = Prodos::new(heap, Reserved::none(heap));
     let volume = read_volume(device, &format)?;
-    let mut lines = ProLines::new(heap, style, volume, Vec::new(heap))?;
+    let files = volume.directory().entries().len();
+    let known = with_parts(heap, files, parts)?;
+    let mut lines = ProLines::new(heap, style, volume, known)?;
     let before = heap.asked();
     lines.make_first()?;
     for entry in 0..lines.entries() {
@@ -221,9 +247,10 @@ fn asked_for_lines_of(
     heap: &Refusing<Global>,
     image: Vec<u8>,
     style: Style,
+    parts: usize,
 ) -> Result<u64, CmdError> {
     match block_device(image) {
-        Some(mut device) => asked_for_lines(heap, &mut device, style),
+        Some(mut device) => asked_for_lines(heap, &mut device, style, parts),
         None => Err(CmdError::NotFound),
     }
 }
@@ -237,8 +264,11 @@ fn no_line_takes_memory(rt: HostRuntime) -> Result<(), Fail> {
         Style::Entries(EntryStyle::Csv { digests: true }),
     ] {
         let heap = Refusing::none(rt.alloc());
-        let asked = asked_for_lines_of(&heap, tree_and_subdirectory(rt.alloc())?, style)?;
-        assert!(rt; asked == 0);
+        for parts in [0, 1, 300] {
+            let image = tree_and_subdirectory(rt.alloc())?;
+            let asked = asked_for_lines_of(&heap, image, style, parts)?;
+            assert!(rt; asked == 0);
+        }
     }
     Ok(())
 }

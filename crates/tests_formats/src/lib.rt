@@ -1,9 +1,13 @@
-//! The tests of both file systems: of `reserved_places`; of `dos_vtoc`, `dos_catalog`, `dos_tslist` and `dos_format`;
-//! of `pro_bitmap`, `pro_dir`, `pro_dates`, `pro_tree` and `pro_format`; and of `new_files` for each of the two. They
-//! hold the worked rows with literal values, printed text, each public call on its happy path, refused memory, and
-//! reads that fail.
+//! The tests of images and of both file systems: of `a2_nibble`, `a2_image`, `a2_device` and `refusing`; of
+//! `reserved_places`; of `dos_vtoc`, `dos_catalog`, `dos_tslist` and `dos_format`; of `pro_bitmap`, `pro_dir`,
+//! `pro_dates`, `pro_tree` and `pro_format`; and of `new_files` for each of the two. They hold the worked rows with
+//! literal values, printed text, each public call on its happy path, refused memory, and reads and writes that fail.
 #![tactic(auto)]
 
+#[cfg(test)]
+mod allocators;
+#[cfg(test)]
+mod devices;
 #[cfg(test)]
 mod dos_catalogs;
 #[cfg(test)]
@@ -20,6 +24,10 @@ mod dos_memory;
 mod dos_new_parts;
 #[cfg(test)]
 mod dos_reserved;
+#[cfg(test)]
+mod images;
+#[cfg(test)]
+mod orders;
 #[cfg(test)]
 mod pro_checks;
 #[cfg(test)]
@@ -42,3 +50,5 @@ mod pro_paths;
 mod pro_pointers;
 #[cfg(test)]
 mod pro_slots;
+#[cfg(test)]
+mod tracks;

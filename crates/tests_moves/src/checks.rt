@@ -123,6 +123,45 @@ fn a_list_that_three_files_share_is_told_once(rt: HostRuntime) -> Result<(), Fai
     Ok(())
 }
 
+// The number of the entry whose file the first fault of the volume of an image is told of.
+fn file_of_first_fault(alloc: Global, image: Vec<u8>) -> Option<u32>
+    requires { vec_len image ≡ 143360 }
+{
+    match &checked_image(alloc, image, false) {
+        Err(CheckError::Faults(found)) => found.file_of(0),
+        _ => None,
+    }
+}
+
+#[test]
+fn a_shared_list_is_told_of_the_second_file(rt: HostRuntime) -> Result<(), Fail> {
+    let image = three_with_one_list(rt.alloc())?;
+    assert!(rt; file_of_first_fault(rt.alloc(), image) == Some(1));
+    Ok(())
+}
+
+// A volume whose header says that a disk has 36 tracks.
+fn of_36_tracks(alloc: Global) -> Result<Vec<u8>, AllocError>
+    ensures { IfOk result (λ image. vec_len image ≡ 143360) }
+{
+    let mut image = hello(alloc)?;
+    put(&mut image, 272, 0x34, &[36]);
+    Ok(image)
+}
+
+#[test]
+fn a_fault_of_the_header_is_told_of_no_file(rt: HostRuntime) -> Result<(), Fail> {
+    assert!(rt;
+        refuses(
+            rt.alloc(),
+            of_36_tracks(rt.alloc())?,
+            &[Fault::Geometry(272)]
+        )
+    );
+    assert!(rt; file_of_first_fault(rt.alloc(), of_36_tracks(rt.alloc())?) == None);
+    Ok(())
+}
+
 // Whether a check of a device whose next read fails is a failure of the device, and how many calls that has refused.
 fn failed(alloc: Global) -> Result<(bool, u64), AllocError> {
     let mut device = failing_device(alloc)?;

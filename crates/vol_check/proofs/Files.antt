@@ -1,31 +1,23 @@
 -- What one file's walk does, over what its calls ensure.
-use Rattle.std.proofs.Common.{◌≡◌, ℕ, ◌+◌, ◌<◌, List, [], ◌∷◌, ◌++◌, length, replicate, get_or, count_by, cond, zero-add, zero, suc, Bool, true, false, refl, sym, ◌∙◌, ap, subst, arith}
+use Rattle.std.proofs.Common.{◌≡◌, ℕ, ◌+◌, ◌<◌, List, [], ◌∷◌, ◌++◌, length, replicate, count_by, cond, zero-add, zero, suc, Bool, true, false, refl, sym, ◌∙◌, ap, subst, arith}
 use Rattle.std.specs.Prelude.{not}
 use Rattle.std.specs.List.{Contains}
 use Rattle.std.proofs.lemmas.List.Sums.{sum_by-cons}
 use Rattle.std.proofs.Math.ListN.{length-replicate}
 use Rattle.vol_format.specs.declared.link.Link.{Link}
+use Rattle.vol_format.specs.declared.link.Link.TheVariants.{Null}
 use Rattle.vol_format.specs.Directory.{Directory, entries, entry_of, root_of}
 use Rattle.vol_format.specs.Meaning.{Meaning}
 use Rattle.vol_format.specs.Laws.{IsReadable, IsDirectory}
 use Rattle.vol_check.specs.declared.walk.Pending.{Pending}
 use Rattle.vol_check.specs.declared.walk.Pending.TheVariants.{Visit, Tell}
-use Rattle.vol_check.specs.Walk.{Lists, IsSound, noted, after_next, next_unit}
-use Rattle.vol_check.specs.Known.{none_known}
+use Rattle.vol_check.specs.Walk.{Lists, IsSound, unseen, noted, after_next, next_unit}
 use Rattle.vol_check.specs.Walking.{IsWalking, None}
+use Rattle.vol_check.proofs.Marks.{clear_entry}
 use Rattle.vol_check.proofs.Pushed.{in_none, at_end}
 use Rattle.vol_check.proofs.Steps.{fault_told}
 use Rattle.vol_check.proofs.Visits.{rooted, visited, started}
 use Rattle.vol_check.proofs.Room.{noted_sound}
-
--- a walk that has seen nothing
-abbrev pub unseen : ℕ → Lists
-unseen places = record { parts = []; pending = []; faults = []; visited = replicate places false; known = replicate places none_known }
-
-none_visited : (n place : ℕ) → get_or (replicate n false) place false ≡ false
-none_visited zero place = refl
-none_visited (suc n) zero = refl
-none_visited (suc n) (suc place) = none_visited n place
 
 all_unvisited : (n : ℕ) → count_by not (replicate n false) ≡ n
 all_unvisited zero = refl
@@ -54,16 +46,17 @@ module _ (format : Meaning) (laws : IsReadable format) (directory : Directory) w
     part_file = λ p h. absurd (in_none p h);
     outside_system = λ p h. absurd (in_none p h);
     met = λ p h. absurd (in_none p h);
-    by_part = λ place h. absurd (true_is_not_false _ (none_visited directory.places place) h);
+    by_part = λ place h. absurd (true_is_not_false _ (clear_entry false directory.places place) h);
     apart = λ i j d less within. absurd (omega (arith, within));
     waiting_place = λ p h. absurd (in_none (Visit p) h);
     waiting_depth = λ p h. absurd (in_none (Visit p) h);
     waiting_file = λ p h. absurd (in_none (Visit p) h);
   })
 
-  pub start_walking : (store : List (List ℕ)) (walk : Lists) → walk ≡ unseen directory.places → IsWalking format directory store 0 None walk
-  start_walking store walk is = subst (IsWalking format directory store 0 None) (sym is)
-      (started format laws directory store (unseen directory.places) refl refl refl (none_visited directory.places))
+  pub start_walking : (store : List (List ℕ)) (roots : ℕ) → ((file : ℕ) → file < roots → root_of directory file ≡ Null) → (walk : Lists) → walk ≡ unseen directory.places
+      → IsWalking format directory store roots None walk
+  start_walking store roots null walk is = subst (IsWalking format directory store roots None) (sym is)
+      (started format laws directory store roots null (unseen directory.places) refl refl refl (clear_entry false directory.places))
 
   module _ (store : List (List ℕ)) where
     pub root_walking : (of : IsDirectory format directory) (file holder : ℕ) (link : Link) (walk new : Lists)

@@ -8,3 +8,7 @@ pub mod Files
 pub mod Index
 pub mod Lost
 pub mod Verdict
+pub mod Marks
+pub mod Clearing
+pub mod OneFile
+pub mod FileFaults

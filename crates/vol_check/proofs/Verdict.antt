@@ -14,7 +14,11 @@ use Rattle.vol_format.specs.Accepted.{PartFaultAt, FaultAt, IsAccepted}
 use Rattle.vol_format.specs.Standing.{layout_of, lost_places}
 use Rattle.vol_format.specs.Laws.{IsReadable}
 use Rattle.vol_check.specs.Answer.{AreFaults}
+use Rattle.vol_check.specs.Judgement.{IfAccepted}
 use Rattle.vol_check.specs.Told.{Told, IsToldOf}
+use Rattle.vol_check.specs.declared.checked.Checked.{Checked}
+use Rattle.vol_check.specs.declared.judgement.Judgement.{Judgement}
+use Rattle.vol_check.specs.declared.judgement.Judgement.TheVariants.{Accepted}
 use Rattle.vol_check.specs.Walk.{Lists, IsSound, is_visited}
 use Rattle.vol_check.specs.Walking.{IsWalking, None}
 use Rattle.vol_check.proofs.Pushed.{only, element_at}
@@ -112,3 +116,7 @@ module _ (format : Meaning) (directory : Directory) (walk : Lists) (sound : IsSo
     in_files = λ p has. sound.part_file p (subst (λ ps. Contains ps p) parts has);
     apart = subst (λ ps. AllPairs (λ (part later : Part). part.place ≢ later.place) ps) (sym parts) sound.apart;
   }
+
+-- what holds of an accepted volume holds of the one that is
+pub when_accepted : {V A : Type 0} (P : Checked V A → Type 0) (judgement : Judgement V A) (checked : Checked V A) → judgement ≡ Accepted checked → IfAccepted P judgement → P checked
+when_accepted P judgement checked is holds = subst (IfAccepted P) is holds

@@ -1,6 +1,6 @@
 -- What is known is kept where a part is looked at and where a file begins; at the end it is all there is to know.
 use Rattle.std.proofs.Common.{◌≡◌, ◌≢◌, ◌⊎◌, inl, inr, ⊎_elim, ℕ, ◌+◌, ◌<◌, ◌≤◌, Bool, true, false, List, [], ◌∷◌, ◌++◌, length, get_or, set, refl, sym, ◌∙◌, ap, subst, arith}
-use Rattle.std.specs.Prelude.{◌==◌, not, ◌&&◌, if◌then◌else◌}
+use Rattle.std.specs.Prelude.{◌==◌, nat_lt, not, ◌&&◌, if◌then◌else◌}
 use Rattle.std.proofs.lemmas.List.{get_or-set_same, get_or-set_other}
 use Rattle.std.proofs.lemmas.Bool.Decides.{nat_tests}
 use Rattle.std.specs.List.{Contains, AllPairs}
@@ -273,9 +273,9 @@ module _ (format : Meaning) (laws : IsReadable format) (directory : Directory) (
           once = λ p q hp hq same. walking.once p q (all_reached p hp) (all_reached q hq) same;
         }
 
-  -- before the first file
-  pub started : (walk : Lists) → walk.parts ≡ [] → walk.pending ≡ [] → walk.faults ≡ [] → ((place : ℕ) → is_visited walk place ≡ false) → IsWalking format directory store 0 None walk
-  started walk no_parts no_pending no_faults unvisited =
+  -- before the first file that its entry points to
+  pub started : (roots : ℕ) → ((file : ℕ) → file < roots → root_of directory file ≡ Null) → (walk : Lists) → walk.parts ≡ [] → walk.pending ≡ [] → walk.faults ≡ [] → ((place : ℕ) → is_visited walk place ≡ false) → IsWalking format directory store roots None walk
+  started roots null walk no_parts no_pending no_faults unvisited =
       let none = λ (p : Part) (h : Contains walk.parts p). in_none p (subst (λ (ps : List Part). Contains ps p) no_parts h) in
       let no_next = λ (p : Pending) (h : Contains walk.pending p). in_none p (subst (λ (ps : List Pending). Contains ps p) no_pending h) in
       record {
@@ -296,11 +296,40 @@ module _ (format : Meaning) (laws : IsReadable format) (directory : Directory) (
           marked = λ p h. absurd (none p h);
           no_wild = λ p i h. absurd (none p h);
           followed = λ p c i h. absurd (none p h);
-          no_wild_root = λ f less. absurd (omega arith);
-          no_other_type = λ f less. absurd (omega arith);
-          roots_followed = λ f p less. absurd (omega arith);
+          no_wild_root = λ f less wild. null_not_wild (sym (null f less) ∙ wild);
+          no_other_type = λ f less other. null_not_other (sym (null f less) ∙ other);
+          roots_followed = λ f p less to. absurd (null_not_to p (sym (null f less) ∙ to));
         };
       }
     where
       differ : false ≡ true → ⊥
       differ e = cc
+
+      null_not_wild : Null ≡ Wild → ⊥
+      null_not_wild e = cc
+
+      null_not_other : Null ≡ OtherType → ⊥
+      null_not_other e = cc
+
+      null_not_to : (part : Part) → Null ≡ To part → ⊥
+      null_not_to part e = cc
+
+  -- behind the last file that its entry points to
+  pub ended : (roots all : ℕ) (walk : Lists) → roots ≤ all → ((file : ℕ) → roots ≤ file → file < all → root_of directory file ≡ Null) → walk.pending ≡ []
+      → IsWalking format directory store roots None walk → IsWalking format directory store all None walk
+  ended roots all walk more null empty walking =
+      (unchanged format laws directory store) roots all None None walk walking more (λ p h. absurd (in_none (Visit p) (subst (λ (ps : List Pending). Contains ps (Visit p)) empty h)))
+      (λ none. (clean_goes_on format laws directory store) roots all None None walk walk.pending (walking.clean none) (λ c h. h) (λ p i has closed. inl closed) root_closes)
+    where
+      Closes : ℕ → Type 0
+      Closes file = (file < roots) ⊎ ((root_of directory file ≢ Wild) × (root_of directory file ≢ OtherType) × ((c : Part) → root_of directory file ≡ To c → Contains walk.pending (Visit c)))
+
+      by_test : (file : ℕ) (below : Bool) → nat_lt file roots ≡ below → file < all → Closes file
+      by_test file true is within = inl (grind (arith, nat_tests))
+      by_test file false is within =
+          let beyond : roots ≤ file = grind (arith, nat_tests) in
+          let none = null file beyond within in
+          inr (λ wild. cc (none, wild), λ other. cc (none, other), λ c to. cc (none, to))
+
+      root_closes : (file : ℕ) → file < all → Closes file
+      root_closes file within = by_test file (nat_lt file roots) refl within

@@ -4,6 +4,7 @@ use Rattle.a2_device.specs.declared.fault.Fault.{Fault}
 use Rattle.vol_format.specs.Directory.{Directory}
 use Rattle.vol_format.specs.Meaning.{Meaning}
 use Rattle.vol_format.specs.Accepted.{FaultAt, IsAccepted}
+use Rattle.vol_check.specs.FaultFiles.{AreOfFiles}
 use Rattle.vol_check.specs.declared.error.CheckError.{CheckError}
 use Rattle.vol_check.specs.declared.error.CheckError.TheVariants.{Faults, Device, Memory}
 use Rattle.a2_device.specs.declared.stop.Stop.{Stop}
@@ -26,5 +27,10 @@ pub record AreFaults (format : Meaning) (store : List (List ℕ)) (faults : List
   pub refused : (directory : Directory) → ¬ IsAccepted format directory store
 
 abbrev pub IsRefusal : {A : Type 0} → Meaning → List (List ℕ) → CheckError A → Type 0
-IsRefusal format store (Faults faults) = AreFaults format store faults
+IsRefusal format store (Faults list) = AreFaults format store list.faults
 IsRefusal format store error = Unit {0}
+
+-- a refusal that tells faults tells with each of which file it is
+abbrev pub IsRefusalOfFiles : {A : Type 0} → Meaning → List (List ℕ) → CheckError A → Type 0
+IsRefusalOfFiles format store (Faults list) = AreOfFiles format store list
+IsRefusalOfFiles format store error = Unit {0}

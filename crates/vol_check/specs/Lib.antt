@@ -1,5 +1,9 @@
 pub mod Answer
 pub mod Told
 pub mod Known
+pub mod FaultFiles
 pub mod Walk
 pub mod Walking
+pub mod Marks
+pub mod FileWalker
+pub mod Judgement

@@ -1,5 +1,5 @@
 -- A walk over the parts of all files: what is known of it whatever the device tells, and what each step does.
-use Rattle.std.specs.Prelude.{◌≡◌, ◌≢◌, ◌<◌, ◌≤◌, ◌==◌, ℕ, zero, suc, ◌+◌, Bool, true, false, not, ◌&&◌, if◌then◌else◌, List, [], ◌∷◌, ◌++◌, Option, Some, None, length, slice_index_or, slice_set, count_by, AllPairs, Contains}
+use Rattle.std.specs.Prelude.{◌≡◌, ◌≢◌, ◌<◌, ◌≤◌, ◌==◌, ℕ, zero, suc, ◌+◌, Bool, true, false, not, ◌&&◌, if◌then◌else◌, List, [], ◌∷◌, ◌++◌, Option, Some, None, length, replicate, slice_index_or, slice_set, count_by, AllPairs, Contains}
 use Rattle.a2_device.specs.Device.{unit_at}
 use Rattle.a2_device.specs.declared.part.Part.{Part}
 use Rattle.a2_device.specs.declared.fault.Fault.{Fault}
@@ -8,7 +8,7 @@ use Rattle.vol_format.specs.declared.link.Link.{Link}
 use Rattle.vol_format.specs.declared.link.Link.TheVariants.{Null, Wild, Directory as ToDirectory, OtherType, To}
 use Rattle.vol_format.specs.Directory.{Directory, entries, is_system, is_free}
 use Rattle.vol_format.specs.Meaning.{Meaning}
-use Rattle.vol_check.specs.Known.{is_known, knowing}
+use Rattle.vol_check.specs.Known.{is_known, knowing, none_known}
 use Rattle.vol_check.specs.declared.known.Known.{Known}
 use Rattle.vol_check.specs.declared.walk.Pending.{Pending}
 use Rattle.vol_check.specs.declared.walk.Pending.TheVariants.{Visit, Tell}
@@ -24,6 +24,10 @@ pub record Lists : Type 0 where
 
 abbrev pub lists : {A : Type 0} → Walk A → Lists
 lists walk = record { parts = walk.parts.items; pending = walk.pending.items; faults = walk.faults.items; visited = walk.visited.items; known = walk.known.items }
+
+-- a walk that has seen nothing
+abbrev pub unseen : ℕ → Lists
+unseen places = record { parts = []; pending = []; faults = []; visited = replicate places false; known = replicate places none_known }
 
 -- whether a place was met
 abbrev pub is_visited : Lists → ℕ → Bool

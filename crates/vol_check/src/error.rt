@@ -1,5 +1,5 @@
 // Why a volume is not accepted.
-ghost use Rattle.std.specs.Prelude.{◌≡◌};
+ghost use Rattle.std.specs.Prelude.{◌≡◌, slice_get};
 ghost use Rattle.vol_check.specs.declared.error.CheckError.TheVariants.{Memory};
 ghost use Rattle.vol_check.specs.Answer.{error_of};
 
@@ -8,35 +8,42 @@ use std::alloc::{AllocError, AllocFailed, Allocator, Global};
 use std::marker::Model;
 use thiserror::Error;
 
-/// The faults of a volume, in the order of its parts.
+/// The faults of a volume, in the order of its parts, and of which file each is.
 #[derive(Debug, Drop)]
 pub struct Faults<A: Allocator = Global> {
     faults: Vec<Fault, A>,
+    files: Vec<u32, A>,
 }
 
 impl<A: Allocator> Model for Faults<A> {
-    ghost use Rattle.std.specs.Prelude.{List};
-    ghost use Rattle.a2_device.specs.declared.fault.Fault.{Fault};
+    ghost use Rattle.vol_check.specs.FaultFiles.{FaultList};
 
-    ghost Value = { List Fault };
+    ghost Value = { FaultList };
 
-    ghost view = { λ f. f.faults.items };
+    ghost view = { λ f. record { faults = f.faults.items; files = f.files.items } };
 }
 
 impl<A: Allocator> Faults<A> {
+    /// Faults, and the numbers of the entries whose files they are of.
+    pub(crate) fn of_files(faults: Vec<Fault, A>, files: Vec<u32, A>) -> Faults<A>
+        ensures { result ≡ record { faults = faults.items; files = files.items } }
+    {
+        Faults { faults, files }
+    }
+
     /// The faults.
     pub fn as_slice(&self) -> &[Fault]
-        ensures { result.now ≡ self.now }
+        ensures { result.now ≡ self.now.faults }
     {
         self.faults.as_slice()
     }
-}
 
-impl<A: Allocator> From<Vec<Fault, A>> for Faults<A> {
-    ghost from_gives = { λ faults all. all ≡ faults.items };
-
-    fn from(faults: Vec<Fault, A>) -> Self {
-        Faults { faults }
+    /// The number of the entry whose file the fault of a number is of; `None` for a fault of the header, the directory
+    /// or the map.
+    pub fn file_of(&self, number: usize) -> Option<u32>
+        ensures { result ≡ slice_get self.now.files number }
+    {
+        self.files.get(number).copied()
     }
 }
 

@@ -12,7 +12,7 @@ ghost use Rattle.vol_check.specs.Known.{
 use a2_device::Fault;
 
 /// Which of the faults that many pointers can meet were told of a place.
-#[derive(Clone, Copy)]
+#[derive(Clone, Copy, Debug)]
 pub struct Known {
     pub storage_type: bool,
     pub out_of_range: bool,
@@ -61,8 +61,8 @@ impl Known {
     }
 }
 
-// The place of a fault.
-fn place_of(fault: Fault) -> u32
+/// The place of a fault.
+pub fn place_of(fault: Fault) -> u32
     ensures { result ≡ place_in fault }
 {
     match fault {

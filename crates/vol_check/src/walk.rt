@@ -7,21 +7,23 @@ ghost use Rattle.std.specs.Prelude.{
   ◌≤◌,
   ◌+◌,
   [],
-  false,
   not,
-  replicate,
   length,
+  All,
   OnOk,
   IfOk,
   IsTrue,
 };
+ghost use Rattle.std.specs.List.{AllZip};
 ghost use Rattle.a2_device.specs.Device.{OnlyReads, unit_at};
 ghost use Rattle.vol_format.specs.Fits.{Fits};
 ghost use Rattle.vol_format.specs.Directory.{entries};
 ghost use Rattle.a2_device.specs.Stop.{is_device_stop};
 ghost use Rattle.a2_device.specs.declared.part.Part.{Part};
 ghost use Rattle.vol_check.specs.declared.walk.Pending.TheVariants.{Visit};
-ghost use Rattle.vol_check.specs.Known.{is_known as is_in, none_known};
+ghost use Rattle.vol_check.specs.FaultFiles.{FileFaultAt, TellsOf};
+ghost use Rattle.vol_check.specs.Known.{is_known as is_in};
+ghost use Rattle.vol_check.specs.Marks.{KeepsMarks};
 ghost use Rattle.vol_check.specs.Walking.{IsWalking, None};
 ghost use Rattle.vol_check.specs.Walk.{
   lists,
@@ -36,6 +38,7 @@ ghost use Rattle.vol_check.specs.Walk.{
   after_visit,
   after_next,
   next_unit,
+  unseen,
 };
 
 use crate::known::{Known, is_known, note_known};
@@ -52,7 +55,7 @@ pub enum Pending {
 
 /// The parts so far, what is to do next with the first of it last, the faults so far, which places were met, and which
 /// faults of them are known.
-#[derive(Drop)]
+#[derive(Debug, Drop)]
 pub struct Walk<A: Allocator> {
     pub parts: Vec<Part, A>,
     pub pending: Vec<Pending, A>,
@@ -61,16 +64,9 @@ pub struct Walk<A: Allocator> {
     pub known: Vec<Known, A>,
 }
 
-// A walk that has seen nothing.
-fn start<A: Allocator + Copy>(alloc: A, places: u32) -> Result<Walk<A>, AllocError>
-    ensures { IfOk result (λ walk.
-        lists walk ≡ record {
-          parts = [];
-          pending = [];
-          faults = [];
-          visited = replicate places false;
-          known = replicate places none_known;
-        }) }
+/// A walk that has seen nothing.
+pub fn start<A: Allocator + Copy>(alloc: A, places: u32) -> Result<Walk<A>, AllocError>
+    ensures { IfOk result (λ walk. lists walk ≡ unseen places) }
 {
     Ok(Walk {
         parts: Vec::new(alloc),
@@ -90,7 +86,8 @@ fn is_told<A: Allocator>(walk: &Walk<A>, fault: Fault) -> bool
 
 // Tells a fault, unless it was told before.
 fn tell<A: Allocator>(walk: &mut Walk<A>, fault: Fault) -> Result<(), AllocError>
-    ensures { OnOk result (lists walk.new ≡ told fault (lists walk.old)) }
+    ensures walk { OnOk result (lists walk.new ≡ told fault (lists walk.old)) }
+    ensures marks { KeepsMarks (lists walk.old) (lists walk.new) }
 {
     if is_told(walk, fault) {
         return Ok(());
@@ -113,6 +110,7 @@ fn admit<F: Format, A: Allocator>(
     ensures taken { IfOk result (λ taken.
         taken ≡ is_admitted (F.directory format.now volume.now) part (lists walk.old)) }
     ensures walk { OnOk result (lists walk.new ≡ admitted (F.directory format.now volume.now) part (lists walk.old)) }
+    ensures marks { KeepsMarks (lists walk.old) (lists walk.new) }
 {
     if let Some(fault) = hindrance(format, volume, part, walk) {
         tell(walk, fault)?;
@@ -153,7 +151,8 @@ fn take_up<F: Format, A: Allocator>(
     requires place { part.place < (F.directory format.now volume.now).places }
     requires visited { length walk.old.visited.items ≡ (F.directory format.now volume.now).places }
 
-    ensures { OnOk result (lists walk.new ≡ taken_up (F.directory format.now volume.now) part (lists walk.old)) }
+    ensures walk { OnOk result (lists walk.new ≡ taken_up (F.directory format.now volume.now) part (lists walk.old)) }
+    ensures marks { KeepsMarks (lists walk.old) (lists walk.new) }
 {
     if format.is_free(volume, part.place) {
         walk.faults.push(Fault::MarkedFree(part.place))?;
@@ -165,7 +164,8 @@ fn take_up<F: Format, A: Allocator>(
 
 // Notes what one pointer names.
 fn note<A: Allocator>(walk: &mut Walk<A>, holder: u32, link: Link) -> Result<(), AllocError>
-    ensures { OnOk result (lists walk.new ≡ noted holder link (lists walk.old)) }
+    ensures walk { OnOk result (lists walk.new ≡ noted holder link (lists walk.old)) }
+    ensures marks { KeepsMarks (lists walk.old) (lists walk.new) }
 {
     match link {
         Link::Null | Link::Directory => {}
@@ -189,9 +189,10 @@ fn follow<F: Format, A: Allocator>(
     requires unit { length unit.now ≡ (F.meaning format.now).unit_size }
     requires depth { (F.meaning format.now).depth part < 65536 }
 
-    ensures { OnOk result (lists walk.new
+    ensures walk { OnOk result (lists walk.new
         ≡ followed ((F.meaning format.now).child (F.directory format.now volume.now).places part unit.now) part.place
         ((F.meaning format.now).pointers part) (lists walk.old)) }
+    ensures marks { KeepsMarks (lists walk.old) (lists walk.new) }
 {
     for pointer in (0..format.pointers(&part)).rev() {
         note(walk, part.place, format.child(volume, &part, unit, pointer))?;
@@ -221,6 +222,7 @@ fn visit<D: Device, F: Format, A: Allocator>(
     ensures honest { IsTrue (D.state device.old).honest → OnOk result (lists walk.new
         ≡ after_visit (F.meaning format.now) (F.directory format.now volume.now) part
         (unit_at (D.state device.old).store part.place) (lists walk.old)) }
+    ensures marks { KeepsMarks (lists walk.old) (lists walk.new) }
 {
     if admit(format, volume, part, walk)? && format.pointers(&part) != 0 {
         device.read(part.place, unit).map_err(|_| Stop::Device)?;
@@ -251,6 +253,7 @@ fn go_on<D: Device, F: Format, A: Allocator>(
     ensures honest { IsTrue (D.state device.old).honest → OnOk result (lists walk.new
         ≡ after_next (F.meaning format.now) (F.directory format.now volume.now) next
         (next_unit (D.state device.old).store next) (lists walk.old)) }
+    ensures marks { KeepsMarks (lists walk.old) (lists walk.new) }
 {
     match next {
         Pending::Visit(part) => visit(device, format, volume, part, unit, walk),
@@ -259,7 +262,7 @@ fn go_on<D: Device, F: Format, A: Allocator>(
 }
 
 /// Walks over the parts of one file.
-fn walk_file<D: Device, F: Format, A: Allocator>(
+pub fn walk_file<D: Device, F: Format, A: Allocator>(
     device: &mut D,
     format: &F,
     volume: &F::Volume,
@@ -283,6 +286,10 @@ fn walk_file<D: Device, F: Format, A: Allocator>(
     ensures walking { IsTrue (D.state device.old).honest
         → OnOk result (IsWalking (F.meaning format.now) (F.directory format.now volume.now) (D.state device.old).store
         (file + 1) None (lists walk.new)) }
+    ensures told { IsTrue (D.state device.old).honest
+        → OnOk result (TellsOf (F.meaning format.now) (F.directory format.now volume.now) (D.state device.old).store
+        file (lists walk.old).faults (lists walk.new).faults) }
+    ensures marks { KeepsMarks (lists walk.old) (lists walk.new) }
 {
     let entry = format.entry_at(volume, file);
     note(walk, entry.place, format.root(volume, file))?;
@@ -292,29 +299,44 @@ fn walk_file<D: Device, F: Format, A: Allocator>(
     Ok(())
 }
 
+/// A walk over the parts of all files, and of each fault that was told the number of the entry whose file it is of.
+#[derive(Drop)]
+pub struct Walked<A: Allocator> {
+    pub walk: Walk<A>,
+    pub files: Vec<u32, A>,
+}
+
 /// Walks over the parts of all files.
 pub fn walk_files<D: Device, F: Format, A: Allocator + Copy>(
     alloc: A,
     device: &mut D,
     format: &F,
     volume: &F::Volume,
-) -> Result<Walk<A>, Stop>
+) -> Result<Walked<A>, Stop>
     requires fits { Fits (F.meaning format.now) (D.state device.old) }
     requires places { (F.directory format.now volume.now).places ≡ (D.state device.old).places }
 
     ensures device { OnlyReads (is_device_stop result) (D.state device.old) (D.state device.new) }
-    ensures pending { IfOk result (λ walk. walk.pending.items ≡ []) }
-    ensures sound { IfOk result (λ walk.
-        IsSound (F.meaning format.now) (F.directory format.now volume.now) (lists walk)) }
+    ensures pending { IfOk result (λ walked. walked.walk.pending.items ≡ []) }
+    ensures sound { IfOk result (λ walked.
+        IsSound (F.meaning format.now) (F.directory format.now volume.now) (lists walked.walk)) }
     ensures walking { IsTrue (D.state device.old).honest
-        → IfOk result (λ walk.
+        → IfOk result (λ walked.
         IsWalking (F.meaning format.now) (F.directory format.now volume.now) (D.state device.old).store
-        (entries (F.directory format.now volume.now)) None (lists walk)) }
+        (entries (F.directory format.now volume.now)) None (lists walked.walk)) }
+    ensures entries { IfOk result (λ walked.
+        All (λ file. file < entries (F.directory format.now volume.now)) walked.files.items) }
+    ensures files { IsTrue (D.state device.old).honest
+        → IfOk result (λ walked.
+        AllZip (FileFaultAt (F.meaning format.now) (F.directory format.now volume.now) (D.state device.old).store)
+        walked.files.items walked.walk.faults.items) }
 {
     let mut walk = start(alloc, device.places())?;
+    let mut files = Vec::new(alloc);
     let mut unit = vec![in alloc; 0; device.unit()]?;
     for file in 0..format.entries(volume) {
         walk_file(device, format, volume, file, &mut unit, &mut walk)?;
+        files.resize(walk.faults.len(), file)?;
     }
-    Ok(walk)
+    Ok(Walked { walk, files })
 }

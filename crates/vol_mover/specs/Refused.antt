@@ -49,7 +49,7 @@ pub record RefusesAccepted {A : Type 0} (format : Meaning) (store : List (List �
 
 -- A volume that is not accepted is refused with its faults.
 abbrev pub IsRefusal : {A : Type 0} → Meaning → List (List ℕ) → Options → OpenError A → Type 0
-IsRefusal format store options (Check faults) = AreFaults format store faults
+IsRefusal format store options (Check list) = AreFaults format store list.faults
 IsRefusal format store options (Lost count) = RefusesAccepted {A = Unit {0}} format store options (Lost count)
 IsRefusal format store options NoFreePlace = RefusesAccepted {A = Unit {0}} format store options NoFreePlace
 IsRefusal format store options error = Unit {0}

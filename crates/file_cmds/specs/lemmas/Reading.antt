@@ -1,7 +1,7 @@
 -- Readings that go on, one after the other.
-use Rattle.std.specs.Prelude.{◌≡◌, ◌≤◌, ◌==◌, ℕ, ◌+◌, Bool, true, false, if◌then◌else◌, Contains, IsTrue, IsFalse, Option, Some}
+use Rattle.std.specs.Prelude.{◌≡◌, ◌≤◌, ◌==◌, ℕ, ◌+◌, Bool, true, false, if◌then◌else◌, Contains, IsTrue, Option, Some}
 use Rattle.std.proofs.Common.{refl, sym, ◌∙◌, ap, subst, arith, ⊎_elim}
-use Rattle.a2_device.specs.Device.{DeviceState, FailsRead, MeetsReadFailure, IsSameDevice, OnlyReads, UsesRead, counted, last_count}
+use Rattle.a2_device.specs.Device.{DeviceState, FailsRead, IsSameDevice, OnlyReads, UsesRead, counted, last_count}
 use Rattle.file_cmds.specs.ReadingOn.{FailedAt, FailedBetween, ReadsOn}
 
 pub none_read : (device : DeviceState) → ReadsOn device device

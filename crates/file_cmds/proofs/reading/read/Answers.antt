@@ -1,5 +1,5 @@
-use Rattle.std.proofs.Common.{rules, ◌≡◌, refl, sym, subst, ap, inl, inr}
-use Rattle.std.specs.Prelude.{Err, IfOk, IsTrue}
+use Rattle.std.proofs.Common.{rules, ◌≡◌, refl, sym, subst, inl, inr}
+use Rattle.std.specs.Prelude.{IfOk, IsTrue}
 use Rattle.a2_device.specs.Device.{DeviceState}
 use Rattle.file_cmds.specs.declared.error.CmdError.TheVariants.{Check}
 use Rattle.file_cmds.specs.Refusal.{refusal_of}

@@ -1,12 +1,12 @@
 use Rattle.std.proofs.Common.{Bool, List, ℕ, inr, subst, sym}
 use Rattle.std.specs.Prelude.{Option}
-use Rattle.shop_jobs.specs.Job.{ask_view}
+use Rattle.shop_jobs.specs.Job.{ask_view, change_view}
 use Rattle.shop_jobs.specs.declared.job.Ask.{Ask}
 use Rattle.shop_changes.specs.EditRules.{changed_by}
 use Rattle.shop_changes.specs.Work.{work_view}
 use Rattle.shop_image.specs.ChangeReply.{IsChangeReply}
 use Rattle.shop_image.specs.VolumeReply.{IsVolumeReply}
-use Rattle.shop_commands.specs.Answer.{IsReplyToBytes}
+use Rattle.shop_commands.specs.Answer.{AsksFor, IsReplyToBytes}
 use Rattle.shop_commands.proofs.job.reply_to.Goals as goal
 
 pub returns-in-Ok : goal.returns-in-Ok
@@ -14,10 +14,10 @@ returns-in-Ok c =
     let volume = c.in-Change.volume in
     let work = work_view c.in-Ok.work in
     let reply = c.image_change.result in
-    subst (λ (ask : Ask). IsReplyToBytes (ask_view ask) c.args.image.items c.args.extra.now reply) (sym c.in-Change.is)
+    subst (λ (ask : Ask). IsReplyToBytes (ask_view ask) c.args.image.items c.args.extra.items reply) (sym c.in-Change.is)
     (inr (
       work,
-      c.in-Ok.ensures.work,
+      subst (λ (extra : List ℕ). AsksFor volume (change_view c.in-Change.change) extra work) c.as_slice.ensures.value c.in-Ok.ensures.work,
       subst (λ (said : Option (List ℕ)). IsVolumeReply volume said c.args.image.items (λ (reserved : List Bool). IsChangeReply work (changed_by volume reserved)) reply)
           c.as_deref-in-Ok.ensures.value c.image_change.ensures,
     ))

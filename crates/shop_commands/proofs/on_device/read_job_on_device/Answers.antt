@@ -16,7 +16,7 @@ returns-clause-reads g c =
 pub returns-clause-told : goal.returns-clause-told
 returns-clause-told g c = λ honest works.
     let volume = c.in-Look.volume in
-    let bytes = c.args.extra.now in
+    let bytes = c.args.extra.items in
     let device = g.D.Device.state c.args.device.now in
     let new = g.D.Device.state c.look_on_device.new.device in
     let reply = c.look_on_device.result in

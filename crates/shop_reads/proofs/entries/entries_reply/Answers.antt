@@ -1,12 +1,12 @@
-use Rattle.std.proofs.Common.{◌∙◌, ap, inl, inr, refl, subst, sym}
+use Rattle.std.proofs.Common.{ap, inl, inr, refl, subst, sym}
 use Rattle.std.specs.Prelude.{Err, IsTrue}
 use Rattle.a2_device.specs.Device.{DeviceState}
 use Rattle.file_cmds.specs.ReadingOn.{FailedBetween}
+use Rattle.file_listings.specs.Known.{facts_in}
 use Rattle.vol_format.specs.Directory.{entries}
 use Rattle.shop_replies.specs.declared.reply.Reply.{Reply}
 use Rattle.shop_reads.specs.EntriesReply.{AreFactsUpTo, IsEntriesTold, ReadTooMuch, volume_in}
 use Rattle.shop_reads.specs.GoingOn.{FailsForLackBy, ReadsBy, list_going}
-use Rattle.shop_reads.specs.TellingFailures.{tells_device}
 use Rattle.shop_reads.proofs.ListGoing.{lacks_too_much, lacks_up_to, list_read, list_refused, refused_for_lack}
 use Rattle.shop_reads.proofs.Readings.{not_told}
 use Rattle.shop_reads.proofs.Quiet.{list_quiet}
@@ -47,7 +47,7 @@ returns-in-Ok-known_of-clause-told g c = λ honest lack.
     let files = g.F.FileFormat.files c.args.format.now in
     let meaning = g.F.Format.meaning c.args.format.now in
     let directory = g.F.Format.directory c.args.format.now c.in-Ok.volume in
-    let facts = c.in-Ok-known_of.known.facts.items in
+    let facts = facts_in c.in-Ok-known_of.known.files in
     let read = c.in-Ok.ensures.device in
     let are : AreFactsUpTo (volume_in form files meaning old.store directory) c.args.options (FailedBetween old new) (entries directory) facts =
     subst (λ (d : DeviceState). AreFactsUpTo (volume_in form files meaning d.store directory) c.args.options (FailedBetween d new) (entries directory) facts)

@@ -1,7 +1,7 @@
-use Rattle.std.proofs.Common.{◌≡◌, ◌∙◌, ap, refl, subst, sym, ⊎_elim, true, false, inl, inr}
-use Rattle.std.specs.Prelude.{Ok, Some, None, IfOk, Bool, List, ℕ, Result, if◌then◌else◌}
+use Rattle.std.proofs.Common.{◌≡◌, ◌∙◌, ap, subst, sym, ⊎_elim, false, inl, inr}
+use Rattle.std.specs.Prelude.{Ok, Some, None, Bool, if◌then◌else◌}
 use Rattle.std.specs.declared.alloc.AllocError.{AllocError}
-use Rattle.a2_device.specs.Device.{DeviceState, OnlyReads}
+use Rattle.a2_device.specs.Device.{OnlyReads}
 use Rattle.file_formats.specs.DosFiles.{number_at}
 use Rattle.file_cmds.specs.ReadingOn.{FailedBetween}
 use Rattle.file_cmds.specs.Text.{IsWholeTextOf}
@@ -10,7 +10,7 @@ use Rattle.file_cmds.specs.declared.file_texts.FileText.{FileText}
 use Rattle.file_cmds.specs.lemmas.Reading.{one_failed, one_reading}
 use Rattle.file_listings.specs.declared.facts.Facts.{Facts}
 use Rattle.vol_format.specs.Directory.{entry_of}
-use Rattle.shop_reads.specs.EntriesReply.{AreFacts, IsUnread, ReadVolume, digest_by, no_digest, volume_in, wants_address, wants_digest}
+use Rattle.shop_reads.specs.EntriesReply.{AreTextFacts, IsUnread, ReadVolume, digest_by, no_digest, volume_in, wants_address, wants_digest}
 use Rattle.shop_reads.proofs.FirstFiles.{both_ok, off, unread_are, unwanted_are, read_are}
 use Rattle.shop_reads.proofs.facts.entry_facts.Goals as goal
 
@@ -21,7 +21,7 @@ returns-then-not-wants-2-clause-facts g c = λ honest.
     (g.F.Format.meaning c.args.format.now) old.store (g.F.Format.directory c.args.format.now c.args.volume.now) in
     let address : wants_address volume c.args.options c.args.file ≡ false = sym (c.in_ok-wants.ensures.address old.store) ∙ off _ c.if-not-wants.true in
     let digest : wants_digest volume c.args.options c.args.file ≡ false = sym c.in_ok-wants.ensures.digest ∙ off _ c.if-not-wants-2.true in
-    subst (λ (facts : Facts). AreFacts volume c.args.options (FailedBetween old old) c.args.file facts) (sym c.unread.ensures)
+    subst (λ (facts : Facts). AreTextFacts volume c.args.options (FailedBetween old old) c.args.file facts) (sym c.unread.ensures)
     (unwanted_are volume c.args.options c.args.file (FailedBetween old old) address digest)
 
 pub returns-in-Whole-clause-facts : goal.returns-in-Whole-clause-facts
@@ -40,7 +40,7 @@ returns-in-Whole-clause-facts g c = λ honest.
     both_ok
     (λ (facts : Facts). facts.address ≡ (if c.in_ok-wants.wants.address then Some (number_at whole 0) else None))
     (λ (facts : Facts). facts.digest ≡ (if c.in_ok-wants.wants.digest then digest_by body else no_digest c.in_ok-wants.wants.digests))
-    (λ (facts : Facts). AreFacts volume c.args.options (FailedBetween old new) c.args.file facts)
+    (λ (facts : Facts). AreTextFacts volume c.args.options (FailedBetween old new) c.args.file facts)
     c.facts_by.result
     (λ facts told read. read_are volume c.args.options c.args.file (FailedBetween old new) whole is facts
     (told ∙ ap (λ (b : Bool). if b then Some (number_at whole 0) else None) address)
@@ -57,6 +57,7 @@ returns-in-Faulty g c =
     let volume : ReadVolume = volume_in (g.F.ShownFormat.form c.args.format.now) (g.F.FileFormat.files c.args.format.now) meaning old.store directory in
     record {
       reads = one_reading old new _ c.in_ok-text.ensures.device;
+      kept = c.in_ok-text.ensures.kept;
       facts = λ honest.
           let unread : IsUnread volume (FailedBetween old new) c.args.file =
           ⊎_elim
@@ -64,6 +65,6 @@ returns-in-Faulty g c =
           (λ failed. inr (one_failed old new honest
           (subst (λ (text : FileText _). OnlyReads (has_failed {E = AllocError} (Ok text)) old new) failed c.in_ok-text.ensures.device)))
           c.in-Faulty.is in
-          subst (λ (facts : Facts). AreFacts volume c.args.options (FailedBetween old new) c.args.file facts) (sym c.unread-in-Faulty.ensures)
+          subst (λ (facts : Facts). AreTextFacts volume c.args.options (FailedBetween old new) c.args.file facts) (sym c.unread-in-Faulty.ensures)
           (unread_are volume c.args.options c.args.file (FailedBetween old new) unread);
     }

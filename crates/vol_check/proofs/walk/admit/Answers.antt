@@ -9,7 +9,7 @@ returns-in-Some-clause-taken g c =
 
 pub returns-in-Some-clause-walk : goal.returns-in-Some-clause-walk
 returns-in-Some-clause-walk g c =
-    c.in_ok-tell.ensures
+    c.in_ok-tell.ensures.walk
     ∙ sym (hindered (g.F.Format.directory c.args.format.now c.args.volume.now) c.args.part (lists c.args.walk.now) c.in-Some.fault (sym c.hindrance.ensures ∙ c.in-Some.is)).1
 
 pub returns-clause-taken : goal.returns-clause-taken
@@ -18,5 +18,5 @@ returns-clause-taken g c =
 
 pub returns-clause-walk : goal.returns-clause-walk
 returns-clause-walk g c =
-    c.in_ok-take_up.ensures
+    c.in_ok-take_up.ensures.walk
     ∙ sym (unhindered (g.F.Format.directory c.args.format.now c.args.volume.now) c.args.part (lists c.args.walk.now) (sym c.hindrance.ensures ∙ c.in_default.is)).1

@@ -3,7 +3,9 @@ use Rattle.std.specs.Prelude.{IsTrue}
 use Rattle.a2_device.specs.Device.{DeviceState}
 use Rattle.a2_device.specs.Reading.{unread, then_reads}
 use Rattle.vol_check.specs.Walk.{lists, IsSound, after_next, next_unit}
+use Rattle.vol_check.proofs.FileFaults.{begins_telling, goes_on_telling}
 use Rattle.vol_check.proofs.Files.{root_sound, root_walking, next_walking}
+use Rattle.vol_check.proofs.Marks.{marks_then}
 use Rattle.vol_check.proofs.Room.{next_sound, next_work, work, top_in_range}
 use Rattle.vol_check.proofs.walk.walk_file.Goals as goal
 
@@ -17,9 +19,12 @@ loop-next-init g c =
     record {
       device = unread device;
       sound = root_sound format laws directory of c.args.file c.entry_at-entry.result.place c.root.result (lists c.args.walk.now) (lists c.note.new.walk)
-          (subst format.Takes (sym c.requires.places) c.requires.fits.places) c.requires.file c.root.ensures c.in_ok-note.ensures c.requires.sound;
+          (subst format.Takes (sym c.requires.places) c.requires.fits.places) c.requires.file c.root.ensures c.in_ok-note.ensures.walk c.requires.sound;
       walking = λ honest. root_walking format laws directory device.store of c.args.file c.entry_at-entry.result.place c.root.result
-          (lists c.args.walk.now) (lists c.note.new.walk) c.entry_at-entry.ensures.place c.root.ensures c.in_ok-note.ensures c.requires.file c.requires.pending (c.requires.walking honest);
+          (lists c.args.walk.now) (lists c.note.new.walk) c.entry_at-entry.ensures.place c.root.ensures c.in_ok-note.ensures.walk c.requires.file c.requires.pending (c.requires.walking honest);
+      telling = λ honest. begins_telling format directory device.store c.args.file (lists c.args.walk.now).faults c.entry_at-entry.result.place c.root.result
+          (lists c.args.walk.now) (lists c.note.new.walk) c.requires.file c.entry_at-entry.ensures.place c.root.ensures c.in_ok-note.ensures.walk c.requires.pending refl;
+      marks = c.note.ensures.marks;
     }
 
 pub go_on-requires-clause-place : goal.go_on-requires-clause-place
@@ -68,4 +73,17 @@ loop-next-preserved g c =
           before.sound (before.walking honest) items (c.requires.places ∙ sym whole.all)
           (subst (λ (d : DeviceState). lists c.go_on.new.walk ≡ after_next format directory c.in-Some.next (next_unit d.store c.in-Some.next) (record (lists c.loop-next.walk) { pending = c.pop.new.self.items }))
           same (c.in_ok-go_on.ensures.honest still));
+      telling = λ honest.
+          let same = before.device.kept honest refl in
+          let still = subst IsTrue (sym before.device.same.honest) honest in
+          let whole = g.met.D.Device.whole c.args.device.now honest in
+          goes_on_telling format directory device.store c.args.file (lists c.args.walk.now).faults laws (lists c.loop-next.walk) (lists c.go_on.new.walk)
+          c.pop.new.self.items c.in-Some.next (before.walking honest) items (c.requires.places ∙ sym whole.all)
+          (subst (λ (d : DeviceState). lists c.go_on.new.walk ≡ after_next format directory c.in-Some.next (next_unit d.store c.in-Some.next) (record (lists c.loop-next.walk) { pending = c.pop.new.self.items }))
+          same (c.in_ok-go_on.ensures.honest still)) (before.telling honest);
+      marks = marks_then (lists c.args.walk.now) (lists c.loop-next.walk) (lists c.go_on.new.walk) before.marks c.go_on.ensures.marks;
     }
+
+pub returns-in_err-go_on-clause-marks : goal.returns-in_err-go_on-clause-marks
+returns-in_err-go_on-clause-marks g c =
+    marks_then (lists c.args.walk.now) (lists c.loop-next.walk) (lists c.go_on.new.walk) c.loop-next.invariant.marks c.go_on.ensures.marks

@@ -1,10 +1,15 @@
-use Rattle.std.proofs.Common.{◌≡◌, ◌∙◌, ap, subst, sym, arith}
-use Rattle.a2_device.specs.Device.{OnlyReads}
+use Rattle.std.proofs.Common.{◌≡◌, ◌∙◌, ◌+◌, [], false, length, refl, ap, subst, sym, arith}
+use Rattle.std.specs.List.{AllZip}
+use Rattle.std.specs.Prelude.{IsTrue}
+use Rattle.std.proofs.lemmas.List.{with_items_is}
+use Rattle.a2_device.specs.Device.{DeviceState, OnlyReads}
 use Rattle.a2_device.specs.Reading.{unread, then_reads}
 use Rattle.a2_device.specs.Stop.{is_device_stop, same_stop}
-use Rattle.vol_check.specs.Walk.{lists}
+use Rattle.vol_check.specs.FaultFiles.{FileFaultAt, TellsOf}
+use Rattle.vol_check.specs.Walk.{lists, unseen}
 use Rattle.vol_check.specs.Walking.{IsWalking, None}
-use Rattle.vol_check.proofs.Files.{unseen, start_sound, start_walking}
+use Rattle.vol_check.proofs.FileFaults.{files_below, zipped_on}
+use Rattle.vol_check.proofs.Files.{start_sound, start_walking}
 use Rattle.vol_check.proofs.walk.walk_files.Goals as goal
 
 pub loop-file-init : goal.loop-file-init
@@ -19,7 +24,11 @@ loop-file-init g c =
       unit_size = omega (arith, c.in_ok-unit.unit.ok.0, c.in_ok-unit.ensures.len, c.unit.ensures, c.requires.fits.unit);
       pending = ap (λ (l : _). l.pending) c.in_ok-walk.ensures;
       sound = start_sound format laws directory (lists c.in_ok-walk.walk) start;
-      walking = λ honest. start_walking format laws directory device.store (lists c.in_ok-walk.walk) start;
+      walking = λ honest. start_walking format laws directory device.store 0 (λ file less. absurd (omega (arith, less))) (lists c.in_ok-walk.walk) start;
+      entries = λ k d within. absurd (omega (arith, within, ap length c.new-files.ensures.items));
+      files = λ honest.
+          subst (λ fs. AllZip (FileFaultAt format directory device.store) fs c.in_ok-walk.walk.faults.items) (sym c.new-files.ensures.items)
+          (subst (AllZip (FileFaultAt format directory device.store) []) (sym (ap (λ (l : _). l.faults) start)) tt);
     }
 
 pub returns-clause-walking : goal.returns-clause-walking
@@ -38,3 +47,33 @@ returns-in_err-walk_file-clause-device g c =
     let last = same_stop c.from_residual-in_err-walk_file.result c.in_err-walk_file.field-0.0 c.from_residual-in_err-walk_file.ensures.1 in
     then_reads (is_device_stop c.from_residual-in_err-walk_file.result) start mid new c.loop-file.invariant.device
     (subst (λ failed. OnlyReads failed mid new) (sym last) c.in_err-walk_file.ensures.device)
+
+pub loop-file-preserved : goal.loop-file-preserved
+loop-file-preserved g c =
+    let format = g.F.Format.meaning c.args.format.now in
+    let directory = g.F.Format.directory c.args.format.now c.args.volume.now in
+    let start = g.D.Device.state c.args.device.now in
+    let mid = g.D.Device.state c.loop-file.device in
+    let before = c.loop-file.invariant in
+    let walked = c.in_ok-walk_file.ensures in
+    let unit : length c.walk_file.new.unit ≡ length c.loop-file.unit.items = c.walk_file.auto.unit ∙ ap length c.deref_mut.ensures.value in
+    record {
+      device = then_reads false start mid (g.D.Device.state c.walk_file.new.device) before.device walked.device;
+      unit_size = ap length (with_items_is c.loop-file.unit c.walk_file.new.unit (unit ∙ sym c.loop-file.unit.ok.0)) ∙ unit ∙ before.unit_size;
+      pending = walked.pending;
+      sound = walked.sound;
+      walking = λ honest.
+          subst (λ (d : DeviceState). IsWalking format directory d.store (c.loop-file.file + 1) None (lists c.walk_file.new.walk)) (before.device.kept honest refl)
+          (walked.walking (subst IsTrue (sym before.device.same.honest) honest));
+      entries = files_below c.loop-file.file c.loop-file.files.items c.resize.new.self.items c.len.result _ before.entries c.in_ok-resize.ensures.items;
+      files = λ honest.
+          let told = subst (λ (d : DeviceState). TellsOf format directory d.store c.loop-file.file c.loop-file.walk.faults.items c.walk_file.new.walk.faults.items)
+          (before.device.kept honest refl) (walked.told (subst IsTrue (sym before.device.same.honest) honest)) in
+          zipped_on (FileFaultAt format directory start.store) c.loop-file.file c.loop-file.files.items c.resize.new.self.items c.loop-file.walk.faults.items
+          told.told c.walk_file.new.walk.faults.items c.len.result c.loop-file.files.len (before.files honest) told.behind told.of_file
+          (c.len.ensures ∙ c.walk_file.new.walk.faults.ok.0) c.loop-file.files.ok.0 c.in_ok-resize.ensures.items;
+    }
+
+pub returns-clause-entries : goal.returns-clause-entries
+returns-clause-entries g c = λ k d within.
+    omega (arith, c.loop-file.invariant.entries k d within, c.loop-file.auto.file-end, c.entries-file-end.ensures)

@@ -1,0 +1,10 @@
+-- The file system of a volume, by how its places are named.
+use Rattle.reserved_places.specs.declared.form.PlaceForm.{PlaceForm}
+use Rattle.reserved_places.specs.declared.form.PlaceForm.TheVariants.{Sector, Block}
+use Rattle.shop_jobs.specs.declared.job.FileSystem.{FileSystem}
+use Rattle.shop_jobs.specs.declared.job.FileSystem.TheVariants.{Dos, Prodos}
+
+-- DOS 3.3 has sectors, and ProDOS has blocks
+abbrev pub file_system_of : PlaceForm → FileSystem
+file_system_of Sector = Dos
+file_system_of Block = Prodos

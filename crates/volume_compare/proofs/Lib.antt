@@ -1,0 +1,13 @@
+pub mod Alike
+pub mod Counts
+pub mod Ends
+pub mod Free
+pub mod Looks
+pub mod NextPair
+pub mod Ranks
+pub mod Reports
+pub mod RisingKeys
+pub mod NextTold
+pub mod OtherTold
+pub mod Unread
+pub mod Wider

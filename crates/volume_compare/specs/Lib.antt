@@ -1,0 +1,11 @@
+pub mod Pairs
+pub mod Candidates
+pub mod Contents
+pub mod Findings
+pub mod CompareText
+pub mod Opened
+pub mod Refusal
+pub mod Progress
+pub mod TooLarge
+pub mod Comparison
+pub mod SameFiles
