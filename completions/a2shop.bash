@@ -3,7 +3,7 @@ _a2shop() {
   local word=${COMP_WORDS[COMP_CWORD]} before=${COMP_WORDS[COMP_CWORD-1]}
   COMPREPLY=()
   if [ "$COMP_CWORD" -eq 1 ]; then
-    mapfile -t COMPREPLY < <(compgen -W "catalog list map check read convert plan optimize lock unlock delete rename save verify identify help --help --version" -- "$word")
+    mapfile -t COMPREPLY < <(compgen -W "catalog list compare map check read convert plan optimize lock unlock delete rename save verify identify help --help --version" -- "$word")
     return
   fi
   case "${COMP_WORDS[1]} $before" in
@@ -13,6 +13,10 @@ _a2shop() {
     'list --order') mapfile -t COMPREPLY < <(compgen -W "auto dos prodos nibble" -- "$word"); return ;;
     'list --format') return ;;
     'list --most') return ;;
+    'compare --fs') mapfile -t COMPREPLY < <(compgen -W "auto dos prodos" -- "$word"); return ;;
+    'compare --order') mapfile -t COMPREPLY < <(compgen -W "auto dos prodos nibble" -- "$word"); return ;;
+    'compare --other-order') return ;;
+    'compare --most') return ;;
     'map --fs') mapfile -t COMPREPLY < <(compgen -W "auto dos prodos" -- "$word"); return ;;
     'map --order') mapfile -t COMPREPLY < <(compgen -W "auto dos prodos nibble" -- "$word"); return ;;
     'map --reserve') return ;;
@@ -69,7 +73,8 @@ _a2shop() {
   fi
   case "${COMP_WORDS[1]}" in
     catalog) mapfile -t COMPREPLY < <(compgen -W "--fs --order --data-disk --auto --explain --help" -- "$word") ;;
-    list) mapfile -t COMPREPLY < <(compgen -W "--fs --order --format --digests --most --data-disk --auto --explain --help" -- "$word") ;;
+    list) mapfile -t COMPREPLY < <(compgen -W "--fs --order --format --digests --places --most --data-disk --auto --explain --help" -- "$word") ;;
+    compare) mapfile -t COMPREPLY < <(compgen -W "--fs --order --other-order --all --most --data-disk --auto --explain --help" -- "$word") ;;
     map) mapfile -t COMPREPLY < <(compgen -W "--fs --order --data-disk --reserve --auto --explain --help" -- "$word") ;;
     check) mapfile -t COMPREPLY < <(compgen -W "--fs --order --bodies --data-disk --reserve --auto --explain --help" -- "$word") ;;
     read) mapfile -t COMPREPLY < <(compgen -W "--fs --order --whole --data-disk --stored --auto --explain --help" -- "$word") ;;
