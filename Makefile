@@ -1,6 +1,6 @@
 # make            builds the proved program to ./a2shop
-# make demo       builds it; lists, checks, plans and optimizes a DOS sample, in place too, and lists it again, from disk bytes too;
-#                 saves a file to it and reads it back; unlocks, renames and deletes files; checks, plans and optimizes a ProDOS sample, lists it before and after, and verifies the plan
+# make demo       builds it; identifies, lists, compares, draws, checks, plans and optimizes a DOS sample, in place too, and lists it again, from disk bytes too;
+#                 saves a file to it and reads it back; locks, unlocks, renames and deletes files; checks, plans and optimizes a ProDOS sample, lists it before and after, and verifies the plan
 # make test       runs the gate (the proofs from nothing, the must-fail edits), all tests, and the end-to-end tests
 # make assure     tries the further edits, crates/*/assure, that the prover must refuse; each run of the gate tries a share
 # make install    copies the program that was built, its manual page and the completions of the shells to $(PREFIX), and proves nothing
@@ -19,13 +19,19 @@ a2shop: $(SOURCES)
 	@bash tests/gate program > build.log 2>&1 || { tail -n 40 build.log; exit 1; }
 
 demo: a2shop
+	./a2shop identify samples/hello.dsk
 	./a2shop catalog samples/hello.dsk --fs dos --order dos
+	./a2shop list samples/hello.dsk --format json --digests --places
+	./a2shop compare samples/hello.dsk samples/hello.po --all
+	./a2shop map samples/hello.dsk
 	./a2shop check samples/hello.dsk --fs dos --order dos
 	./a2shop read samples/hello.dsk HELLO --fs dos --order dos | od -A n -t x1
 	./a2shop save samples/hello.dsk NOTE --fs dos --order dos --from samples/README.md --type B --aux 768 --out demo.dsk
 	./a2shop catalog demo.dsk --fs dos --order dos
 	./a2shop read demo.dsk NOTE --fs dos --order dos | cmp - samples/README.md
 	./a2shop rename demo.dsk NOTE LETTER --fs dos --order dos --out demo.dsk
+	./a2shop lock demo.dsk LETTER --fs dos --order dos --out demo.dsk
+	./a2shop unlock demo.dsk LETTER --fs dos --order dos --out demo.dsk
 	./a2shop delete demo.dsk LETTER --fs dos --order dos --out demo.dsk
 	./a2shop unlock samples/hello.dsk HELLO --fs dos --order dos --out demo.dsk
 	./a2shop catalog demo.dsk --fs dos --order dos
