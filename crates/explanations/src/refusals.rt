@@ -103,9 +103,10 @@ pub static REFUSALS: [Explanation; 23] = [
     },
     Explanation {
         front: "REFUSED TooLarge",
-        meaning: "The files of the volume that are read have more bytes in all than `--most` allows, or than \
-            1,073,741,824 where it is left out. A file of ProDOS may have many bytes of which the volume holds none.",
-        advice: "Give a greater number behind `--most`, or leave `--digests` out.",
+        meaning: "The files of the volume that are read, and the units of the parts that are told, have more bytes in \
+            all than `--most` allows, or than 1,073,741,824 where it is left out. A file of ProDOS may have many bytes \
+            of which the volume holds none, and the files of a damaged volume may share their parts.",
+        advice: "Give a greater number behind `--most`, or leave `--digests` and `--places` out.",
     },
     Explanation {
         front: "REFUSED InputTooLong",

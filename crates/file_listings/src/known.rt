@@ -27,21 +27,21 @@ pub struct KnownFiles<A: Allocator = Global> {
     places: bool,
     kept: Vec<Kept, A>,
     parts: Vec<Part, A>,
-    ends: Vec<usize, A>,
+    ends: Vec<u32, A>,
 }
 
 // Where the parts of a file end in the list of all.
-fn end_of(ends: &[usize], file: usize) -> usize
+fn end_of(ends: &[u32], file: usize) -> usize
     ensures { result ≡ slice_index_or ends.now file 0 }
 {
     match ends.get(file) {
-        Some(end) => *end,
+        Some(end) => *end as usize,
         None => 0,
     }
 }
 
 // Where the parts of a file begin.
-fn start_of(ends: &[usize], file: usize) -> usize
+fn start_of(ends: &[u32], file: usize) -> usize
     ensures { result ≡ end_at ends.now file }
 {
     if file == 0 {
@@ -51,7 +51,7 @@ fn start_of(ends: &[usize], file: usize) -> usize
 }
 
 // The parts of a file, out of those of all.
-fn run_of<'a>(ends: &[usize], parts: &'a [Part], file: usize) -> &'a [Part]
+fn run_of<'a>(ends: &[u32], parts: &'a [Part], file: usize) -> &'a [Part]
     ensures { result.now ≡ run_at ends.now parts.now file }
 {
     let start = start_of(ends, file);
@@ -61,14 +61,14 @@ fn run_of<'a>(ends: &[usize], parts: &'a [Part], file: usize) -> &'a [Part]
 }
 
 // The most parts that a file has.
-fn longest_run(ends: &[usize]) -> usize
+fn longest_run(ends: &[u32]) -> usize
     ensures { (file : ℕ) (parts : List Part) → length (run_at ends.now parts file) ≤ result }
 {
     let mut longest = 0;
     let mut start = 0;
     for end in ends {
-        longest = longest.max(end.saturating_sub(start));
-        start = *end;
+        longest = longest.max((*end as usize).saturating_sub(start));
+        start = *end as usize;
     }
     longest
 }
@@ -119,7 +119,7 @@ impl<A: Allocator + Copy> KnownFiles<A> {
     /// Notes what is known of the next file, and where places are told its parts, if they are known.
     ///
     /// # Errors
-    /// Want of memory alone.
+    /// Want of memory alone; what 2^32 parts and more take counts as that.
     pub fn add(&mut self, facts: Facts, parts: Option<&[Part]>) -> Result<(), AllocError>
         ensures facts { OnOk result (HasRuns self.old → facts_in self.new
             ≡ facts_in self.old ++ facts_with facts (parts_given self.old.places parts.entry) ∷ []) }
@@ -142,7 +142,8 @@ impl<A: Allocator + Copy> KnownFiles<A> {
     {
         if self.places {
             self.parts.extend_from_slice(parts)?;
-            self.ends.push(self.parts.len())?;
+            let end = u32::try_from(self.parts.len()).map_err(|_| AllocError)?;
+            self.ends.push(end)?;
         }
         Ok(())
     }
