@@ -1,5 +1,5 @@
 -- The parts of all files of a volume that was read.
-use Rattle.std.specs.Prelude.{◌≡◌, ◌<◌, ◌==◌, ℕ, List, Contains, Result, Ok, Err, IfOk, filter}
+use Rattle.std.specs.Prelude.{◌≡◌, ◌<◌, ◌==◌, ℕ, List, Contains, filter}
 use Rattle.std.specs.List.Sorted.{IsNonDecreasingBy}
 use Rattle.std.proofs.Common.{refl, sym, ◌∙◌, ap, subst, arith, get_or, ⊎_elim}
 use Rattle.std.proofs.lemmas.Bool.{cases_eq}
@@ -16,14 +16,10 @@ use Rattle.vol_check.specs.Told.{Told, IsToldOf}
 use Rattle.vol_check.specs.declared.error.CheckError.{CheckError}
 use Rattle.vol_check.specs.declared.error.Faults.{Faults}
 use Rattle.vol_check.specs.declared.error.CheckError.TheVariants as check
-use Rattle.file_cmds.specs.EachFile.{AreFaultlessParts, IsTextBy, StandWithin}
+use Rattle.file_cmds.specs.EachFile.{AreFaultlessParts, StandWithin}
 use Rattle.file_cmds.specs.FileParts.{IsPartsAlone}
-use Rattle.file_cmds.specs.FileText.{IsFileText}
-use Rattle.file_cmds.specs.declared.file_texts.FileText.{FileText}
-use Rattle.file_cmds.specs.declared.file_texts.FileText.TheVariants as read
 use Rattle.file_cmds.specs.KnownVolume.{of_known}
 use Rattle.file_cmds.specs.Text.{OwnFault, other_type, wild_root, wild_pointer, shared}
-use Rattle.file_cmds.proofs.FileUnits.{text_by_parts}
 
 module _ (format : Meaning) (directory : Directory) (store : List (List ℕ)) where
   abbrev known : Meaning
@@ -79,19 +75,6 @@ module _ (format : Meaning) (directory : Directory) (store : List (List ℕ)) wh
       ⊎_elim
       (λ same. omega (arith, ap (λ k. (get_or parts k d).file) same))
       (λ apart. ⊎_elim (λ files. omega (arith, files)) (λ ranks. omega (arith, ranks.0)) (are.ordered i j d (omega arith) within)) (cases_eq i j)
-
-  -- what is read by the run of a file's parts is what is read of the file
-  pub text_of_run : {A E : Type 0} → IsReadable format → (file : ℕ) → file < entries directory → (unit_size : ℕ) → unit_size ≡ format.unit_size
-      → (parts : List Part) → AreFaultlessParts format directory store parts → (run : List Part)
-      → (IsNonDecreasingBy (λ (part : Part). part.file) parts → run ≡ filter (λ (part : Part). part.file == file) parts)
-      → (result : Result (FileText A) E) → IfOk result (IsTextBy unit_size store run) → IfOk result (IsFileText format directory store file)
-  text_of_run laws file within unit_size size parts are run run_is (Ok (read.Whole text)) is =
-      text_by_parts format laws directory file store run
-      ((one_files_parts format directory store parts are.are_parts file run).1 (run_is (rising parts are.are_parts)))
-      unit_size text.items (are.faultless file within) size is
-  text_of_run laws file within unit_size size parts are run run_is (Ok read.Faulty) is = absurd is
-  text_of_run laws file within unit_size size parts are run run_is (Ok read.Failed) is = tt
-  text_of_run laws file within unit_size size parts are run run_is (Err error) is = tt
 
   -- the run of a file's parts is the parts of the file
   pub parts_of_run : (file : ℕ) → file < entries directory → (parts : List Part) → AreFaultlessParts format directory store parts → (run : List Part)

@@ -4,7 +4,6 @@ pub mod FileUnits
 pub mod OwnParts
 pub mod AllParts
 pub mod Runs
-pub mod Whole
 pub mod Outcomes
 pub mod ByList
-pub mod WalkedTexts
+pub mod OwnTexts

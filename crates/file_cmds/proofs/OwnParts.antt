@@ -1,7 +1,7 @@
 -- The parts of one file, and those of the volume that has this file alone.
 use Rattle.std.specs.Prelude.{◌≡◌, ◌<◌, ℕ, true, false, List, [], ◌∷◌, length}
 use Rattle.std.proofs.Common.{refl, sym, ◌∙◌, ap, subst, arith, get_or, ⊎_elim}
-use Rattle.a2_device.specs.Device.{unit_at}
+use Rattle.a2_device.specs.Device.{DeviceState, unit_at}
 use Rattle.a2_device.specs.declared.part.Part.{Part}
 use Rattle.a2_device.specs.declared.fault.Fault.{Fault}
 use Rattle.a2_device.specs.declared.fault.Fault.TheVariants.{Geometry, CatalogLink, DirLink, MapPointer, StorageType, OutOfRange, InSystem, Shared, MarkedFree}
@@ -13,6 +13,8 @@ use Rattle.vol_format.specs.Accepted.{IsAccepted, PartFaultAt, FaultAt}
 use Rattle.vol_format.specs.Laws.{IsReadable, IsDirectory}
 use Rattle.vol_format.specs.Layout.{IsPartsOfFile}
 use Rattle.vol_check.specs.Answer.{AreFaults}
+use Rattle.vol_check.specs.Failures.{FailsInFile}
+use Rattle.file_cmds.specs.FileParts.{IsPartsAlone}
 use Rattle.file_cmds.specs.Text.{OwnFault, other_type, wild_root, wild_pointer, shared}
 use Rattle.file_cmds.specs.KnownVolume.{of_known}
 use Rattle.file_cmds.specs.OneFile.{file_alone}
@@ -94,7 +96,7 @@ module _ (format : Meaning) (laws : IsReadable format) (directory : Directory) (
     refused_for (fault ∷ faults) are = fault_found fault (are.there fault (0, omega arith, refl))
 
   -- a file that the checker accepts has none
-  pub faultless : file < entries directory → IsAccepted one alone store → OwnFault format directory store file → ⊥
+  faultless : file < entries directory → IsAccepted one alone store → OwnFault format directory store file → ⊥
   faultless within accepted (other_type is) = accepted.no_other_type file (omega (arith, within, entries-alone directory file)) (root_of-same directory file within ∙ is)
   faultless within accepted (wild_root is) = accepted.no_wild file (omega (arith, within, entries-alone directory file)) (root_of-same directory file within ∙ is)
   faultless within accepted (wild_pointer part pointer reached in_file link) = (accepted.sound part (into_one part reached in_file)).no_wild pointer link
@@ -102,7 +104,7 @@ module _ (format : Meaning) (laws : IsReadable format) (directory : Directory) (
       differ (accepted.once part other (into_one part reached in_file) (into_one other other_reached other_in_file) same)
 
   -- its parts
-  pub own_parts : (parts : List Part) → IsPartsOf one alone store parts → IsPartsOfFile format directory store file parts
+  own_parts : (parts : List Part) → IsPartsOf one alone store parts → IsPartsOfFile format directory store file parts
   own_parts parts are = record {
     members = λ part. (λ has. out_of_one part ((are.members part).0 has), λ is. (are.members part).1 (into_one part is.0 is.1));
     ordered = λ i j d less within.
@@ -112,3 +114,15 @@ module _ (format : Meaning) (laws : IsReadable format) (directory : Directory) (
         let later_at = out_of_one later ((are.members later).0 (element parts j d within)) in
         ⊎_elim (λ files. absurd (omega (arith, files, at.1, later_at.1))) (λ ranks. ranks.1) (are.ordered i j d less within);
   }
+
+  -- the parts of an accepted file are its own
+  pub parts_alone : (parts : List Part) → file < entries directory → IsAccepted one alone store → IsPartsOf one alone store parts
+      → IsPartsAlone format directory store file parts
+  parts_alone parts within accepted are = record { faultless = faultless within accepted; are_parts = own_parts parts are }
+
+-- a failed read of a unit of the file alone is one of a unit of the file
+pub fails_alone : (format : Meaning) → IsReadable format → (directory : Directory) → IsDirectory format directory → (file : ℕ) (old new : DeviceState)
+    → FailsInFile (of_known format (file_alone directory file)) (file_alone directory file) old new file → FailsInFile format directory old new file
+fails_alone format laws directory of file old new fails =
+    let found = out_of_one format laws directory of file old.store fails.part fails.reached in
+    record { part = fails.part; reached = found.0; in_file = found.1; failed = fails.failed }

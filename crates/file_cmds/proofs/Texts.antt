@@ -1,11 +1,13 @@
 -- The text of units, one unit more of it.
-use Rattle.std.proofs.Common.{◌≡◌, ◌<◌, ◌∙◌, ℕ, ◌+◌, ◌-◌, ◌*◌, Bool, true, false, List, [], ◌∷◌, ◌++◌, map, take, length, get_or, cond, replicate, refl, sym, ap, arith}
+use Rattle.std.proofs.Common.{◌≡◌, ◌<◌, ◌∙◌, ℕ, ◌+◌, ◌-◌, ◌*◌, Bool, true, false, List, [], ◌∷◌, ◌++◌, map, take, length, get_or, cond, replicate, refl, sym, ap, arith, subst}
 use Rattle.std.specs.Prelude.{filter, if◌then◌else◌}
 use Rattle.std.proofs.lemmas.List.{append_assoc, append-nil, map-append, replicate-append-replicate}
 use Rattle.std.proofs.lemmas.List.Elements.{filter_more}
-use Rattle.a2_device.specs.Device.{DeviceState, unit_at}
+use Rattle.a2_device.specs.Device.{DeviceState, FailsRead, unit_at}
 use Rattle.a2_device.specs.declared.part.Part.{Part}
 use Rattle.vol_format.specs.Files.{Stored}
+use Rattle.vol_format.proofs.Lists.{element}
+use Rattle.file_cmds.specs.ReadingOn.{FailsAmong}
 use Rattle.file_cmds.specs.Text.{text_from, whole_text}
 use Rattle.file_cmds.specs.Walked.{is_body, stored_at, stored_of, number_behind, number_after, text_with}
 
@@ -83,3 +85,12 @@ part_read start mid parts count d next after text new kept within so_far after_i
       text_is = new_is ∙ ap (λ (device : DeviceState). text_with device.unit_size device.store (get_or parts count d) next text) kept ∙ added.text_is;
       next_is = after_is ∙ added.next_is;
     }
+
+-- a failed read of the next part is one of those that are given
+pub part_fails : (start mid new : DeviceState) (parts : List Part) (count : ℕ) (d : Part) → mid ≡ start → count < length parts
+    → FailsRead (get_or parts count d).place mid new → FailsAmong parts start new
+part_fails start mid new parts count d kept within fails = record {
+  part = get_or parts count d;
+  given = element parts count d within;
+  failed = subst (λ (device : DeviceState). FailsRead (get_or parts count d).place device new) kept fails;
+}

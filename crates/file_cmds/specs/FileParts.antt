@@ -4,6 +4,7 @@ use Rattle.a2_device.specs.declared.part.Part.{Part}
 use Rattle.vol_format.specs.Directory.{Directory}
 use Rattle.vol_format.specs.Layout.{IsPartsOfFile}
 use Rattle.vol_format.specs.Meaning.{Meaning}
+use Rattle.file_cmds.specs.EachFile.{StandWithin}
 use Rattle.file_cmds.specs.Text.{OwnFault}
 use Rattle.file_cmds.specs.declared.file_parts.FileParts.{FileParts}
 use Rattle.file_cmds.specs.declared.file_parts.FileParts.TheVariants.{Whole, Faulty, Failed}
@@ -18,6 +19,12 @@ abbrev pub IsFileParts : {A : Type 0} → Meaning → Directory → List (List �
 IsFileParts format directory store file (Whole parts) = IsPartsAlone format directory store file parts.items
 IsFileParts format directory store file Faulty = OwnFault format directory store file
 IsFileParts format directory store file Failed = Unit {0}
+
+-- the parts that are told stand at one of so many places
+abbrev pub StandAtPlaces : {A : Type 0} → ℕ → FileParts A → Type 0
+StandAtPlaces places (Whole parts) = StandWithin places parts.items
+StandAtPlaces places Faulty = Unit {0}
+StandAtPlaces places Failed = Unit {0}
 
 -- whether a unit could not be read
 abbrev pub has_failed : {A E : Type 0} → Result (FileParts A) E → Bool

@@ -1,6 +1,10 @@
 -- Readings that go on where a unit can't be read.
-use Rattle.std.specs.Prelude.{◌≡◌, ◌≤◌, ℕ, Some, IsTrue}
+use Rattle.std.specs.Prelude.{◌≡◌, ◌≤◌, ℕ, List, Some, Contains, IsTrue}
 use Rattle.a2_device.specs.Device.{DeviceState, FailsRead, IsSameDevice}
+use Rattle.a2_device.specs.declared.part.Part.{Part}
+use Rattle.vol_format.specs.Directory.{Directory}
+use Rattle.vol_format.specs.Meaning.{Meaning}
+use Rattle.vol_format.specs.Reach.{Reach}
 
 -- Calls that read alone, some of which may have failed: the failures of a device are counted and used up, and nothing else
 -- of it changes.
@@ -21,3 +25,16 @@ pub record FailedAt (place : ℕ) (old new : DeviceState) : Type 0 where
 -- among such calls there was a read that failed
 abbrev pub FailedBetween : DeviceState → DeviceState → Type 0
 FailedBetween old new = (place : ℕ) × FailedAt place old new
+
+-- among such calls there was a read of the unit of a part of this file that failed
+pub record FailedInFile (format : Meaning) (directory : Directory) (old new : DeviceState) (file : ℕ) : Type 0 where
+  pub part : Part
+  pub reached : Reach format directory old.store part
+  pub in_file : part.file ≡ file
+  pub failed : FailedAt part.place old new
+
+-- a read of the unit of one of these parts failed
+pub record FailsAmong (parts : List Part) (old new : DeviceState) : Type 0 where
+  pub part : Part
+  pub given : Contains parts part
+  pub failed : FailsRead part.place old new

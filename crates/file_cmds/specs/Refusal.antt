@@ -4,8 +4,6 @@ use Rattle.a2_device.specs.declared.fault.WalkError.{WalkError}
 use Rattle.a2_device.specs.declared.fault.WalkError.TheVariants as walk
 use Rattle.vol_check.specs.declared.error.CheckError.{CheckError}
 use Rattle.vol_check.specs.declared.error.CheckError.TheVariants as check
-use Rattle.a2_device.specs.declared.stop.Stop.{Stop}
-use Rattle.a2_device.specs.declared.stop.Stop.TheVariants as stop
 use Rattle.file_cmds.specs.declared.error.CmdError.{CmdError}
 use Rattle.file_cmds.specs.declared.error.CmdError.TheVariants.{Check, Device, Memory}
 
@@ -19,10 +17,6 @@ abbrev pub refusal_of_check : {A : Type 0} → CheckError A → CmdError
 refusal_of_check (check.Faults faults) = Check
 refusal_of_check check.Device = Device
 refusal_of_check check.Memory = Memory
-
-abbrev pub refusal_of_stop : Stop → CmdError
-refusal_of_stop stop.Device = Device
-refusal_of_stop stop.Memory = Memory
 
 -- whether a command told a failure of the device
 abbrev pub told_device : {T : Type 0} → Result T CmdError → Bool

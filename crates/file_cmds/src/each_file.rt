@@ -13,17 +13,17 @@ ghost use Rattle.std.specs.Prelude.{
 ghost use Rattle.std.specs.List.Sorted.{IsNonDecreasingBy};
 ghost use Rattle.a2_device.specs.Device.{OnlyReads};
 ghost use Rattle.a2_device.specs.declared.part.Part.{Part};
-ghost use Rattle.vol_check.specs.FileWalker.{HasTables};
+ghost use Rattle.vol_check.specs.Failures.{FailsInFile};
 ghost use Rattle.vol_format.specs.Accepted.{IsAccepted};
 ghost use Rattle.vol_format.specs.Directory.{entries};
 ghost use Rattle.vol_format.specs.Fits.{Fits};
 ghost use Rattle.file_cmds.specs.EachFile.{AreFilesOf, HasWalker, IsTextBy, StandWithin};
 ghost use Rattle.file_cmds.specs.FileText.{IsFileText, has_failed};
-ghost use Rattle.file_cmds.specs.ReadingOn.{FailedBetween, ReadsOn};
+ghost use Rattle.file_cmds.specs.ReadingOn.{FailedBetween, FailsAmong, ReadsOn};
 
+use crate::file_parts::FileParts;
 use crate::file_texts::FileText;
 use crate::known_volume::KnownVolume;
-use crate::one_file::OneFile;
 use crate::text::text_of;
 use a2_device::{Device, Part, Stop};
 use std::alloc::{AllocError, Allocator, Global};
@@ -61,6 +61,8 @@ fn text_by<D: Device, A: Allocator + Copy>(
     ensures device { OnlyReads (has_failed result) (D.state device.old) (D.state device.new) }
     ensures text { IsTrue (D.state device.old).honest
         → IfOk result (IsTextBy (D.state device.old).unit_size (D.state device.old).store parts.now) }
+    ensures failed { IsTrue (D.state device.old).honest → IsTrue (has_failed result)
+        → FailsAmong parts.now (D.state device.old) (D.state device.new) }
 {
     match text_of(alloc, device, parts) {
         Ok(text) => Ok(FileText::Whole(text)),
@@ -69,42 +71,12 @@ fn text_by<D: Device, A: Allocator + Copy>(
     }
 }
 
-// What is read of the file of an entry, whose parts are walked over for it.
-fn walked_text<D: Device, F: Format, A: Allocator + Copy>(
-    alloc: A,
-    device: &mut D,
-    walker: &mut FileWalker<A>,
-    format: &F,
-    volume: &F::Volume,
-    file: u32,
-) -> Result<FileText<A>, AllocError>
-    requires fits { Fits (F.meaning format.now) (D.state device.old) }
-    requires places { (F.directory format.now volume.now).places ≡ (D.state device.old).places }
-    requires file { file < entries (F.directory format.now volume.now) }
-    requires tables { HasTables (D.state device.old) walker.old }
-
-    ensures device { OnlyReads (has_failed result) (D.state device.old) (D.state device.new) }
-    ensures text { IsTrue (D.state device.old).honest → IfOk result
-        (IsFileText (F.meaning format.now) (F.directory format.now volume.now) (D.state device.old).store file) }
-    ensures tables { HasTables (D.state device.new) walker.new }
-{
-    let one = OneFile {
-        format,
-        volume,
-        file,
-        places: device.places(),
-    };
-    match walker.walk(device, &one, &(), file) {
-        Ok(true) => text_by(alloc, device, walker.parts()),
-        Ok(false) => Ok(FileText::Faulty),
-        Err(Stop::Device) => Ok(FileText::Failed),
-        Err(Stop::Memory) => Err(AllocError),
-    }
-}
-
 impl<A: Allocator + Copy> VolumeFiles<A> {
-    // Files of which no parts are known.
-    fn walked<D: Device>(alloc: A, device: &D) -> Result<VolumeFiles<A>, AllocError>
+    /// Files of which no parts are known.
+    ///
+    /// # Errors
+    /// Want of memory alone.
+    pub(crate) fn walked<D: Device>(alloc: A, device: &D) -> Result<VolumeFiles<A>, AllocError>
         ensures parts { IfOk result (λ files. files.parts ≡ None) }
         ensures walker { IfOk result (λ files. HasWalker (D.state device.now) None files.walker) }
     {
@@ -171,15 +143,16 @@ impl<A: Allocator + Copy> VolumeFiles<A> {
         ensures device { OnlyReads (has_failed result) (D.state device.old) (D.state device.new) }
         ensures text { IsTrue (D.state device.old).honest → IfOk result
             (IsFileText (F.meaning format.now) (F.directory format.now volume.now) (D.state device.old).store file) }
+        ensures failed { IsTrue (D.state device.old).honest → IsTrue (has_failed result)
+            → FailsInFile (F.meaning format.now) (F.directory format.now volume.now)
+            (D.state device.old) (D.state device.new) file }
         ensures kept { AreFilesOf (F.meaning format.now) (F.directory format.now volume.now)
             (D.state device.new) self.new }
     {
-        if let Some(parts) = &self.parts {
-            return text_by(alloc, device, parts_of(parts.as_slice(), file));
-        }
-        match &mut self.walker {
-            Some(walker) => walked_text(alloc, device, walker, format, volume, file),
-            None => unreachable!(),
+        match self.parts(alloc, device, format, volume, file)? {
+            FileParts::Whole(parts) => text_by(alloc, device, parts.as_slice()),
+            FileParts::Faulty => Ok(FileText::Faulty),
+            FileParts::Failed => Ok(FileText::Failed),
         }
     }
 }

@@ -1,9 +1,9 @@
 // Why a command is refused.
 ghost use Rattle.std.specs.Prelude.{◌≡◌};
 ghost use Rattle.file_cmds.specs.declared.error.CmdError.TheVariants.{Memory};
-ghost use Rattle.file_cmds.specs.Refusal.{refusal_of, refusal_of_check, refusal_of_stop};
+ghost use Rattle.file_cmds.specs.Refusal.{refusal_of, refusal_of_check};
 
-use a2_device::{Stop, WalkError};
+use a2_device::WalkError;
 use std::alloc::{AllocError, Allocator};
 use thiserror::Error;
 use vol_check::CheckError;
@@ -50,17 +50,6 @@ impl<A: Allocator> From<CheckError<A>> for CmdError {
             CheckError::Faults(_) => CmdError::Check,
             CheckError::Device => CmdError::Device,
             CheckError::Memory => CmdError::Memory,
-        }
-    }
-}
-
-impl From<Stop> for CmdError {
-    ghost from_gives = { λ stop e. e ≡ refusal_of_stop stop };
-
-    fn from(stop: Stop) -> Self {
-        match stop {
-            Stop::Device => CmdError::Device,
-            Stop::Memory => CmdError::Memory,
         }
     }
 }

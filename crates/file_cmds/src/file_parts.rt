@@ -1,11 +1,12 @@
 // The parts of the file of an entry, of a volume of which many files are read.
 ghost use Rattle.std.specs.Prelude.{◌≡◌, ◌<◌, IfOk, IsTrue};
 ghost use Rattle.a2_device.specs.Device.{OnlyReads};
+ghost use Rattle.vol_check.specs.Failures.{FailsInFile};
 ghost use Rattle.vol_check.specs.FileWalker.{HasTables};
 ghost use Rattle.vol_format.specs.Directory.{entries};
 ghost use Rattle.vol_format.specs.Fits.{Fits};
 ghost use Rattle.file_cmds.specs.EachFile.{AreFilesOf};
-ghost use Rattle.file_cmds.specs.FileParts.{IsFileParts, has_failed};
+ghost use Rattle.file_cmds.specs.FileParts.{IsFileParts, StandAtPlaces, has_failed};
 
 use crate::each_file::{VolumeFiles, parts_of};
 use crate::one_file::OneFile;
@@ -42,6 +43,10 @@ fn walked_parts<D: Device, F: Format, A: Allocator + Copy>(
     ensures device { OnlyReads (has_failed result) (D.state device.old) (D.state device.new) }
     ensures parts { IsTrue (D.state device.old).honest → IfOk result
         (IsFileParts (F.meaning format.now) (F.directory format.now volume.now) (D.state device.old).store file) }
+    ensures within { IfOk result (StandAtPlaces (D.state device.old).places) }
+    ensures failed { IsTrue (D.state device.old).honest → IsTrue (has_failed result)
+        → FailsInFile (F.meaning format.now) (F.directory format.now volume.now)
+        (D.state device.old) (D.state device.new) file }
     ensures tables { HasTables (D.state device.new) walker.new }
 {
     let one = OneFile {
@@ -81,6 +86,10 @@ impl<A: Allocator + Copy> VolumeFiles<A> {
         ensures device { OnlyReads (has_failed result) (D.state device.old) (D.state device.new) }
         ensures parts { IsTrue (D.state device.old).honest → IfOk result
             (IsFileParts (F.meaning format.now) (F.directory format.now volume.now) (D.state device.old).store file) }
+        ensures within { IfOk result (StandAtPlaces (D.state device.old).places) }
+        ensures failed { IsTrue (D.state device.old).honest → IsTrue (has_failed result)
+            → FailsInFile (F.meaning format.now) (F.directory format.now volume.now)
+            (D.state device.old) (D.state device.new) file }
         ensures kept { AreFilesOf (F.meaning format.now) (F.directory format.now volume.now)
             (D.state device.new) self.new }
     {

@@ -1,12 +1,12 @@
 // What is read of the file of an entry, where the reading is to go on whatever it is.
 ghost use Rattle.std.specs.Prelude.{◌≡◌, ◌<◌, IfOk, IsTrue};
 ghost use Rattle.a2_device.specs.Device.{OnlyReads};
+ghost use Rattle.vol_check.specs.Failures.{FailsInFile};
 ghost use Rattle.vol_format.specs.Directory.{entries};
 ghost use Rattle.vol_format.specs.Fits.{Fits};
 ghost use Rattle.file_cmds.specs.FileText.{IsFileText, has_failed};
 
-use crate::CmdError;
-use crate::reading::whole_text;
+use crate::each_file::VolumeFiles;
 use a2_device::Device;
 use std::alloc::{AllocError, Allocator, Global};
 use vol_format::Format;
@@ -41,11 +41,10 @@ pub fn file_text<D: Device, F: Format, A: Allocator + Copy>(
     ensures device { OnlyReads (has_failed result) (D.state device.old) (D.state device.new) }
     ensures text { IsTrue (D.state device.old).honest → IfOk result
         (IsFileText (F.meaning format.now) (F.directory format.now volume.now) (D.state device.old).store file) }
+    ensures failed { IsTrue (D.state device.old).honest → IsTrue (has_failed result)
+        → FailsInFile (F.meaning format.now) (F.directory format.now volume.now)
+        (D.state device.old) (D.state device.new) file }
 {
-    match whole_text(alloc, device, format, volume, file) {
-        Ok(text) => Ok(FileText::Whole(text)),
-        Err(CmdError::Check) => Ok(FileText::Faulty),
-        Err(CmdError::Device) => Ok(FileText::Failed),
-        Err(CmdError::NotFound | CmdError::Memory) => Err(AllocError),
-    }
+    let mut files = VolumeFiles::walked(alloc, device)?;
+    files.text(alloc, device, format, volume, file)
 }

@@ -6,7 +6,8 @@
 //! can't be read: `file_text` says why (`specs/FileText.antt`), and `specs/ReadingOn.antt` what such readings do to a
 //! device. `VolumeFiles` reads many files of one volume at the cost of their parts: the volume is checked once, and
 //! where it is accepted, each file is read by its own run of the parts of all files; else each is walked over by
-//! itself, on the same tables (`specs/EachFile.antt`). It gives the parts of a file alike (`specs/FileParts.antt`).
+//! itself, on the same tables (`specs/EachFile.antt`). It gives the parts of a file alike (`specs/FileParts.antt`). A
+//! file is told to have failed only where the read of a unit of that file did.
 //!
 //! What always holds: a command leaves the device's store as it is.
 #![tactic(auto)]

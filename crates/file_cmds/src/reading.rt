@@ -2,6 +2,7 @@
 ghost use Rattle.std.specs.Prelude.{◌≡◌, ◌≢◌, ◌<◌, ◌≤◌, IfOk, IsTrue};
 ghost use Rattle.file_formats.specs.FileNames.{name_view};
 ghost use Rattle.a2_device.specs.Device.{OnlyReads};
+ghost use Rattle.vol_check.specs.Failures.{FailsInFile};
 ghost use Rattle.vol_format.specs.Fits.{Fits};
 ghost use Rattle.vol_format.specs.Directory.{entries};
 ghost use Rattle.file_cmds.specs.Refusal.{told_device};
@@ -9,12 +10,10 @@ ghost use Rattle.file_cmds.specs.Text.{IsEntryText, OwnFault, IsWholeTextOf};
 ghost use Rattle.file_cmds.specs.Read.{IsTextAt, IsUnreadable, HasNoFile};
 
 use crate::CmdError;
-use crate::one_file::OneFile;
-use crate::text::text_of;
+use crate::file_texts::{FileText, file_text};
 use a2_device::Device;
 use file_formats::{FileFormat, FileName, find};
 use std::alloc::Allocator;
-use vol_check::check;
 use vol_format::Format;
 
 /// The whole text of the file of an entry.
@@ -36,22 +35,22 @@ pub(crate) fn whole_text<D: Device, F: Format, A: Allocator + Copy>(
         (D.state device.old).store file text.items) }
     ensures check { IsTrue (D.state device.old).honest → result ≡ Err CmdError.Check
         → OwnFault (F.meaning format.now) (F.directory format.now volume.now) (D.state device.old).store file }
+    ensures failed { IsTrue (D.state device.old).honest → IsTrue (told_device result)
+        → FailsInFile (F.meaning format.now) (F.directory format.now volume.now)
+        (D.state device.old) (D.state device.new) file }
 {
-    let one = OneFile {
-        format,
-        volume,
-        file,
-        places: device.places(),
-    };
-    let checked = check(alloc, device, &one)?;
-    Ok(text_of(alloc, device, checked.parts())?)
+    match file_text(alloc, device, format, volume, file)? {
+        FileText::Whole(text) => Ok(text),
+        FileText::Faulty => Err(CmdError::Check),
+        FileText::Failed => Err(CmdError::Device),
+    }
 }
 
 /// The text of the file of an entry of a volume that was read: the whole of its units, or its body alone. It reads the
 /// file's own units, each once; what is wrong with other files, and what the map says, does not matter.
 ///
 /// # Errors
-/// `Check` where the file has a fault of its own; `Device` where a read fails; `Memory`.
+/// `Check` where the file has a fault of its own; `Device` where the read of a unit of the file fails; `Memory`.
 pub fn read_entry<D: Device, F: FileFormat, A: Allocator + Copy>(
     alloc: A,
     device: &mut D,
@@ -71,6 +70,9 @@ pub fn read_entry<D: Device, F: FileFormat, A: Allocator + Copy>(
         (D.state device.old).store file whole text.items) }
     ensures check { IsTrue (D.state device.old).honest → result ≡ Err CmdError.Check
         → OwnFault (F.meaning format.now) (F.directory format.now volume.now) (D.state device.old).store file }
+    ensures failed { IsTrue (D.state device.old).honest → IsTrue (told_device result)
+        → FailsInFile (F.meaning format.now) (F.directory format.now volume.now)
+        (D.state device.old) (D.state device.new) file }
 {
     let text = whole_text(alloc, device, format, volume, file)?;
     if whole {

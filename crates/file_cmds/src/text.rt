@@ -1,8 +1,9 @@
 // The text of a file's parts.
 ghost use Rattle.std.specs.Prelude.{◌≡◌, ◌<◌, ◌-◌, ◌*◌, ◌++◌, length, replicate, All, IfOk, OnOk, IsTrue};
-ghost use Rattle.a2_device.specs.Device.{OnlyReads, unit_at};
+ghost use Rattle.a2_device.specs.Device.{FailsRead, OnlyReads, unit_at};
 ghost use Rattle.a2_device.specs.declared.part.Part.{Part};
 ghost use Rattle.a2_device.specs.Stop.{is_device_stop};
+ghost use Rattle.file_cmds.specs.ReadingOn.{FailsAmong};
 ghost use Rattle.file_cmds.specs.Text.{whole_text};
 ghost use Rattle.file_cmds.specs.Walked.{stored_of, number_after, text_with};
 
@@ -41,6 +42,8 @@ fn add_unit<D: Device, A: Allocator>(
     ensures text { IsTrue (D.state device.old).honest → OnOk result (text.new.items
         ≡ text.old.items ++ (replicate ((part.number - next) * (D.state device.old).unit_size) 0
         ++ unit_at (D.state device.old).store part.place)) }
+    ensures failed { IsTrue (D.state device.old).honest → IsTrue (is_device_stop result)
+        → FailsRead part.place (D.state device.old) (D.state device.new) }
 {
     add_zeros(text, zeros, u64::from(part.number).saturating_sub(next))?;
     device.read(part.place, unit).map_err(|_| Stop::Device)?;
@@ -66,6 +69,8 @@ fn add_part<D: Device, A: Allocator>(
     ensures text { IsTrue (D.state device.old).honest
         → OnOk result (text.new.items
         ≡ text_with (D.state device.old).unit_size (D.state device.old).store part next text.old.items) }
+    ensures failed { IsTrue (D.state device.old).honest → IsTrue (is_device_stop result)
+        → FailsRead part.place (D.state device.old) (D.state device.new) }
 {
     if part.kind != PartKind::Body {
         return Ok(next);
@@ -85,6 +90,8 @@ pub fn text_of<D: Device, A: Allocator + Copy>(
     ensures device { OnlyReads (is_device_stop result) (D.state device.old) (D.state device.new) }
     ensures text { IsTrue (D.state device.old).honest → IfOk result (λ text. text.items
         ≡ whole_text (D.state device.old).unit_size (stored_of (D.state device.old).store parts.now)) }
+    ensures failed { IsTrue (D.state device.old).honest → IsTrue (is_device_stop result)
+        → FailsAmong parts.now (D.state device.old) (D.state device.new) }
 {
     let zeros = vec![in alloc; 0; device.unit()]?;
     let mut unit = vec![in alloc; 0; device.unit()]?;

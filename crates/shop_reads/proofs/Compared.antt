@@ -8,7 +8,7 @@ use Rattle.a2_device.specs.Device.{DeviceState}
 use Rattle.a2_image.specs.declared.error.ImageError.{ImageError}
 use Rattle.a2_image.specs.declared.error.ImageError.TheVariants as images
 use Rattle.file_cmds.specs.ReadingOn.{FailedBetween, ReadsOn}
-use Rattle.file_cmds.specs.lemmas.Reading.{lacks_where_quiet}
+use Rattle.file_cmds.specs.lemmas.Reading.{lacking_where_quiet}
 use Rattle.file_formats.specs.Files.{FileMeaning}
 use Rattle.reserved_places.specs.declared.form.PlaceForm.{PlaceForm}
 use Rattle.vol_format.specs.Meaning.{Meaning}
@@ -134,17 +134,18 @@ other_honest file_system order bytes other of = subst (λ (d : DeviceState). IsT
 
 pub compared_told : (options : CompareOptions) (bytes : List ℕ) (form : PlaceForm) (files : FileMeaning) (format : Meaning) (device now other other_now : DeviceState)
     (reply : Reply) (file_system : FileSystem) → file_system ≡ file_system_of form → OfVolume file_system options.other_order bytes (λ state. other ≡ state)
-    → (FailedBetween device now → LacksUnit device)
+    → IsTrue device.honest → (FailedBetween device now → LacksUnit device)
     → ((comparison : Comparison) × IsComparison options.all form files format options.most device now other other_now comparison × TellsComparison comparison reply)
     ⊎ ((error : CompareError) × IsRefused form files format options.most device now other other_now error × (reply ≡ error_reply error))
     → IsCompared options bytes form files format device reply
-compared_told options bytes form files format device now other other_now reply file_system same of lack told =
+compared_told options bytes form files format device now other other_now reply file_system same of honest lack told =
     let quiet : other.read_failures ≡ Some 0 = subst (λ (d : DeviceState). d.read_failures ≡ Some 0) (sym of.3) refl in
     let with : IsComparedWith options form files format device other reply = record {
       now = now;
       other_now = other_now;
       lacks = lack;
-      other_lacks = lacks_where_quiet other other_now (other_honest file_system options.other_order bytes other of) quiet;
+      unreadable = lacking_where_quiet device now honest;
+      other_unreadable = lacking_where_quiet other other_now (other_honest file_system options.other_order bytes other of) quiet;
       told = told;
     } in
     let With : DeviceState → Type 0 = λ d. IsComparedWith options form files format device d reply in

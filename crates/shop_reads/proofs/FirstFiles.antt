@@ -9,8 +9,8 @@ use Rattle.a2_device.specs.Device.{DeviceState}
 use Rattle.reserved_places.specs.declared.form.PlaceForm.{PlaceForm}
 use Rattle.vol_format.specs.Meaning.{Meaning}
 use Rattle.file_formats.specs.Files.{FileMeaning}
-use Rattle.file_cmds.specs.ReadingOn.{FailedBetween, ReadsOn}
-use Rattle.file_cmds.specs.lemmas.Reading.{failed_among, none_read}
+use Rattle.file_cmds.specs.ReadingOn.{FailedInFile, ReadsOn}
+use Rattle.file_cmds.specs.lemmas.Reading.{failed_in_file_before, failed_in_file_since}
 use Rattle.vol_format.specs.Directory.{Directory, entries, entry_of, is_directory}
 use Rattle.file_formats.specs.DosFiles.{number_at}
 use Rattle.std.specs.declared.alloc.Global.{Global}
@@ -24,41 +24,43 @@ use Rattle.file_listings.specs.Known.{FileFacts, FileParts, facts_with, no_facts
 use Rattle.file_listings.specs.Known as known
 use Rattle.file_listings.specs.declared.facts.Facts.{Facts}
 use Rattle.shop_jobs.specs.declared.job.ListOptions.{ListOptions}
-use Rattle.shop_reads.specs.EntriesReply.{AddressIs, AreFacts, AreFactsUpTo, AreTextFacts, PartsAre, DigestIs, IsAddress, IsCompleteUpTo, IsDigest, IsUnread, ReadTooMuch, ReadVolume, WantsNothing, bytes_read, bytes_told, digest_by, is_missing, lacks_digest, no_digest, parts_found, unread_facts, volume_in, wants_address, wants_digest, wants_places}
+use Rattle.volume_compare.specs.Contents.{IsUnread, SeenVolume, volume_in}
+use Rattle.volume_compare.proofs.Wider.{wider_unread}
+use Rattle.shop_reads.specs.EntriesReply.{AddressIs, AreFacts, AreFactsUpTo, AreTextFacts, PartsAre, DigestIs, IsAddress, IsCompleteUpTo, IsDigest, ReadTooMuch, WantsNothing, bytes_read, bytes_told, digest_by, is_missing, lacks_digest, no_digest, parts_found, unread_facts, wants_address, wants_digest, wants_places}
 
-module _ (volume : ReadVolume) (options : ListOptions) (file : ℕ) where
+module _ (volume : SeenVolume) (options : ListOptions) (file : ℕ) where
   -- ---- of one file
 
-  unread_address : (failed : Type 0) → IsUnread volume failed file → (b : Bool) → AddressIs b volume failed file None
+  unread_address : (failed : ℕ → Type 0) → IsUnread volume failed file → (b : Bool) → AddressIs b volume failed file None
   unread_address failed unread true = unread
   unread_address failed unread false = refl
 
-  unread_digest : (failed : Type 0) → IsUnread volume failed file → (b : Bool) → DigestIs b volume failed file (no_digest b)
+  unread_digest : (failed : ℕ → Type 0) → IsUnread volume failed file → (b : Bool) → DigestIs b volume failed file (no_digest b)
   unread_digest failed unread true = inr unread
   unread_digest failed unread false = refl
 
   -- a file that could not be read
-  pub unread_are : (failed : Type 0) → IsUnread volume failed file → AreTextFacts volume options failed file (unread_facts options.digests)
+  pub unread_are : (failed : ℕ → Type 0) → IsUnread volume failed file → AreTextFacts volume options failed file (unread_facts options.digests)
   unread_are failed unread = record {
     address = unread_address failed unread (wants_address volume options file);
     digest = unread_digest failed unread options.digests;
   }
 
-  unwanted_digest : (failed : Type 0) (b d : Bool) → is_directory (entry_of volume.directory file) ≡ d → (b && not d) ≡ false
+  unwanted_digest : (failed : ℕ → Type 0) (b d : Bool) → is_directory (entry_of volume.directory file) ≡ d → (b && not d) ≡ false
       → DigestIs b volume failed file (no_digest b)
   unwanted_digest failed false d same unwanted = refl
   unwanted_digest failed true true same unwanted = inl same
   unwanted_digest failed true false same unwanted = cc
 
   -- a file of which nothing is wanted
-  pub unwanted_are : (failed : Type 0) → wants_address volume options file ≡ false → wants_digest volume options file ≡ false
+  pub unwanted_are : (failed : ℕ → Type 0) → wants_address volume options file ≡ false → wants_digest volume options file ≡ false
       → AreTextFacts volume options failed file (unread_facts options.digests)
   unwanted_are failed address digest = record {
     address = subst (λ b. AddressIs b volume failed file None) (sym address) refl;
     digest = unwanted_digest failed options.digests (is_directory (entry_of volume.directory file)) refl digest;
   }
 
-  module _ (failed : Type 0) (whole : List ℕ) (is : IsWholeTextOf volume.meaning volume.directory volume.store file whole) where
+  module _ (failed : ℕ → Type 0) (whole : List ℕ) (is : IsWholeTextOf volume.meaning volume.directory volume.store file whole) where
     abbrev body : List ℕ
     body = volume.files.body (entry_of volume.directory file).bytes whole
 
@@ -90,24 +92,21 @@ module _ (volume : ReadVolume) (options : ListOptions) (file : ℕ) where
     }
 
   -- what failed among some calls failed among more
-  module _ (failed more : Type 0) (on : failed → more) where
-    wider_unread : IsUnread volume failed file → IsUnread volume more file
-    wider_unread unread = ⊎_elim (λ fault. inl fault) (λ fails. inr (on fails)) unread
-
+  module _ (failed more : ℕ → Type 0) (on : failed file → more file) where
     wider_address : (b : Bool) (address : Option ℕ) → AddressIs b volume failed file address → AddressIs b volume more file address
-    wider_address true None is = wider_unread is
+    wider_address true None is = wider_unread volume failed more file on is
     wider_address true (Some x) is = is
     wider_address false address is = is
 
     wider_digest : (b : Bool) (digest : Digested) → DigestIs b volume failed file digest → DigestIs b volume more file digest
     wider_digest true Untold is = is
-    wider_digest true Missing is = ⊎_elim (λ directory. inl directory) (λ unread. inr (wider_unread unread)) is
+    wider_digest true Missing is = ⊎_elim (λ directory. inl directory) (λ unread. inr (wider_unread volume failed more file on unread)) is
     wider_digest true (Of digest) is = is
     wider_digest false digest is = is
 
     wider_parts : (b : Bool) (parts : FileParts) → PartsAre b volume failed file parts → PartsAre b volume more file parts
     wider_parts true known.Untold is = is
-    wider_parts true known.Missing is = ⊎_elim (λ directory. inl directory) (λ unread. inr (wider_unread unread)) is
+    wider_parts true known.Missing is = ⊎_elim (λ directory. inl directory) (λ unread. inr (wider_unread volume failed more file on unread)) is
     wider_parts true (known.Of parts) is = is
     wider_parts false parts is = is
 
@@ -121,25 +120,25 @@ module _ (volume : ReadVolume) (options : ListOptions) (file : ℕ) where
   -- ---- its parts
 
   -- those that are not wanted, or of a directory
-  pub unwanted_parts : (failed : Type 0) (b d : Bool) → is_directory (entry_of volume.directory file) ≡ d → (b && not d) ≡ false
+  pub unwanted_parts : (failed : ℕ → Type 0) (b d : Bool) → is_directory (entry_of volume.directory file) ≡ d → (b && not d) ≡ false
       → PartsAre b volume failed file (parts_found b None)
   unwanted_parts failed false d same unwanted = refl
   unwanted_parts failed true true same unwanted = inl same
   unwanted_parts failed true false same unwanted = cc
 
   -- those that were not found
-  pub unread_parts : (failed : Type 0) → IsUnread volume failed file → (b : Bool) → PartsAre b volume failed file (parts_found b None)
+  pub unread_parts : (failed : ℕ → Type 0) → IsUnread volume failed file → (b : Bool) → PartsAre b volume failed file (parts_found b None)
   unread_parts failed unread true = inr unread
   unread_parts failed unread false = refl
 
-  pub read_parts : (failed : Type 0) (parts : Vec Part Global) → is_directory (entry_of volume.directory file) ≡ false
+  pub read_parts : (failed : ℕ → Type 0) (parts : Vec Part Global) → is_directory (entry_of volume.directory file) ≡ false
       → IsPartsAlone volume.meaning volume.directory volume.store file parts.items → (b : Bool)
       → PartsAre b volume failed file (parts_found b (Some parts))
   read_parts failed parts of_file are true = (of_file, are)
   read_parts failed parts of_file are false = refl
 
   -- what is known of the text and of the parts
-  pub together : (first second failed : Type 0) → (first → failed) → (second → failed) → (facts : Facts) (parts : FileParts)
+  pub together : (first second failed : ℕ → Type 0) → (first file → failed file) → (second file → failed file) → (facts : Facts) (parts : FileParts)
       → AreTextFacts volume options first file facts → PartsAre (wants_places options) volume second file parts
       → AreFacts volume options failed file (facts_with facts parts)
   together first second failed on next facts parts text found = record {
@@ -158,16 +157,16 @@ facts_last : (facts : List FileFacts) (one : FileFacts) (many : ℕ) → length 
 facts_last facts one many as_many =
     ap (λ (n : ℕ). get_or (facts ++ one ∷ []) n no_facts) (sym as_many) ∙ get_or-append_seam facts one [] no_facts
 
-module _ (volume : ReadVolume) (options : ListOptions) where
-  pub wider_up_to : (failed more : Type 0) → (failed → more) → (many : ℕ) (facts : List FileFacts) → AreFactsUpTo volume options failed many facts
+module _ (volume : SeenVolume) (options : ListOptions) where
+  pub wider_up_to : (failed more : ℕ → Type 0) → ((file : ℕ) → failed file → more file) → (many : ℕ) (facts : List FileFacts) → AreFactsUpTo volume options failed many facts
       → AreFactsUpTo volume options more many facts
   wider_up_to failed more on many facts are = record {
     within = are.within;
-    each = λ file low. wider volume options file failed more on (slice_index_or facts file no_facts) (are.each file low);
+    each = λ file low. wider volume options file failed more (on file) (slice_index_or facts file no_facts) (are.each file low);
   }
 
   -- nothing is wanted, and nothing one
-  pub nothing_known : (failed : Type 0) → ((file : ℕ) → WantsNothing volume options file)
+  pub nothing_known : (failed : ℕ → Type 0) → ((file : ℕ) → WantsNothing volume options file)
       → AreFactsUpTo volume options failed (entries volume.directory) []
   nothing_known failed nothing = record {
     within = omega arith;
@@ -178,10 +177,10 @@ module _ (volume : ReadVolume) (options : ListOptions) where
     };
   }
 
-  pub none_yet : (failed : Type 0) → AreFactsUpTo volume options failed 0 []
+  pub none_yet : (failed : ℕ → Type 0) → AreFactsUpTo volume options failed 0 []
   none_yet failed = record { within = omega arith; each = λ file low. absurd (omega (arith, low)) }
 
-  pub more_known : (failed : Type 0) (many : ℕ) (facts : List FileFacts) (one : FileFacts) → length facts ≡ many → many < entries volume.directory
+  pub more_known : (failed : ℕ → Type 0) (many : ℕ) (facts : List FileFacts) (one : FileFacts) → length facts ≡ many → many < entries volume.directory
       → AreFactsUpTo volume options failed many facts → AreFacts volume options failed many one
       → AreFactsUpTo volume options failed (many + 1) (facts ++ one ∷ [])
   more_known failed many facts one as_many low are is = record {
@@ -253,19 +252,19 @@ both_ok P Q R (Err e) on p q = tt
 pub step_known : (form : PlaceForm) (files : FileMeaning) (meaning : Meaning) (directory : Directory) (options : ListOptions)
     (start now after : DeviceState) (many : ℕ) (facts : List FileFacts) (one : FileFacts) → IsTrue start.honest → ReadsOn start now → ReadsOn now after
     → length facts ≡ many → many < entries directory
-    → AreFactsUpTo (volume_in form files meaning start.store directory) options (FailedBetween start now) many facts
-    → AreFacts (volume_in form files meaning now.store directory) options (FailedBetween now after) many one
-    → AreFactsUpTo (volume_in form files meaning start.store directory) options (FailedBetween start after) (many + 1) (facts ++ one ∷ [])
+    → AreFactsUpTo (volume_in form files meaning directory start.store) options (FailedInFile meaning directory start now) many facts
+    → AreFacts (volume_in form files meaning directory now.store) options (FailedInFile meaning directory now after) many one
+    → AreFactsUpTo (volume_in form files meaning directory start.store) options (FailedInFile meaning directory start after) (many + 1) (facts ++ one ∷ [])
 step_known form files meaning directory options start now after many facts one honest reads later as_many low are is =
-    let volume : ReadVolume = volume_in form files meaning start.store directory in
+    let volume : SeenVolume = volume_in form files meaning directory start.store in
     let same : now.store ≡ start.store = ap (λ (device : DeviceState). device.store) (reads.kept honest) in
-    let here : AreFacts volume options (FailedBetween now after) many one =
-    subst (λ (store : List (List ℕ)). AreFacts (volume_in form files meaning store directory) options (FailedBetween now after) many one) same is in
-    more_known volume options (FailedBetween start after) many facts one as_many low
-    (wider_up_to volume options (FailedBetween start now) (FailedBetween start after) (failed_among start start now after (none_read start) later) many facts are)
-    (wider volume options many (FailedBetween now after) (FailedBetween start after) (failed_among start now after after reads (none_read after)) one here)
+    let here : AreFacts volume options (FailedInFile meaning directory now after) many one =
+    subst (λ (store : List (List ℕ)). AreFacts (volume_in form files meaning directory store) options (FailedInFile meaning directory now after) many one) same is in
+    more_known volume options (FailedInFile meaning directory start after) many facts one as_many low
+    (wider_up_to volume options (FailedInFile meaning directory start now) (FailedInFile meaning directory start after) (λ file. failed_in_file_before meaning directory start now after file later) many facts are)
+    (wider volume options many (FailedInFile meaning directory now after) (FailedInFile meaning directory start after) (failed_in_file_since meaning directory start now after many honest reads) one here)
 
-pub too_much : (volume : ReadVolume) (options : ListOptions) (failed : Type 0) (many left : ℕ) (facts : List FileFacts) (one : FileFacts)
+pub too_much : (volume : SeenVolume) (options : ListOptions) (failed : ℕ → Type 0) (many left : ℕ) (facts : List FileFacts) (one : FileFacts)
     → length facts ≡ many → left + bytes_read volume.meaning.unit_size facts ≡ options.most → left < bytes_told volume.meaning.unit_size one
     → AreFactsUpTo volume options failed (many + 1) (facts ++ one ∷ []) → ReadTooMuch volume options failed
 too_much volume options failed many left facts one as_many rest over are = record {
@@ -274,7 +273,7 @@ too_much volume options failed many left facts one as_many rest over are = recor
   many = omega (arith, rest, over, bytes_more volume.meaning.unit_size facts one);
 }
 
-pub wider_too_much : (volume : ReadVolume) (options : ListOptions) (failed more : Type 0) → (failed → more) → ReadTooMuch volume options failed
+pub wider_too_much : (volume : SeenVolume) (options : ListOptions) (failed more : ℕ → Type 0) → ((file : ℕ) → failed file → more file) → ReadTooMuch volume options failed
     → ReadTooMuch volume options more
 wider_too_much volume options failed more on read = record {
   facts = read.facts;

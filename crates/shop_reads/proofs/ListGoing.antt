@@ -2,18 +2,18 @@
 use Rattle.std.proofs.Common.{◌≡◌, ℕ, Bool, true, false, List, ap, refl, subst, sym}
 use Rattle.std.specs.Prelude.{◌||◌, ◌&&◌, not, Err, IsTrue, if◌then◌else◌, length, slice_index_or}
 use Rattle.a2_device.specs.Device.{DeviceState, OnlyReads}
-use Rattle.file_cmds.specs.ReadingOn.{FailedBetween, ReadsOn}
+use Rattle.file_cmds.specs.ReadingOn.{FailedInFile, ReadsOn}
 use Rattle.file_cmds.specs.Refusal.{told_device}
 use Rattle.file_cmds.specs.declared.error.CmdError.{CmdError}
 use Rattle.file_cmds.specs.declared.error.CmdError.TheVariants as commands
-use Rattle.file_cmds.specs.lemmas.Reading.{one_reading, read_twice}
+use Rattle.file_cmds.specs.lemmas.Reading.{lacking_where_quiet, one_reading, read_twice}
 use Rattle.file_listings.specs.Known.{FileFacts, no_facts}
 use Rattle.shop_jobs.specs.declared.job.ListForm.{ListForm}
 use Rattle.shop_jobs.specs.declared.job.ListForm.TheVariants as forms
 use Rattle.shop_jobs.specs.declared.job.ListOptions.{ListOptions}
 use Rattle.shop_replies.specs.declared.reply.Reply.{Reply}
-use Rattle.shop_replies.specs.Volume.{LacksUnit}
-use Rattle.shop_reads.specs.EntriesReply.{AddressIs, AreFacts, AreFactsUpTo, DigestIs, PartsAre, ReadTooMuch, ReadVolume, is_json, is_names, reads_files, wants_address, wants_places}
+use Rattle.volume_compare.specs.Contents.{SeenVolume}
+use Rattle.shop_reads.specs.EntriesReply.{AddressIs, AreFacts, AreFactsUpTo, DigestIs, LacksUnitOf, PartsAre, ReadTooMuch, is_json, is_names, reads_files, wants_address, wants_places}
 use Rattle.shop_reads.specs.GoingOn.{Ends, FailsForLackBy, ReadsBy, TellsFile, list_going}
 use Rattle.shop_reads.specs.Refusals.{reply_to_refusal}
 use Rattle.shop_reads.specs.TellingFailures.{FailsForLack, tells_device}
@@ -32,7 +32,7 @@ unplaced forms.Names false names = refl
 unplaced forms.Json places names = absurd (cc)
 unplaced forms.Csv places names = absurd (cc)
 
-module _ (volume : ReadVolume) (options : ListOptions) (failed more : Type 0) where
+module _ (volume : SeenVolume) (options : ListOptions) (failed more : ℕ → Type 0) where
   -- of a file of which nothing is wanted nothing is told, whatever failed
   told_alike : reads_files options ≡ false → (file : ℕ) (facts : FileFacts) → AreFacts volume options failed file facts → AreFacts volume options more file facts
   told_alike never file facts are =
@@ -51,18 +51,34 @@ module _ (volume : ReadVolume) (options : ListOptions) (failed more : Type 0) wh
     each = λ file low. told_alike never file (slice_index_or facts file no_facts) (are.each file low);
   }
 
-module _ (volume : ReadVolume) (options : ListOptions) (reply : Reply) (old new : DeviceState) where
+module _ (volume : SeenVolume) (options : ListOptions) (reply : Reply) (old new : DeviceState) (honest : IsTrue old.honest) where
+  -- a unit of a file could not be read
+  abbrev fails_in : ℕ → Type 0
+  fails_in = FailedInFile volume.meaning volume.directory old new
+
+  abbrev lacks_in : ℕ → Type 0
+  lacks_in = LacksUnitOf volume.meaning volume.directory old
+
   -- what is known of files, where a list failed only since a unit can't be read
   pub lacks_up_to : FailsForLackBy (list_going options) reply old new → (many : ℕ) (facts : List FileFacts)
-      → AreFactsUpTo volume options (FailedBetween old new) many facts → AreFactsUpTo volume options (LacksUnit old) many facts
+      → AreFactsUpTo volume options fails_in many facts → AreFactsUpTo volume options lacks_in many facts
   lacks_up_to lack many facts are = by_reading (reads_files options) refl lack
     where
       by_reading : (b : Bool) → reads_files options ≡ b → FailsForLackBy (if b then TellsFile else Ends) reply old new
-          → AreFactsUpTo volume options (LacksUnit old) many facts
-      by_reading true is lacks = wider_up_to volume options (FailedBetween old new) (LacksUnit old) lacks many facts are
-      by_reading false is lacks = told_up_to volume options (FailedBetween old new) (LacksUnit old) is many facts are
+          → AreFactsUpTo volume options lacks_in many facts
+      by_reading true is lacks = wider_up_to volume options fails_in lacks_in on many facts are
+        where
+          on : (file : ℕ) → fails_in file → lacks_in file
+          on file failed = record {
+            part = failed.part;
+            reached = failed.reached;
+            in_file = failed.in_file;
+            lacks = lacks (failed.part.place, failed.failed);
+            unreadable = λ quiet. lacking_where_quiet old new honest quiet failed.part.place failed.failed;
+          }
+      by_reading false is lacks = told_up_to volume options fails_in lacks_in is many facts are
 
-  pub lacks_too_much : FailsForLackBy (list_going options) reply old new → ReadTooMuch volume options (FailedBetween old new) → ReadTooMuch volume options (LacksUnit old)
+  pub lacks_too_much : FailsForLackBy (list_going options) reply old new → ReadTooMuch volume options fails_in → ReadTooMuch volume options lacks_in
   lacks_too_much lack much = record { facts = much.facts; are = lacks_up_to lack (length much.facts) much.facts much.are; many = much.many }
 
 module _ (options : ListOptions) (old mid new : DeviceState) where

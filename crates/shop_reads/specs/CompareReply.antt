@@ -1,8 +1,8 @@
 -- What is told of a volume whose files are compared with those of another image.
-use Rattle.std.specs.Prelude.{◌≡◌, ◌⊎◌, ℕ, Bool, List, length, if◌then◌else◌}
+use Rattle.std.specs.Prelude.{◌≡◌, ◌⊎◌, ℕ, Bool, List, Some, Contains, length, if◌then◌else◌}
 use Rattle.a2_device.specs.Device.{DeviceState}
 use Rattle.a2_image.specs.declared.error.ImageError.{ImageError}
-use Rattle.file_cmds.specs.ReadingOn.{FailedBetween}
+use Rattle.file_cmds.specs.ReadingOn.{FailedAt, FailedBetween}
 use Rattle.file_formats.specs.Files.{FileMeaning}
 use Rattle.reserved_places.specs.declared.form.PlaceForm.{PlaceForm}
 use Rattle.vol_format.specs.Meaning.{Meaning}
@@ -46,12 +46,14 @@ abbrev pub TellsComparison : Comparison → Reply → Type 0
 TellsComparison comparison reply =
     IsTold (comparison_status comparison.equal) reply × (reply.told ≡ tells.Text comparison.text)
 
--- Two volumes were compared, and their devices are now so: reads of them may have failed, for want of a unit alone.
+-- Two volumes were compared, and their devices are now so: reads of them may have failed, for want of a unit alone; where no
+-- failure is to come, each for want of the very unit that was to be read, as of the other image.
 pub record IsComparedWith (options : CompareOptions) (form : PlaceForm) (files : FileMeaning) (format : Meaning) (device other : DeviceState) (reply : Reply) : Type 0 where
   pub now : DeviceState
   pub other_now : DeviceState
   pub lacks : FailedBetween device now → LacksUnit device
-  pub other_lacks : FailedBetween other other_now → LacksUnit other
+  pub unreadable : device.read_failures ≡ Some 0 → (place : ℕ) → FailedAt place device now → Contains device.unreadable place
+  pub other_unreadable : (place : ℕ) → FailedAt place other other_now → Contains other.unreadable place
   pub told :
       ((comparison : Comparison) × IsComparison options.all form files format options.most device now other other_now comparison
       × TellsComparison comparison reply)

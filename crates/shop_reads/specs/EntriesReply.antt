@@ -1,20 +1,19 @@
 -- What is told of a volume whose entries are told as data.
-use Rattle.std.specs.Prelude.{◌≡◌, ◌⊎◌, ◌<◌, ◌≤◌, ◌+◌, ◌*◌, ◌==◌, ◌||◌, ◌&&◌, not, ℕ, Bool, true, false, List, Option, Some, None, length, sum_by, slice_index_or, if◌then◌else◌}
+use Rattle.std.specs.Prelude.{◌≡◌, ◌⊎◌, ◌<◌, ◌≤◌, ◌+◌, ◌*◌, ◌||◌, ◌&&◌, not, ℕ, Bool, true, false, List, Option, Some, None, Contains, length, sum_by, slice_index_or, if◌then◌else◌}
 use Rattle.std.specs.declared.alloc.Global.{Global}
 use Rattle.std.specs.declared.vec.Vec.{Vec}
 use Rattle.sha2.specs.Sha256.{sha256}
 use Rattle.a2_device.specs.Device.{DeviceState}
 use Rattle.a2_device.specs.declared.part.Part.{Part}
 use Rattle.reserved_places.specs.declared.form.PlaceForm.{PlaceForm}
-use Rattle.reserved_places.specs.declared.form.PlaceForm.TheVariants.{Sector, Block}
 use Rattle.vol_format.specs.Directory.{Directory, entries, entry_of, is_directory}
 use Rattle.vol_format.specs.Meaning.{Meaning}
+use Rattle.vol_format.specs.Reach.{Reach}
 use Rattle.file_formats.specs.DosFiles.{number_at}
 use Rattle.file_formats.specs.Files.{FileMeaning}
 use Rattle.file_formats.specs.Listing.{HasHeaderFault}
-use Rattle.file_formats.specs.declared.listing.ListEntry.{ListEntry}
 use Rattle.file_cmds.specs.FileParts.{IsPartsAlone}
-use Rattle.file_cmds.specs.Text.{IsEntryText, IsWholeTextOf, OwnFault}
+use Rattle.file_cmds.specs.Text.{IsEntryText, IsWholeTextOf}
 use Rattle.row_text.specs.declared.row.Digested.{Digested}
 use Rattle.row_text.specs.declared.row.Digested.TheVariants.{Untold, Missing, Of}
 use Rattle.file_listings.specs.Known.{FileFacts, FileParts, no_facts}
@@ -33,6 +32,7 @@ use Rattle.shop_replies.specs.declared.reply.Status.{Status}
 use Rattle.shop_replies.specs.declared.reply.Status.TheVariants.{Done, Wrong}
 use Rattle.shop_replies.specs.Reply.{failed, refused}
 use Rattle.shop_replies.specs.Volume.{LacksUnit}
+use Rattle.volume_compare.specs.Contents.{IsUnread, SeenVolume, is_binary, volume_in}
 use Rattle.shop_reads.specs.CatalogReply.{TellsListing}
 
 -- ---- what is wanted
@@ -65,37 +65,20 @@ style_in forms.Csv digests = styles.Csv digests
 abbrev pub style_of : ListOptions → EntryStyle
 style_of options = style_in options.form options.digests
 
--- a binary file of DOS 3.3 has an address
-abbrev pub is_binary : {A : Type 0} → PlaceForm → ListEntry A → Bool
-is_binary Sector entry = entry.kind == 4
-is_binary Block entry = false
-
 -- ---- what is known of a file
 
--- a volume that was read: how its places are named, its files, what its units mean, what they say, and they themselves
-pub record ReadVolume : Type 1 where
-  pub form : PlaceForm
-  pub files : FileMeaning
-  pub meaning : Meaning
-  pub directory : Directory
-  pub store : List (List ℕ)
-
-abbrev pub wants_address : ReadVolume → ListOptions → ℕ → Bool
+abbrev pub wants_address : SeenVolume → ListOptions → ℕ → Bool
 wants_address volume options file =
     not (is_names options.form) && is_binary volume.form (volume.files.shown {A = Global} (entry_of volume.directory file))
 
--- The file has a fault of its own, or a unit of it could not be read, which `failed` says.
-abbrev pub IsUnread : ReadVolume → Type 0 → ℕ → Type 0
-IsUnread volume failed file = OwnFault volume.meaning volume.directory volume.store file ⊎ failed
-
 -- the first two bytes of the whole text, where this can be read
-abbrev pub IsAddress : ReadVolume → Type 0 → ℕ → Option ℕ → Type 0
+abbrev pub IsAddress : SeenVolume → (ℕ → Type 0) → ℕ → Option ℕ → Type 0
 IsAddress volume failed file (Some address) =
     (text : List ℕ) × IsWholeTextOf volume.meaning volume.directory volume.store file text × (address ≡ number_at text 0)
 IsAddress volume failed file None = IsUnread volume failed file
 
 -- how many bytes the text has, and their SHA-256; a directory has none, nor what can't be read
-abbrev pub IsDigest : ReadVolume → Type 0 → ℕ → Digested → Type 0
+abbrev pub IsDigest : SeenVolume → (ℕ → Type 0) → ℕ → Digested → Type 0
 IsDigest volume failed file (Of digest) =
     (is_directory (entry_of volume.directory file) ≡ false)
     × (text : List ℕ) × IsEntryText volume.meaning volume.files volume.directory volume.store file false text
@@ -105,7 +88,7 @@ IsDigest volume failed file Missing =
 IsDigest volume failed file Untold = ⊥
 
 -- the parts of the file, in order; a directory has none, nor a file with a fault of its own, or of which a list or an index can't be read
-abbrev pub AreParts : ReadVolume → Type 0 → ℕ → FileParts → Type 0
+abbrev pub AreParts : SeenVolume → (ℕ → Type 0) → ℕ → FileParts → Type 0
 AreParts volume failed file (known.Of parts) =
     (is_directory (entry_of volume.directory file) ≡ false)
     × IsPartsAlone volume.meaning volume.directory volume.store file parts
@@ -113,44 +96,44 @@ AreParts volume failed file known.Missing =
     (is_directory (entry_of volume.directory file) ≡ true) ⊎ IsUnread volume failed file
 AreParts volume failed file known.Untold = ⊥
 
-abbrev pub AddressIs : Bool → ReadVolume → Type 0 → ℕ → Option ℕ → Type 0
+abbrev pub AddressIs : Bool → SeenVolume → (ℕ → Type 0) → ℕ → Option ℕ → Type 0
 AddressIs true volume failed file address = IsAddress volume failed file address
 AddressIs false volume failed file address = address ≡ None
 
-abbrev pub DigestIs : Bool → ReadVolume → Type 0 → ℕ → Digested → Type 0
+abbrev pub DigestIs : Bool → SeenVolume → (ℕ → Type 0) → ℕ → Digested → Type 0
 DigestIs true volume failed file digest = IsDigest volume failed file digest
 DigestIs false volume failed file digest = digest ≡ Untold
 
-abbrev pub PartsAre : Bool → ReadVolume → Type 0 → ℕ → FileParts → Type 0
+abbrev pub PartsAre : Bool → SeenVolume → (ℕ → Type 0) → ℕ → FileParts → Type 0
 PartsAre true volume failed file parts = AreParts volume failed file parts
 PartsAre false volume failed file parts = parts ≡ known.Untold
 
 -- nothing of a file is wanted beside its entry
-pub record WantsNothing (volume : ReadVolume) (options : ListOptions) (file : ℕ) : Type 0 where
+pub record WantsNothing (volume : SeenVolume) (options : ListOptions) (file : ℕ) : Type 0 where
   pub address : wants_address volume options file ≡ false
   pub digest : options.digests ≡ false
   pub places : wants_places options ≡ false
 
 -- what is told of the text of a file, where it is wanted
-pub record AreTextFacts (volume : ReadVolume) (options : ListOptions) (failed : Type 0) (file : ℕ) (facts : Facts) : Type 0 where
+pub record AreTextFacts (volume : SeenVolume) (options : ListOptions) (failed : ℕ → Type 0) (file : ℕ) (facts : Facts) : Type 0 where
   pub address : AddressIs (wants_address volume options file) volume failed file facts.address
   pub digest : DigestIs options.digests volume failed file facts.digest
 
 -- what is told of a file beside its entry, where it is wanted
-pub record AreFacts (volume : ReadVolume) (options : ListOptions) (failed : Type 0) (file : ℕ) (facts : FileFacts) : Type 0 where
+pub record AreFacts (volume : SeenVolume) (options : ListOptions) (failed : ℕ → Type 0) (file : ℕ) (facts : FileFacts) : Type 0 where
   pub address : AddressIs (wants_address volume options file) volume failed file facts.address
   pub digest : DigestIs options.digests volume failed file facts.digest
   pub parts : PartsAre (wants_places options) volume failed file facts.parts
 
 -- those of the files of the first entries
-pub record AreFactsUpTo (volume : ReadVolume) (options : ListOptions) (failed : Type 0) (many : ℕ) (facts : List FileFacts) : Type 0 where
+pub record AreFactsUpTo (volume : SeenVolume) (options : ListOptions) (failed : ℕ → Type 0) (many : ℕ) (facts : List FileFacts) : Type 0 where
   pub within : many ≤ entries volume.directory
   pub each : (file : ℕ) → file < many → AreFacts volume options failed file (slice_index_or facts file no_facts)
 
 -- ---- what is made of the texts of a file
 
 -- whether its address and its digest are wanted
-abbrev pub wants_digest : ReadVolume → ListOptions → ℕ → Bool
+abbrev pub wants_digest : SeenVolume → ListOptions → ℕ → Bool
 wants_digest volume options file = options.digests && not (is_directory (entry_of volume.directory file))
 
 abbrev pub digest_by : List ℕ → Digested
@@ -207,24 +190,28 @@ abbrev pub list_status : Bool → Status
 list_status complete = if complete then Done else Wrong
 
 -- the files of the first entries, and the units of their parts that are told, have more bytes than they may
-pub record ReadTooMuch (volume : ReadVolume) (options : ListOptions) (failed : Type 0) : Type 0 where
+pub record ReadTooMuch (volume : SeenVolume) (options : ListOptions) (failed : ℕ → Type 0) : Type 0 where
   pub facts : List FileFacts
   pub are : AreFactsUpTo volume options failed (length facts) facts
   pub many : options.most < bytes_read volume.meaning.unit_size facts
 
 -- ---- the reply
 
--- the volume that a store has
-abbrev pub volume_in : PlaceForm → FileMeaning → Meaning → List (List ℕ) → Directory → ReadVolume
-volume_in form files meaning store directory =
-    record { form = form; files = files; meaning = meaning; directory = directory; store = store }
+-- A unit of the file could not be read: where no failure is to come it is one that can't be, and else some unit of the
+-- device can't be.
+pub record LacksUnitOf (format : Meaning) (directory : Directory) (device : DeviceState) (file : ℕ) : Type 0 where
+  pub part : Part
+  pub reached : Reach format directory device.store part
+  pub in_file : part.file ≡ file
+  pub lacks : LacksUnit device
+  pub unreadable : device.read_failures ≡ Some 0 → Contains device.unreadable part.place
 
 -- the entries of what the header, the directory and the map of the volume say, with what is known of each file
 pub record IsEntriesReply (options : ListOptions) (form : PlaceForm) (files : FileMeaning) (format : Meaning) (device : DeviceState) (reply : Reply) : Type 0 where
   pub directory : Directory
   pub described : format.Describes device.store directory
   pub facts : List FileFacts
-  pub are : AreFactsUpTo (volume_in form files format device.store directory) options (LacksUnit device) (entries directory) facts
+  pub are : AreFactsUpTo (volume_in form files format directory device.store) options (LacksUnitOf format directory device) (entries directory) facts
   pub few : bytes_read format.unit_size facts ≤ options.most
   pub complete : Bool
   pub ended : IsCompleteUpTo directory facts (entries directory) complete
@@ -234,7 +221,7 @@ pub record IsEntriesReply (options : ListOptions) (form : PlaceForm) (files : Fi
 pub record IsTooLarge (options : ListOptions) (form : PlaceForm) (files : FileMeaning) (format : Meaning) (device : DeviceState) : Type 0 where
   pub directory : Directory
   pub described : format.Describes device.store directory
-  pub read : ReadTooMuch (volume_in form files format device.store directory) options (LacksUnit device)
+  pub read : ReadTooMuch (volume_in form files format directory device.store) options (LacksUnitOf format directory device)
 
 -- The reply to `list`: the entries; `Check` where the header, the directory or the map's pointer has a fault; `TooLarge`
 -- where the files that are read have too many bytes; a failure where a unit of these can't be read; or want of memory.

@@ -1,11 +1,12 @@
 // What is known of the file of an entry beside it.
 ghost use Rattle.std.specs.Prelude.{◌≡◌, ◌<◌, if◌then◌else◌, IfOk, IsTrue, None, Some};
 ghost use Rattle.file_cmds.specs.EachFile.{AreFilesOf};
-ghost use Rattle.file_cmds.specs.ReadingOn.{FailedBetween, ReadsOn};
+ghost use Rattle.file_cmds.specs.ReadingOn.{FailedInFile, ReadsOn};
 ghost use Rattle.file_formats.specs.DosFiles.{number_at};
 ghost use Rattle.file_listings.specs.Known.{facts_with};
 ghost use Rattle.vol_format.specs.Directory.{entries, entry_of};
 ghost use Rattle.vol_format.specs.Fits.{Fits};
+ghost use Rattle.volume_compare.specs.Contents.{volume_in};
 ghost use Rattle.shop_reads.specs.EntriesReply.{
   AreFacts,
   AreTextFacts,
@@ -14,7 +15,6 @@ ghost use Rattle.shop_reads.specs.EntriesReply.{
   no_digest,
   parts_found,
   unread_facts,
-  volume_in,
   wants_places,
 };
 
@@ -106,8 +106,10 @@ fn entry_facts<D: Device, F: ShownFormat>(
     ensures kept { AreFilesOf (F.meaning format.now) (F.directory format.now volume.now)
         (D.state device.new) files.new }
     ensures facts { IsTrue (D.state device.old).honest → IfOk result (AreTextFacts
-        (volume_in (F.form format.now) (F.files format.now) (F.meaning format.now) (D.state device.old).store
-        (F.directory format.now volume.now)) options (FailedBetween (D.state device.old) (D.state device.new)) file) }
+        (volume_in (F.form format.now) (F.files format.now) (F.meaning format.now)
+        (F.directory format.now volume.now) (D.state device.old).store) options
+        (FailedInFile (F.meaning format.now) (F.directory format.now volume.now)
+        (D.state device.old) (D.state device.new)) file) }
 {
     let wants = wants_of(alloc, format, volume, file, options)?;
     if !wants.address && !wants.digest {
@@ -139,9 +141,10 @@ fn entry_parts<D: Device, F: ShownFormat>(
     ensures kept { AreFilesOf (F.meaning format.now) (F.directory format.now volume.now)
         (D.state device.new) files.new }
     ensures parts { IsTrue (D.state device.old).honest → IfOk result (λ parts. PartsAre (wants_places options)
-        (volume_in (F.form format.now) (F.files format.now) (F.meaning format.now) (D.state device.old).store
-        (F.directory format.now volume.now))
-        (FailedBetween (D.state device.old) (D.state device.new)) file (parts_found (wants_places options) parts)) }
+        (volume_in (F.form format.now) (F.files format.now) (F.meaning format.now)
+        (F.directory format.now volume.now) (D.state device.old).store)
+        (FailedInFile (F.meaning format.now) (F.directory format.now volume.now)
+        (D.state device.old) (D.state device.new)) file (parts_found (wants_places options) parts)) }
 {
     if !wants_places(options) || matches!(format.root(volume, file), Link::Directory) {
         return Ok(None);
@@ -175,8 +178,10 @@ pub fn entry_known<D: Device, F: ShownFormat>(
     ensures kept { AreFilesOf (F.meaning format.now) (F.directory format.now volume.now)
         (D.state device.new) files.new }
     ensures known { IsTrue (D.state device.old).honest → IfOk result (λ read. AreFacts
-        (volume_in (F.form format.now) (F.files format.now) (F.meaning format.now) (D.state device.old).store
-        (F.directory format.now volume.now)) options (FailedBetween (D.state device.old) (D.state device.new)) file
+        (volume_in (F.form format.now) (F.files format.now) (F.meaning format.now)
+        (F.directory format.now volume.now) (D.state device.old).store) options
+        (FailedInFile (F.meaning format.now) (F.directory format.now volume.now)
+        (D.state device.old) (D.state device.new)) file
         (facts_with read.facts (parts_found (wants_places options) read.parts))) }
 {
     let facts = entry_facts(alloc, device, format, volume, files, file, options)?;

@@ -17,10 +17,11 @@ ghost use Rattle.std.specs.Prelude.{
   false,
   true,
 };
-ghost use Rattle.file_cmds.specs.ReadingOn.{FailedBetween, ReadsOn};
+ghost use Rattle.file_cmds.specs.ReadingOn.{FailedInFile, ReadsOn};
 ghost use Rattle.file_listings.specs.Known.{HasRuns, facts_in, facts_with};
 ghost use Rattle.vol_format.specs.Directory.{entries, entry_of, is_directory};
 ghost use Rattle.vol_format.specs.Fits.{Fits};
+ghost use Rattle.volume_compare.specs.Contents.{volume_in};
 ghost use Rattle.shop_reads.specs.declared.known.FactsError.TheVariants.{Memory as NoMemory};
 ghost use Rattle.shop_reads.specs.EntriesReply.{
   AreFactsUpTo,
@@ -32,7 +33,6 @@ ghost use Rattle.shop_reads.specs.EntriesReply.{
   is_missing,
   parts_found,
   reads_files,
-  volume_in,
   wants_places,
 };
 
@@ -152,16 +152,20 @@ fn read_known<D: Device, F: ShownFormat>(
 
     ensures reads { ReadsOn (D.state device.old) (D.state device.new) }
     ensures facts { IsTrue (D.state device.old).honest → IfOk result (λ known. AreFactsUpTo
-        (volume_in (F.form format.now) (F.files format.now) (F.meaning format.now) (D.state device.old).store
-        (F.directory format.now volume.now)) options (FailedBetween (D.state device.old) (D.state device.new))
+        (volume_in (F.form format.now) (F.files format.now) (F.meaning format.now)
+        (F.directory format.now volume.now) (D.state device.old).store) options
+        (FailedInFile (F.meaning format.now) (F.directory format.now volume.now)
+        (D.state device.old) (D.state device.new))
         (entries (F.directory format.now volume.now)) (facts_in known.files)) }
     ensures few { IfOk result (λ known.
         bytes_read (F.meaning format.now).unit_size (facts_in known.files) ≤ options.most) }
     ensures complete { IfOk result (λ known. IsCompleteUpTo (F.directory format.now volume.now) (facts_in known.files)
         (entries (F.directory format.now volume.now)) known.complete) }
     ensures many { IsTrue (D.state device.old).honest → result ≡ Err FactsError.TooLarge → ReadTooMuch
-        (volume_in (F.form format.now) (F.files format.now) (F.meaning format.now) (D.state device.old).store
-        (F.directory format.now volume.now)) options (FailedBetween (D.state device.old) (D.state device.new)) }
+        (volume_in (F.form format.now) (F.files format.now) (F.meaning format.now)
+        (F.directory format.now volume.now) (D.state device.old).store) options
+        (FailedInFile (F.meaning format.now) (F.directory format.now volume.now)
+        (D.state device.old) (D.state device.new)) }
 {
     let mut files = VolumeFiles::open(alloc, device, format, volume)?;
     let mut known = Known::with_capacity(alloc, format.entries(volume) as usize, options)?;
@@ -197,16 +201,20 @@ pub fn known_of<D: Device, F: ShownFormat>(
     ensures alone { reads_files options ≡ false → D.state device.new ≡ D.state device.old }
     ensures reads { ReadsOn (D.state device.old) (D.state device.new) }
     ensures facts { IsTrue (D.state device.old).honest → IfOk result (λ known. AreFactsUpTo
-        (volume_in (F.form format.now) (F.files format.now) (F.meaning format.now) (D.state device.old).store
-        (F.directory format.now volume.now)) options (FailedBetween (D.state device.old) (D.state device.new))
+        (volume_in (F.form format.now) (F.files format.now) (F.meaning format.now)
+        (F.directory format.now volume.now) (D.state device.old).store) options
+        (FailedInFile (F.meaning format.now) (F.directory format.now volume.now)
+        (D.state device.old) (D.state device.new))
         (entries (F.directory format.now volume.now)) (facts_in known.files)) }
     ensures few { IfOk result (λ known.
         bytes_read (F.meaning format.now).unit_size (facts_in known.files) ≤ options.most) }
     ensures complete { IfOk result (λ known. IsCompleteUpTo (F.directory format.now volume.now) (facts_in known.files)
         (entries (F.directory format.now volume.now)) known.complete) }
     ensures many { IsTrue (D.state device.old).honest → result ≡ Err FactsError.TooLarge → ReadTooMuch
-        (volume_in (F.form format.now) (F.files format.now) (F.meaning format.now) (D.state device.old).store
-        (F.directory format.now volume.now)) options (FailedBetween (D.state device.old) (D.state device.new)) }
+        (volume_in (F.form format.now) (F.files format.now) (F.meaning format.now)
+        (F.directory format.now volume.now) (D.state device.old).store) options
+        (FailedInFile (F.meaning format.now) (F.directory format.now volume.now)
+        (D.state device.old) (D.state device.new)) }
 {
     if wants_any(format, options) {
         read_known(alloc, device, format, volume, options)

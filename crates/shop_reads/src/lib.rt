@@ -8,11 +8,11 @@
 //!
 //! The model: which reply comes, by the state of the device, is a relation for each look (`CatalogReply`,
 //! `EntriesReply`, `ReadReply`, `CheckReply` with `CheckText` and `FaultLines`, `BodiesReply`, `MapReply` with
-//! `MapStates` and `MapText`, `PlanReply`, `PlanWords` with `Steps`, and `VerifyReply`, all in `specs/`), and `specs/Look.antt` is all
-//! of them, over what a format is to who is told of one. `specs/GoingOn.antt` says which looks go on where a unit can't
-//! be read, and what that does to a device, `specs/Unreserved.antt` what a format is where nothing is reserved,
-//! `specs/Reserving.antt` which places the words reserve and what is told where they name none, and
-//! `specs/TellingFailures.antt` which replies tell that the device failed.
+//! `MapStates` and `MapText`, `PlanReply`, `PlanWords` with `Steps`, and `VerifyReply`, all in `specs/`), and
+//! `specs/Look.antt` is all of them, over what a format is to who is told of one. `specs/GoingOn.antt` says which looks
+//! go on where a unit can't be read, and what that does to a device, `specs/Unreserved.antt` what a format is where
+//! nothing is reserved, `specs/Reserving.antt` which places the words reserve and what is told where they name none,
+//! and `specs/TellingFailures.antt` which replies tell that the device failed.
 //!
 //! What always holds: each reply says what the units of the device are, each refusal has its cause in them or in the
 //! words, and the device is only read.

@@ -2,11 +2,10 @@
 ghost use Rattle.std.specs.Prelude.{◌≡◌, ◌<◌, ◌&&◌, not, ℕ, IfOk, IsFalse, List, false};
 ghost use Rattle.std.specs.declared.alloc.Global.{Global};
 ghost use Rattle.vol_format.specs.Directory.{Directory, entries, entry_of, is_directory};
+ghost use Rattle.volume_compare.specs.Contents.{is_binary, volume_in};
 ghost use Rattle.shop_reads.specs.EntriesReply.{
   WantsNothing,
-  is_binary,
   reads_files,
-  volume_in,
   wants_address,
   wants_places,
 };
@@ -17,9 +16,7 @@ use reserved_places::PlaceForm;
 use shop_jobs::{ListForm, ListOptions};
 use std::alloc::{AllocError, Global};
 use vol_format::{Format, Link};
-
-/// The kind of a binary file of DOS 3.3, which begins with its address.
-const BINARY: u8 = 0x04;
+use volume_compare::is_binary;
 
 /// What is wanted of a file: its address, and its digest where digests are told.
 #[derive(Clone, Copy)]
@@ -37,7 +34,7 @@ pub fn wants_places(options: ListOptions) -> bool
 }
 
 // Whether an entry is that of a binary file of DOS 3.3.
-fn is_binary<F: ShownFormat>(
+fn is_binary_file<F: ShownFormat>(
     alloc: Global,
     format: &F,
     volume: &F::Volume,
@@ -48,7 +45,10 @@ fn is_binary<F: ShownFormat>(
         ((F.files format.now).shown {A = Global} (entry_of (F.directory format.now volume.now) file))) }
 {
     match format.form() {
-        PlaceForm::Sector => Ok(format.list_entry(alloc, volume, file)?.kind == BINARY),
+        PlaceForm::Sector => {
+            let entry = format.list_entry(alloc, volume, file)?;
+            Ok(is_binary(PlaceForm::Sector, &entry))
+        }
         PlaceForm::Block => Ok(false),
     }
 }
@@ -63,13 +63,13 @@ fn wants_address<F: ShownFormat>(
 ) -> Result<bool, AllocError>
     requires { file < entries (F.directory format.now volume.now) }
     ensures { IfOk result (λ wants. (store : List (List ℕ)) → wants ≡ wants_address
-        (volume_in (F.form format.now) (F.files format.now) (F.meaning format.now) store
-        (F.directory format.now volume.now)) options file) }
+        (volume_in (F.form format.now) (F.files format.now) (F.meaning format.now)
+        (F.directory format.now volume.now) store) options file) }
 {
     if options.form == ListForm::Names {
         return Ok(false);
     }
-    is_binary(alloc, format, volume, file)
+    is_binary_file(alloc, format, volume, file)
 }
 
 /// What is wanted of the file of an entry.
@@ -85,8 +85,8 @@ pub fn wants_of<F: ShownFormat>(
 ) -> Result<Wants, AllocError>
     requires { file < entries (F.directory format.now volume.now) }
     ensures address { IfOk result (λ wants. (store : List (List ℕ)) → wants.address ≡ wants_address
-        (volume_in (F.form format.now) (F.files format.now) (F.meaning format.now) store
-        (F.directory format.now volume.now)) options file) }
+        (volume_in (F.form format.now) (F.files format.now) (F.meaning format.now)
+        (F.directory format.now volume.now) store) options file) }
     ensures digest { IfOk result (λ wants. wants.digest ≡ (options.digests
         && not (is_directory (entry_of (F.directory format.now volume.now) file)))) }
     ensures digests { IfOk result (λ wants. wants.digests ≡ options.digests) }
@@ -104,7 +104,7 @@ pub fn wants_of<F: ShownFormat>(
 pub fn wants_any<F: ShownFormat>(format: &F, options: ListOptions) -> bool
     ensures none { reads_files options ≡ false → IsFalse result }
     ensures nothing { IsFalse result → (store : List (List ℕ)) (directory : Directory) (file : ℕ)
-        → WantsNothing (volume_in (F.form format.now) (F.files format.now) (F.meaning format.now) store directory)
+        → WantsNothing (volume_in (F.form format.now) (F.files format.now) (F.meaning format.now) directory store)
         options file }
 {
     options.digests

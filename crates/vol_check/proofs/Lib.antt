@@ -12,3 +12,4 @@ pub mod Marks
 pub mod Clearing
 pub mod OneFile
 pub mod FileFaults
+pub mod Failing

@@ -2,6 +2,7 @@ pub mod Answer
 pub mod Told
 pub mod Known
 pub mod FaultFiles
+pub mod Failures
 pub mod Walk
 pub mod Walking
 pub mod Marks

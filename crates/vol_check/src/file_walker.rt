@@ -15,6 +15,7 @@ ghost use Rattle.a2_device.specs.declared.part.Part.{Part};
 ghost use Rattle.vol_format.specs.Directory.{entries};
 ghost use Rattle.vol_format.specs.Fits.{Fits};
 ghost use Rattle.vol_check.specs.Answer.{AreFaults};
+ghost use Rattle.vol_check.specs.Failures.{FailsInFile};
 ghost use Rattle.vol_check.specs.FileWalker.{HasOneRoot, HasTables, IsFaultlessFile, faults_of, parts_of};
 ghost use Rattle.vol_check.specs.Marks.{HasOwnMarks};
 ghost use Rattle.vol_check.specs.Walk.{lists, unseen};
@@ -76,7 +77,7 @@ impl<A: Allocator + Copy> FileWalker<A> {
     /// tells whether it has no fault. It makes no write, and reads the unit of each part that has pointers once.
     ///
     /// # Errors
-    /// `Device` where a read fails; `Memory`.
+    /// `Device` where the read of a unit of the file fails; `Memory`.
     pub fn walk<D: Device, F: Format>(
         &mut self,
         device: &mut D,
@@ -101,6 +102,9 @@ impl<A: Allocator + Copy> FileWalker<A> {
             (parts_of self.new)) }
         ensures refused { IsTrue (D.state device.old).honest → IfOk result (λ faultless. IsFalse faultless
             → AreFaults (F.meaning format.now) (D.state device.old).store (faults_of self.new)) }
+        ensures failed { IsTrue (D.state device.old).honest → IsTrue (is_device_stop result)
+            → FailsInFile (F.meaning format.now) (F.directory format.now volume.now)
+            (D.state device.old) (D.state device.new) file }
     {
         forget(&mut self.walk);
         walk_file(

@@ -9,8 +9,9 @@
 //! the volume back beside its faults. So it has a few lines a place at most, however many pointers are
 //! wrong.
 //!
-//! `FileWalker` walks over single files on the same tables. However a walk ends, its tables are marked for its own parts
-//! and faults alone (`specs/Marks.antt`), and by these they are cleared before the next walk.
+//! `FileWalker` walks over single files on the same tables. However a walk ends, its tables are marked for its own
+//! parts and faults alone (`specs/Marks.antt`), and by these they are cleared before the next walk. Where it tells that
+//! the device failed, the read of a unit of that file did (`specs/Failures.antt`).
 #![tactic(auto)]
 
 mod checked;

@@ -15,12 +15,13 @@ ghost use Rattle.std.specs.Prelude.{
   IsTrue,
 };
 ghost use Rattle.std.specs.List.{AllZip};
-ghost use Rattle.a2_device.specs.Device.{OnlyReads, unit_at};
+ghost use Rattle.a2_device.specs.Device.{FailsRead, OnlyReads, unit_at};
 ghost use Rattle.vol_format.specs.Fits.{Fits};
 ghost use Rattle.vol_format.specs.Directory.{entries};
 ghost use Rattle.a2_device.specs.Stop.{is_device_stop};
 ghost use Rattle.a2_device.specs.declared.part.Part.{Part};
 ghost use Rattle.vol_check.specs.declared.walk.Pending.TheVariants.{Visit};
+ghost use Rattle.vol_check.specs.Failures.{FailsInFile, FailsNext};
 ghost use Rattle.vol_check.specs.FaultFiles.{FileFaultAt, TellsOf};
 ghost use Rattle.vol_check.specs.Known.{is_known as is_in};
 ghost use Rattle.vol_check.specs.Marks.{KeepsMarks};
@@ -223,6 +224,8 @@ fn visit<D: Device, F: Format, A: Allocator>(
         ≡ after_visit (F.meaning format.now) (F.directory format.now volume.now) part
         (unit_at (D.state device.old).store part.place) (lists walk.old)) }
     ensures marks { KeepsMarks (lists walk.old) (lists walk.new) }
+    ensures failed { IsTrue (D.state device.old).honest → IsTrue (is_device_stop result)
+        → FailsRead part.place (D.state device.old) (D.state device.new) }
 {
     if admit(format, volume, part, walk)? && format.pointers(&part) != 0 {
         device.read(part.place, unit).map_err(|_| Stop::Device)?;
@@ -254,6 +257,8 @@ fn go_on<D: Device, F: Format, A: Allocator>(
         ≡ after_next (F.meaning format.now) (F.directory format.now volume.now) next
         (next_unit (D.state device.old).store next) (lists walk.old)) }
     ensures marks { KeepsMarks (lists walk.old) (lists walk.new) }
+    ensures failed { IsTrue (D.state device.old).honest → IsTrue (is_device_stop result)
+        → FailsNext next (D.state device.old) (D.state device.new) }
 {
     match next {
         Pending::Visit(part) => visit(device, format, volume, part, unit, walk),
@@ -290,6 +295,9 @@ pub fn walk_file<D: Device, F: Format, A: Allocator>(
         → OnOk result (TellsOf (F.meaning format.now) (F.directory format.now volume.now) (D.state device.old).store
         file (lists walk.old).faults (lists walk.new).faults) }
     ensures marks { KeepsMarks (lists walk.old) (lists walk.new) }
+    ensures failed { IsTrue (D.state device.old).honest → IsTrue (is_device_stop result)
+        → FailsInFile (F.meaning format.now) (F.directory format.now volume.now)
+        (D.state device.old) (D.state device.new) file }
 {
     let entry = format.entry_at(volume, file);
     note(walk, entry.place, format.root(volume, file))?;

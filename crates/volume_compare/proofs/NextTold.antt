@@ -8,7 +8,7 @@ use Rattle.reserved_places.specs.declared.form.PlaceForm.{PlaceForm}
 use Rattle.vol_format.specs.Directory.{Directory, entries}
 use Rattle.vol_format.specs.Meaning.{Meaning}
 use Rattle.file_formats.specs.Files.{FileMeaning}
-use Rattle.file_cmds.specs.ReadingOn.{FailedBetween, ReadsOn}
+use Rattle.file_cmds.specs.ReadingOn.{FailedInFile, ReadsOn}
 use Rattle.volume_compare.specs.Findings.{AreToldUpTo, Compared, IsFinding, IsTold, Told, compared_in, first_bytes_of, second_bytes, second_bytes_of, told_at}
 use Rattle.volume_compare.specs.Progress.{IsTelling, IsToldTo, TellsNext}
 use Rattle.volume_compare.specs.TooLarge.{AreCounts, HasTooMany, HasTooManySecond, IsCount, IsCountedTo, IsLargerBy, IsTooLarge}
@@ -19,7 +19,7 @@ use Rattle.volume_compare.specs.declared.finding.Finding.TheVariants.{Unreadable
 use Rattle.volume_compare.specs.declared.finding.Found.{Found}
 use Rattle.volume_compare.specs.declared.finding.Side.TheVariants.{First, Second}
 use Rattle.volume_compare.specs.declared.progress.Progress.{Progress}
-use Rattle.file_cmds.specs.lemmas.Reading.{failed_among, none_read, read_twice}
+use Rattle.file_cmds.specs.lemmas.Reading.{failed_in_file_before, none_read, read_twice}
 use Rattle.volume_compare.proofs.Counts.{wider_counts}
 use Rattle.volume_compare.proofs.Wider.{early_told, early_told_alone, late_told, told_more}
 
@@ -141,8 +141,8 @@ module _ (form : PlaceForm) (files : FileMeaning) (format : Meaning) (first seco
       abbrev in_last : Compared
       in_last = compared_in form files format first second start last other other_after
 
-      on : FailedBetween start after → FailedBetween start last
-      on failed = failed_among start start after last (none_read start) behind failed
+      on : (file : ℕ) → FailedInFile format first start after file → FailedInFile format first start last file
+      on file failed = failed_in_file_before format first start after last file behind failed
 
       until_last : (all : List (Option Told)) → AreToldUpTo in_all (length all) all → AreToldUpTo in_last (length all) all
       until_last all are =

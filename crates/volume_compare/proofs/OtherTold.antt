@@ -8,8 +8,8 @@ use Rattle.reserved_places.specs.declared.form.PlaceForm.{PlaceForm}
 use Rattle.vol_format.specs.Directory.{Directory, entries}
 use Rattle.vol_format.specs.Meaning.{Meaning}
 use Rattle.file_formats.specs.Files.{FileMeaning}
-use Rattle.file_cmds.specs.ReadingOn.{FailedBetween, ReadsOn}
-use Rattle.file_cmds.specs.lemmas.Reading.{failed_among, none_read}
+use Rattle.file_cmds.specs.ReadingOn.{FailedInFile, ReadsOn}
+use Rattle.file_cmds.specs.lemmas.Reading.{failed_in_file_before, failed_in_file_since}
 use Rattle.volume_compare.specs.Contents.{volume_in}
 use Rattle.volume_compare.specs.Findings.{AreToldAloneUpTo, Compared, IsFindingAlone, IsToldAlone, Told, compared_in, first_bytes_of, second_bytes, second_bytes_of, told_at}
 use Rattle.volume_compare.specs.Progress.{IsOverBehind, IsProgress, IsToldBehind, TellsNext}
@@ -78,15 +78,15 @@ module _ (form : PlaceForm) (files : FileMeaning) (format : Meaning) (first seco
         earlier : (many : ℕ) (others : List (Option Told)) → AreToldAloneUpTo by_now many others → AreToldAloneUpTo in_all many others
         earlier many others are = record {
           long = are.long;
-          each = λ other low. wider_told_alone by_now (FailedBetween device device_now) (FailedBetween start after) (λ failed. failed)
-              (λ failed. failed_among start start now after (none_read start) more failed) other (told_at others other) (are.each other low);
+          each = λ other low. wider_told_alone by_now (FailedInFile format first device device_now) (FailedInFile format second start after) (λ file failed. failed)
+              (λ file failed. failed_in_file_before format second start now after file more failed) other (told_at others other) (are.each other low);
         }
 
         later : IsTrue start.honest → (other : ℕ) (next : Option Told) → IsToldAlone since_now other next → IsToldAlone in_all other next
         later honest other next is =
             subst (λ (store : List (List ℕ)). IsToldAlone (with_store store) other next) (ap (λ (device : DeviceState). device.store) (reads.kept honest))
-            (wider_told_alone since_now (FailedBetween device device_now) (FailedBetween start after) (λ failed. failed)
-            (λ failed. failed_among start now after after reads (none_read after) failed) other next is)
+            (wider_told_alone since_now (FailedInFile format first device device_now) (FailedInFile format second start after) (λ file failed. failed)
+            (λ file failed. failed_in_file_since format second start now after file honest reads failed) other next is)
 
     all_told : (next : Option Told) → told ++ (before.others ++ next ∷ []) ≡ (told ++ before.others) ++ next ∷ []
     all_told next = sym (append_assoc told before.others (next ∷ []))

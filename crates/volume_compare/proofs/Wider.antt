@@ -8,8 +8,8 @@ use Rattle.reserved_places.specs.declared.form.PlaceForm.{PlaceForm}
 use Rattle.vol_format.specs.Directory.{Directory}
 use Rattle.vol_format.specs.Meaning.{Meaning}
 use Rattle.file_formats.specs.Files.{FileMeaning}
-use Rattle.file_cmds.specs.ReadingOn.{FailedBetween, ReadsOn}
-use Rattle.file_cmds.specs.lemmas.Reading.{failed_among, none_read}
+use Rattle.file_cmds.specs.ReadingOn.{FailedInFile, ReadsOn}
+use Rattle.file_cmds.specs.lemmas.Reading.{failed_in_file_before, failed_in_file_since}
 use Rattle.volume_compare.specs.Contents.{IsUnread, SeenVolume, volume_in}
 use Rattle.volume_compare.specs.Findings.{AreToldAloneUpTo, AreToldUpTo, Compared, IsFinding, IsFindingAlone, IsTold, IsToldAlone, Told, compared_in, told_at}
 use Rattle.volume_compare.specs.declared.finding.Finding.{Finding}
@@ -17,22 +17,23 @@ use Rattle.volume_compare.specs.declared.finding.Finding.TheVariants.{Unreadable
 use Rattle.volume_compare.specs.declared.finding.Found.{Found}
 use Rattle.volume_compare.specs.declared.finding.Side.TheVariants.{First, Second}
 
-pub wider_unread : (volume : SeenVolume) (failed more : Type 0) (on : failed → more) (file : ℕ) → IsUnread volume failed file → IsUnread volume more file
-wider_unread volume failed more on file unread = ⊎_elim (λ fault. inl fault) (λ fails. inr (on fails)) unread
+pub wider_unread : (volume : SeenVolume) (failed more : ℕ → Type 0) (file : ℕ) (on : failed file → more file) → IsUnread volume failed file → IsUnread volume more file
+wider_unread volume failed more file on unread = ⊎_elim (λ fault. inl fault) (λ fails. inr (on fails)) unread
 
-module _ (compared : Compared) (first_more second_more : Type 0) (on_first : compared.first_failed → first_more) (on_second : compared.second_failed → second_more) where
+module _ (compared : Compared) (first_more second_more : ℕ → Type 0) (on_first : (file : ℕ) → compared.first_failed file → first_more file)
+    (on_second : (file : ℕ) → compared.second_failed file → second_more file) where
   abbrev wider : Compared
   wider = record compared { first_failed = first_more; second_failed = second_more }
 
   wider_finding : (file : ℕ) (found : Found) (finding : Finding) → IsFinding compared file found finding → IsFinding wider file found finding
   wider_finding file found (Unreadable First) is =
-      record { unread = wider_unread compared.first compared.first_failed first_more on_first file is.unread; bytes = is.bytes }
+      record { unread = wider_unread compared.first compared.first_failed first_more file (on_first file) is.unread; bytes = is.bytes }
   wider_finding file found (Unreadable Second) is = record {
     content = is.content;
     is_content = is.is_content;
     other = is.other;
     partners = is.partners;
-    unread = wider_unread compared.second compared.second_failed second_more on_second is.other is.unread;
+    unread = wider_unread compared.second compared.second_failed second_more is.other (on_second is.other) is.unread;
     bytes = is.bytes;
   }
   wider_finding file found (Only First) is = record { content = is.content; is_content = is.is_content; alone = is.alone; bytes = is.bytes }
@@ -47,7 +48,7 @@ module _ (compared : Compared) (first_more second_more : Type 0) (on_first : com
 
   wider_alone : (other : ℕ) (found : Found) (finding : Finding) → IsFindingAlone compared other found finding → IsFindingAlone wider other found finding
   wider_alone other found (Unreadable Second) is =
-      record { unread = wider_unread compared.second compared.second_failed second_more on_second other is.unread; bytes = is.bytes }
+      record { unread = wider_unread compared.second compared.second_failed second_more other (on_second other) is.unread; bytes = is.bytes }
   wider_alone other found (Unreadable First) is = absurd is
   wider_alone other found (Only Second) is = record { content = is.content; is_content = is.is_content; bytes = is.bytes }
   wider_alone other found (Only First) is = absurd is
@@ -97,28 +98,28 @@ module _ (form : PlaceForm) (files : FileMeaning) (format : Meaning) (first seco
   abbrev in_all : Compared
   in_all = compared_in form files format first second start after other other_after
 
-  on_early : FailedBetween start now → FailedBetween start after
-  on_early failed = failed_among start start now after (none_read start) more failed
+  abbrev first_in_all : ℕ → Type 0
+  first_in_all = FailedInFile format first start after
 
-  on_late : FailedBetween now after → FailedBetween start after
-  on_late failed = failed_among start now after after reads (none_read after) failed
+  abbrev second_in_all : ℕ → Type 0
+  second_in_all = FailedInFile format second other other_after
 
-  on_other_early : FailedBetween other other_now → FailedBetween other other_after
-  on_other_early failed = failed_among other other other_now other_after (none_read other) other_more failed
+  on_early : (file : ℕ) → FailedInFile format first start now file → FailedInFile format first start after file
+  on_early file failed = failed_in_file_before format first start now after file more failed
 
-  on_other_late : FailedBetween other_now other_after → FailedBetween other other_after
-  on_other_late failed = failed_among other other_now other_after other_after other_reads (none_read other_after) failed
+  on_other_early : (file : ℕ) → FailedInFile format second other other_now file → FailedInFile format second other other_after file
+  on_other_early file failed = failed_in_file_before format second other other_now other_after file other_more failed
 
   pub early_told : (many : ℕ) (told : List (Option Told)) → AreToldUpTo by_now many told → AreToldUpTo in_all many told
   early_told many told are = record {
     long = are.long;
-    each = λ file low. wider_told by_now (FailedBetween start after) (FailedBetween other other_after) on_early on_other_early file (told_at told file) (are.each file low);
+    each = λ file low. wider_told by_now first_in_all second_in_all on_early on_other_early file (told_at told file) (are.each file low);
   }
 
   pub early_told_alone : (many : ℕ) (told : List (Option Told)) → AreToldAloneUpTo by_now many told → AreToldAloneUpTo in_all many told
   early_told_alone many told are = record {
     long = are.long;
-    each = λ file low. wider_told_alone by_now (FailedBetween start after) (FailedBetween other other_after) on_early on_other_early file (told_at told file) (are.each file low);
+    each = λ file low. wider_told_alone by_now first_in_all second_in_all on_early on_other_early file (told_at told file) (are.each file low);
   }
 
   module _ (honest : IsTrue start.honest) (other_honest : IsTrue other.honest) where
@@ -127,9 +128,15 @@ module _ (form : PlaceForm) (files : FileMeaning) (format : Meaning) (first seco
     with_stores store other_store = record {
       first = volume_in form files format first store;
       second = volume_in form files format second other_store;
-      first_failed = FailedBetween start after;
-      second_failed = FailedBetween other other_after;
+      first_failed = first_in_all;
+      second_failed = second_in_all;
     }
+
+    on_late : (file : ℕ) → FailedInFile format first now after file → FailedInFile format first start after file
+    on_late file failed = failed_in_file_since format first start now after file honest reads failed
+
+    on_other_late : (file : ℕ) → FailedInFile format second other_now other_after file → FailedInFile format second other other_after file
+    on_other_late file failed = failed_in_file_since format second other other_now other_after file other_honest other_reads failed
 
     same_store : now.store ≡ start.store
     same_store = ap (λ (device : DeviceState). device.store) (reads.kept honest)
@@ -141,10 +148,10 @@ module _ (form : PlaceForm) (files : FileMeaning) (format : Meaning) (first seco
     late_told file told is =
         subst (λ (store : List (List ℕ)). IsTold (with_stores store other.store) file told) same_store
         (subst (λ (store : List (List ℕ)). IsTold (with_stores now.store store) file told) same_other
-        (wider_told since_now (FailedBetween start after) (FailedBetween other other_after) on_late on_other_late file told is))
+        (wider_told since_now first_in_all second_in_all on_late on_other_late file told is))
 
     pub late_told_alone : (file : ℕ) (told : Option Told) → IsToldAlone since_now file told → IsToldAlone in_all file told
     late_told_alone file told is =
         subst (λ (store : List (List ℕ)). IsToldAlone (with_stores store other.store) file told) same_store
         (subst (λ (store : List (List ℕ)). IsToldAlone (with_stores now.store store) file told) same_other
-        (wider_told_alone since_now (FailedBetween start after) (FailedBetween other other_after) on_late on_other_late file told is))
+        (wider_told_alone since_now first_in_all second_in_all on_late on_other_late file told is))

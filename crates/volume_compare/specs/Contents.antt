@@ -61,12 +61,12 @@ pub record IsContent (volume : SeenVolume) (file : ℕ) (content : FileContent) 
   pub is_whole : IsWholeTextOf volume.meaning volume.directory volume.store file whole
   pub is : content ≡ content_by volume.form volume.files (entry_of volume.directory file) whole
 
--- The file has a fault of its own, or a unit of it could not be read, which `failed` says.
-abbrev pub IsUnread : SeenVolume → Type 0 → ℕ → Type 0
-IsUnread volume failed file = OwnFault volume.meaning volume.directory volume.store file ⊎ failed
+-- The file has a fault of its own, or a unit of it could not be read, which `failed` says of each file.
+abbrev pub IsUnread : SeenVolume → (ℕ → Type 0) → ℕ → Type 0
+IsUnread volume failed file = OwnFault volume.meaning volume.directory volume.store file ⊎ failed file
 
 -- what was read of it
-abbrev pub IsRead : SeenVolume → Type 0 → ℕ → Option Content → Type 0
+abbrev pub IsRead : SeenVolume → (ℕ → Type 0) → ℕ → Option Content → Type 0
 IsRead volume failed file (Some content) = IsContent volume file (content_view content)
 IsRead volume failed file None = IsUnread volume failed file
 

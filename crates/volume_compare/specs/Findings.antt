@@ -5,7 +5,7 @@ use Rattle.reserved_places.specs.declared.form.PlaceForm.{PlaceForm}
 use Rattle.vol_format.specs.Directory.{Directory}
 use Rattle.vol_format.specs.Meaning.{Meaning}
 use Rattle.file_formats.specs.Files.{FileMeaning}
-use Rattle.file_cmds.specs.ReadingOn.{FailedBetween}
+use Rattle.file_cmds.specs.ReadingOn.{FailedInFile}
 use Rattle.volume_compare.specs.Contents.{FileContent, IsContent, IsJudged, IsUnread, SeenVolume, volume_in}
 use Rattle.volume_compare.specs.Pairs.{IsPartner, path_at, paths_of}
 use Rattle.volume_compare.specs.declared.finding.Finding.{Finding}
@@ -13,12 +13,12 @@ use Rattle.volume_compare.specs.declared.finding.Finding.TheVariants.{Unreadable
 use Rattle.volume_compare.specs.declared.finding.Found.{Found}
 use Rattle.volume_compare.specs.declared.finding.Side.TheVariants.{First, Second}
 
--- Two volumes that are compared, and that a read of each has failed.
+-- Two volumes that are compared, and of which files of each the read of a unit has failed.
 pub record Compared : Type 1 where
   pub first : SeenVolume
   pub second : SeenVolume
-  pub first_failed : Type 0
-  pub second_failed : Type 0
+  pub first_failed : ℕ → Type 0
+  pub second_failed : ℕ → Type 0
 
 -- the paths of the files of a volume
 abbrev pub paths_in : SeenVolume → List (Option (List ℕ))
@@ -148,6 +148,6 @@ abbrev pub compared_in : PlaceForm → FileMeaning → Meaning → Directory →
 compared_in form files meaning first second device device_now other other_now = record {
   first = volume_in form files meaning first device.store;
   second = volume_in form files meaning second other.store;
-  first_failed = FailedBetween device device_now;
-  second_failed = FailedBetween other other_now;
+  first_failed = FailedInFile meaning first device device_now;
+  second_failed = FailedInFile meaning second other other_now;
 }

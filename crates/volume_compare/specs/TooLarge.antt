@@ -10,22 +10,22 @@ use Rattle.volume_compare.specs.declared.finding.Side.{Side}
 use Rattle.volume_compare.specs.declared.finding.Side.TheVariants.{First, Second}
 
 -- how many bytes the text of a file has: none where it can't be read, and of a directory
-abbrev pub IsCount : SeenVolume → Type 0 → ℕ → ℕ → Type 0
+abbrev pub IsCount : SeenVolume → (ℕ → Type 0) → ℕ → ℕ → Type 0
 IsCount volume failed file count =
     ((count ≡ 0) × ((path_at (paths_in volume) file ≡ None) ⊎ IsUnread volume failed file))
     ⊎ ((content : FileContent) × IsContent volume file content × (count ≡ length content.text))
 
 -- those of the files of the first entries
-pub record AreCounts (volume : SeenVolume) (failed : Type 0) (counts : List ℕ) : Type 0 where
+pub record AreCounts (volume : SeenVolume) (failed : ℕ → Type 0) (counts : List ℕ) : Type 0 where
   pub within : length counts ≤ entries volume.directory
   pub each : (file : ℕ) → file < length counts → IsCount volume failed file (slice_index counts file)
 
 -- the files of the first entries have more bytes than they may
-abbrev pub HasTooMany : SeenVolume → Type 0 → ℕ → Type 0
+abbrev pub HasTooMany : SeenVolume → (ℕ → Type 0) → ℕ → Type 0
 HasTooMany volume failed most = (counts : List ℕ) × AreCounts volume failed counts × (most < sum counts)
 
 -- those of all entries have no more
-abbrev pub HasFew : SeenVolume → Type 0 → ℕ → Type 0
+abbrev pub HasFew : SeenVolume → (ℕ → Type 0) → ℕ → Type 0
 HasFew volume failed most =
     (counts : List ℕ) × AreCounts volume failed counts × (length counts ≡ entries volume.directory) × (sum counts ≤ most)
 
@@ -51,19 +51,19 @@ IsTooLarge compared most (Device side) = ⊥
 -- ---- how far they are counted
 
 -- those of the first entries, of whose bytes the rest may be read yet
-pub record IsCountedTo (volume : SeenVolume) (failed : Type 0) (most many left : ℕ) : Type 0 where
+pub record IsCountedTo (volume : SeenVolume) (failed : ℕ → Type 0) (most many left : ℕ) : Type 0 where
   pub counts : List ℕ
   pub long : length counts ≡ many
   pub are_counts : AreCounts volume failed counts
   pub rest : left + sum counts ≡ most
 
 -- whether the first volume has too many bytes
-abbrev pub IsLarger : SeenVolume → Type 0 → ℕ → Side → Type 0
+abbrev pub IsLarger : SeenVolume → (ℕ → Type 0) → ℕ → Side → Type 0
 IsLarger volume failed most First = HasTooMany volume failed most
 IsLarger volume failed most Second = HasFew volume failed most
 
 -- what is told where the second has too many
-abbrev pub IsLargerBy : SeenVolume → Type 0 → ℕ → CompareError → Type 0
+abbrev pub IsLargerBy : SeenVolume → (ℕ → Type 0) → ℕ → CompareError → Type 0
 IsLargerBy volume failed most (TooLarge side) = IsLarger volume failed most side
 IsLargerBy volume failed most Memory = Unit {0}
 IsLargerBy volume failed most (Check side) = ⊥

@@ -1,11 +1,19 @@
 // What is compared of a file.
 ghost use Rattle.std.specs.Prelude.{◌≡◌, ◌<◌, IfOk, IsTrue, length};
 ghost use Rattle.file_cmds.specs.EachFile.{AreFilesOf};
-ghost use Rattle.file_cmds.specs.ReadingOn.{FailedBetween, ReadsOn};
+ghost use Rattle.file_cmds.specs.ReadingOn.{FailedInFile, ReadsOn};
 ghost use Rattle.file_cmds.specs.Text.{IsWholeTextOf};
 ghost use Rattle.vol_format.specs.Directory.{entries, entry_of};
 ghost use Rattle.vol_format.specs.Fits.{Fits};
-ghost use Rattle.volume_compare.specs.Contents.{IsJudged, IsRead, content_by, content_view, head_of, volume_in};
+ghost use Rattle.volume_compare.specs.Contents.{
+  IsJudged,
+  IsRead,
+  content_by,
+  content_view,
+  head_of,
+  is_binary,
+  volume_in,
+};
 
 use crate::finding::Finding;
 use a2_device::Device;
@@ -15,7 +23,7 @@ use pro_dir::ProDate;
 use reserved_places::PlaceForm;
 use std::alloc::{AllocError, Global};
 
-/// The kind of a binary file of DOS 3.3, which begins with its address.
+/// The kind of a binary file of DOS 3.3.
 const BINARY: u8 = 0x04;
 
 /// What is compared of a file beside its text.
@@ -48,11 +56,17 @@ impl Content {
     }
 }
 
+/// Whether an entry is that of a binary file of DOS 3.3, which begins with its address.
+pub fn is_binary(form: PlaceForm, entry: &ListEntry) -> bool
+    ensures { result ≡ is_binary form entry.now }
+{
+    form == PlaceForm::Sector && entry.kind == BINARY
+}
+
 // What is compared beside the text of a file with this whole text.
 fn head_of(form: PlaceForm, entry: &ListEntry, whole: &[u8]) -> Head
     ensures { result ≡ head_of form entry.now whole.now }
 {
-    let is_binary = form == PlaceForm::Sector && entry.kind == BINARY;
     Head {
         locked: entry.locked,
         kind: entry.kind,
@@ -61,7 +75,7 @@ fn head_of(form: PlaceForm, entry: &ListEntry, whole: &[u8]) -> Head
         eof: entry.eof,
         created: entry.created,
         modified: entry.modified,
-        address: if is_binary {
+        address: if is_binary(form, entry) {
             Some(address_of(whole))
         } else {
             None
@@ -112,7 +126,8 @@ pub fn content_of<D: Device, F: FileFormat>(
         (D.state device.new) files.new }
     ensures content { IsTrue (D.state device.old).honest → IfOk result (IsRead
         (volume_in form (F.files format.now) (F.meaning format.now) (F.directory format.now volume.now)
-        (D.state device.old).store) (FailedBetween (D.state device.old) (D.state device.new)) file) }
+        (D.state device.old).store) (FailedInFile (F.meaning format.now) (F.directory format.now volume.now)
+        (D.state device.old) (D.state device.new)) file) }
 {
     let text = files.text(alloc, device, format, volume, file)?;
     match text {

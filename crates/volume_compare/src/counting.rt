@@ -2,7 +2,7 @@
 ghost use Rattle.std.specs.Prelude.{◌≡◌, ◌≢◌, ◌<◌, ◌≤◌, ℕ, IfOk, IsTrue};
 ghost use Rattle.a2_device.specs.Device.{DeviceState};
 ghost use Rattle.file_cmds.specs.EachFile.{AreFilesOf};
-ghost use Rattle.file_cmds.specs.ReadingOn.{FailedBetween, ReadsOn};
+ghost use Rattle.file_cmds.specs.ReadingOn.{FailedInFile, ReadsOn};
 ghost use Rattle.vol_format.specs.Directory.{entries};
 ghost use Rattle.vol_format.specs.Fits.{Fits};
 ghost use Rattle.volume_compare.specs.Contents.{volume_in};
@@ -40,7 +40,8 @@ fn bytes_of<D: Device, F: FileFormat>(
     ensures count { IsTrue (D.state first.old).honest → IfOk result (IsCount
         (volume_in volumes.now.form (F.files volumes.now.format.now) (F.meaning volumes.now.format.now)
         (F.directory volumes.now.format.now volumes.now.first) (D.state first.old).store)
-        (FailedBetween (D.state first.old) (D.state first.new)) file) }
+        (FailedInFile (F.meaning volumes.now.format.now) (F.directory volumes.now.format.now volumes.now.first)
+        (D.state first.old) (D.state first.new)) file) }
 {
     let (format, form) = (volumes.format, volumes.form);
     if matches!(format.root(&volumes.first, file), Link::Directory) {
@@ -75,11 +76,13 @@ fn too_large<D: Device, F: FileFormat>(
     ensures side { (start : DeviceState) (most : ℕ) → IsTrue start.honest → ReadsOn start (D.state first.old)
         → IsCountedTo (volume_in volumes.now.form (F.files volumes.now.format.now) (F.meaning volumes.now.format.now)
         (F.directory volumes.now.format.now volumes.now.first) start.store)
-        (FailedBetween start (D.state first.old)) most from left
+        (FailedInFile (F.meaning volumes.now.format.now) (F.directory volumes.now.format.now volumes.now.first)
+        start (D.state first.old)) most from left
         → IfOk result (IsLarger
         (volume_in volumes.now.form (F.files volumes.now.format.now) (F.meaning volumes.now.format.now)
         (F.directory volumes.now.format.now volumes.now.first) start.store)
-        (FailedBetween start (D.state first.new)) most) }
+        (FailedInFile (F.meaning volumes.now.format.now) (F.directory volumes.now.format.now volumes.now.first)
+        start (D.state first.new)) most) }
 {
     let mut rest = left;
     for file in from..volumes.format.entries(&volumes.first) {
@@ -116,11 +119,13 @@ pub fn refusal_of<D: Device, F: FileFormat>(
     ensures side { (start : DeviceState) (most : ℕ) → IsTrue start.honest → ReadsOn start (D.state first.old)
         → IsCountedTo (volume_in volumes.now.form (F.files volumes.now.format.now) (F.meaning volumes.now.format.now)
         (F.directory volumes.now.format.now volumes.now.first) start.store)
-        (FailedBetween start (D.state first.old)) most from left
+        (FailedInFile (F.meaning volumes.now.format.now) (F.directory volumes.now.format.now volumes.now.first)
+        start (D.state first.old)) most from left
         → error ≡ TooLarge Second → IsLargerBy
         (volume_in volumes.now.form (F.files volumes.now.format.now) (F.meaning volumes.now.format.now)
         (F.directory volumes.now.format.now volumes.now.first) start.store)
-        (FailedBetween start (D.state first.new)) most result }
+        (FailedInFile (F.meaning volumes.now.format.now) (F.directory volumes.now.format.now volumes.now.first)
+        start (D.state first.new)) most result }
 {
     if error != CompareError::TooLarge(Side::Second) {
         return error;

@@ -2,7 +2,11 @@
 use Rattle.std.specs.Prelude.{◌≡◌, ◌≤◌, ◌==◌, ℕ, ◌+◌, Bool, true, false, if◌then◌else◌, Contains, IsTrue, Option, Some}
 use Rattle.std.proofs.Common.{refl, sym, ◌∙◌, ap, subst, arith, ⊎_elim}
 use Rattle.a2_device.specs.Device.{DeviceState, FailsRead, IsSameDevice, OnlyReads, UsesRead, counted, last_count}
-use Rattle.file_cmds.specs.ReadingOn.{FailedAt, FailedBetween, ReadsOn}
+use Rattle.vol_format.specs.Directory.{Directory}
+use Rattle.vol_format.specs.Meaning.{Meaning}
+use Rattle.vol_format.specs.Reach.{Reach}
+use Rattle.vol_check.specs.Failures.{FailsInFile}
+use Rattle.file_cmds.specs.ReadingOn.{FailedAt, FailedBetween, FailedInFile, ReadsOn}
 
 pub none_read : (device : DeviceState) → ReadsOn device device
 none_read device = record {
@@ -104,3 +108,30 @@ failed_at_among place first before after last reads later failed = record {
 pub failed_among : (first before after last : DeviceState) → ReadsOn first before → ReadsOn after last → FailedBetween before after → FailedBetween first last
 failed_among first before after last reads later failed =
     (failed.0, failed_at_among failed.0 first before after last reads later failed.1)
+
+-- the same of a unit of a file
+pub once_failed_in_file : (format : Meaning) (directory : Directory) (old new : DeviceState) (file : ℕ) → FailsInFile format directory old new file
+    → FailedInFile format directory old new file
+once_failed_in_file format directory old new file fails = record {
+  part = fails.part;
+  reached = fails.reached;
+  in_file = fails.in_file;
+  failed = failed_at old new fails.part.place fails.failed;
+}
+
+module _ (format : Meaning) (directory : Directory) (first now last : DeviceState) (file : ℕ) where
+  pub failed_in_file_before : ReadsOn now last → FailedInFile format directory first now file → FailedInFile format directory first last file
+  failed_in_file_before later failed = record {
+    part = failed.part;
+    reached = failed.reached;
+    in_file = failed.in_file;
+    failed = failed_at_among failed.part.place first first now last (none_read first) later failed.failed;
+  }
+
+  pub failed_in_file_since : IsTrue first.honest → ReadsOn first now → FailedInFile format directory now last file → FailedInFile format directory first last file
+  failed_in_file_since honest reads failed = record {
+    part = failed.part;
+    reached = subst (λ (device : DeviceState). Reach format directory device.store failed.part) (reads.kept honest) failed.reached;
+    in_file = failed.in_file;
+    failed = failed_at_among failed.part.place first now last last reads (none_read last) failed.failed;
+  }

@@ -1,9 +1,10 @@
-use Rattle.std.proofs.Common.{◌∙◌, arith, refl, sym, subst, List}
-use Rattle.a2_device.specs.declared.part.Part.{Part}
+use Rattle.std.proofs.Common.{◌∙◌, arith, refl, sym, subst}
+use Rattle.std.specs.Prelude.{IsTrue}
+use Rattle.a2_device.specs.Stop.{is_stop_of_device}
+use Rattle.a2_device.specs.declared.stop.Stop.{Stop}
 use Rattle.vol_check.specs.FileWalker.{faults_of, parts_of}
 use Rattle.file_cmds.specs.FileParts.{IsPartsAlone}
-use Rattle.file_cmds.proofs.OwnParts.{refused_for}
-use Rattle.file_cmds.proofs.Whole.{parts_alone}
+use Rattle.file_cmds.proofs.OwnParts.{fails_alone, parts_alone, refused_for}
 use Rattle.file_cmds.specs.lemmas.FileAlone.{entries-alone, root_of-other}
 use Rattle.file_cmds.proofs.file_parts.walked_parts.Goals as goal
 
@@ -37,3 +38,10 @@ returns-in-Ok-false-clause-parts g c = λ honest.
     (g.F.Format.directory c.args.format.now c.args.volume.now) (g.met.F.Format.rooted c.args.format.now c.args.volume.now) c.args.file
     (g.D.Device.state c.args.device.now).store (subst format.Takes (sym all) c.requires.fits.places) (all ∙ sym c.requires.places)
     (faults_of c.walk.new.self) (c.in-Ok-false.ensures.refused honest c.in-Ok-false.field-0-test)
+
+pub returns-in-Err-Device-clause-failed : goal.returns-in-Err-Device-clause-failed
+returns-in-Err-Device-clause-failed g c = λ honest failed.
+    fails_alone (g.F.Format.meaning c.args.format.now) (g.met.F.Format.readable c.args.format.now)
+    (g.F.Format.directory c.args.format.now c.args.volume.now) (g.met.F.Format.rooted c.args.format.now c.args.volume.now) c.args.file
+    (g.D.Device.state c.args.device.now) (g.D.Device.state c.walk.new.device)
+    (c.in-Err-Device.ensures.failed honest (subst (λ (stop : Stop). IsTrue (is_stop_of_device stop)) (sym c.in-Err-Device.field-0-is) refl))

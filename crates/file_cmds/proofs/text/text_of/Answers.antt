@@ -4,7 +4,7 @@ use Rattle.std.proofs.lemmas.Grind.{common_steps}
 use Rattle.a2_device.specs.Device.{OnlyReads}
 use Rattle.a2_device.specs.Reading.{then_reads}
 use Rattle.a2_device.specs.Stop.{is_device_stop, same_stop}
-use Rattle.file_cmds.proofs.Texts.{part_read}
+use Rattle.file_cmds.proofs.Texts.{part_fails, part_read}
 use Rattle.file_cmds.proofs.text.text_of.Goals as goal
 
 pub returns-in_err-next-clause-device : goal.returns-in_err-next-clause-device
@@ -31,3 +31,13 @@ loop-part-preserved g c =
           (so_far.device.kept honest refl) c.loop-part-test.true (so_far.text honest) c.in_ok-next.ensures.next
           (c.in_ok-next.ensures.text (subst IsTrue (sym so_far.device.same.honest) honest));
     }
+
+pub returns-in_err-next-clause-failed : goal.returns-in_err-next-clause-failed
+returns-in_err-next-clause-failed g c = λ honest failed.
+    let start = g.D.Device.state c.args.device.now in
+    let mid = g.D.Device.state c.loop-part.device in
+    let so_far = c.loop-part.invariant in
+    let last = same_stop c.from_residual-in_err-next.result c.in_err-next.field-0.0 c.from_residual-in_err-next.ensures.1 in
+    part_fails start mid (g.D.Device.state c.add_part.new.device) c.args.parts.now c.loop-part.part-index _
+    (so_far.device.kept honest refl) c.loop-part-test.true
+    (c.in_err-next.ensures.failed (subst IsTrue (sym so_far.device.same.honest) honest) (subst IsTrue last failed))

@@ -1,11 +1,12 @@
 use Rattle.std.proofs.Common.{ap, inl, inr, refl, subst, sym}
 use Rattle.std.specs.Prelude.{Err, IsTrue}
 use Rattle.a2_device.specs.Device.{DeviceState}
-use Rattle.file_cmds.specs.ReadingOn.{FailedBetween}
+use Rattle.file_cmds.specs.ReadingOn.{FailedInFile}
 use Rattle.file_listings.specs.Known.{facts_in}
 use Rattle.vol_format.specs.Directory.{entries}
 use Rattle.shop_replies.specs.declared.reply.Reply.{Reply}
-use Rattle.shop_reads.specs.EntriesReply.{AreFactsUpTo, IsEntriesTold, ReadTooMuch, volume_in}
+use Rattle.volume_compare.specs.Contents.{volume_in}
+use Rattle.shop_reads.specs.EntriesReply.{AreFactsUpTo, IsEntriesTold, ReadTooMuch}
 use Rattle.shop_reads.specs.GoingOn.{FailsForLackBy, ReadsBy, list_going}
 use Rattle.shop_reads.proofs.ListGoing.{lacks_too_much, lacks_up_to, list_read, list_refused, refused_for_lack}
 use Rattle.shop_reads.proofs.Readings.{not_told}
@@ -49,14 +50,14 @@ returns-in-Ok-known_of-clause-told g c = λ honest lack.
     let directory = g.F.Format.directory c.args.format.now c.in-Ok.volume in
     let facts = facts_in c.in-Ok-known_of.known.files in
     let read = c.in-Ok.ensures.device in
-    let are : AreFactsUpTo (volume_in form files meaning old.store directory) c.args.options (FailedBetween old new) (entries directory) facts =
-    subst (λ (d : DeviceState). AreFactsUpTo (volume_in form files meaning d.store directory) c.args.options (FailedBetween d new) (entries directory) facts)
+    let are : AreFactsUpTo (volume_in form files meaning directory old.store) c.args.options (FailedInFile meaning directory old new) (entries directory) facts =
+    subst (λ (d : DeviceState). AreFactsUpTo (volume_in form files meaning directory d.store) c.args.options (FailedInFile meaning directory d new) (entries directory) facts)
     (read.kept honest refl) (c.in-Ok-known_of.ensures.facts (subst IsTrue (sym read.same.honest) honest)) in
     inl (record {
       directory = directory;
       described = c.in-Ok.ensures.described honest;
       facts = facts;
-      are = lacks_up_to (volume_in form files meaning old.store directory) c.args.options c.known_reply.result old new lack (entries directory) facts are;
+      are = lacks_up_to (volume_in form files meaning directory old.store) c.args.options c.known_reply.result old new honest lack (entries directory) facts are;
       few = c.in-Ok-known_of.ensures.few;
       complete = c.in-Ok-known_of.known.complete;
       ended = c.in-Ok-known_of.ensures.complete;
@@ -72,14 +73,14 @@ returns-in-Err-TooLarge-clause-told g c = λ honest lack.
     let meaning = g.F.Format.meaning c.args.format.now in
     let directory = g.F.Format.directory c.args.format.now c.in-Ok.volume in
     let read = c.in-Ok.ensures.device in
-    let much : ReadTooMuch (volume_in form files meaning old.store directory) c.args.options (FailedBetween old new) =
-    subst (λ (d : DeviceState). ReadTooMuch (volume_in form files meaning d.store directory) c.args.options (FailedBetween d new))
+    let much : ReadTooMuch (volume_in form files meaning directory old.store) c.args.options (FailedInFile meaning directory old new) =
+    subst (λ (d : DeviceState). ReadTooMuch (volume_in form files meaning directory d.store) c.args.options (FailedInFile meaning directory d new))
     (read.kept honest refl) (c.in-Err-TooLarge.ensures.many (subst IsTrue (sym read.same.honest) honest) (ap Err c.in-Err-TooLarge.field-0-is)) in
     inr (inr (inl (
       c.refused.ensures,
       record {
         directory = directory;
         described = c.in-Ok.ensures.described honest;
-        read = lacks_too_much (volume_in form files meaning old.store directory) c.args.options c.refused.result old new lack much;
+        read = lacks_too_much (volume_in form files meaning directory old.store) c.args.options c.refused.result old new honest lack much;
       },
     )))

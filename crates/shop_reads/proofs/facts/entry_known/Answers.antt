@@ -1,9 +1,10 @@
 use Rattle.std.proofs.Common.{◌≡◌, ap, List, ℕ, subst, sym}
 use Rattle.std.specs.Prelude.{IsTrue}
 use Rattle.a2_device.specs.Device.{DeviceState}
-use Rattle.file_cmds.specs.ReadingOn.{FailedBetween}
-use Rattle.file_cmds.specs.lemmas.Reading.{failed_among, none_read}
-use Rattle.shop_reads.specs.EntriesReply.{PartsAre, parts_found, volume_in, wants_places}
+use Rattle.file_cmds.specs.ReadingOn.{FailedInFile}
+use Rattle.file_cmds.specs.lemmas.Reading.{failed_in_file_before, failed_in_file_since}
+use Rattle.volume_compare.specs.Contents.{volume_in}
+use Rattle.shop_reads.specs.EntriesReply.{PartsAre, parts_found, wants_places}
 use Rattle.shop_reads.proofs.FirstFiles.{together}
 use Rattle.shop_reads.proofs.facts.entry_known.Goals as goal
 
@@ -21,8 +22,10 @@ returns-clause-known g c = λ honest.
     let wants = wants_places c.args.options in
     let found = parts_found wants c.in_ok-parts.parts in
     let same : mid.store ≡ old.store = ap (λ (device : DeviceState). device.store) (first.reads.kept honest) in
-    together (volume_in form files meaning old.store directory) c.args.options c.args.file (FailedBetween old mid) (FailedBetween mid new) (FailedBetween old new)
-    (failed_among old old mid new (none_read old) second.reads) (failed_among old mid new new first.reads (none_read new)) c.in_ok-facts.facts found
+    together (volume_in form files meaning directory old.store) c.args.options c.args.file (FailedInFile meaning directory old mid)
+    (FailedInFile meaning directory mid new) (FailedInFile meaning directory old new)
+    (failed_in_file_before meaning directory old mid new c.args.file second.reads)
+    (failed_in_file_since meaning directory old mid new c.args.file honest first.reads) c.in_ok-facts.facts found
     (first.facts honest)
-    (subst (λ (store : List (List ℕ)). PartsAre wants (volume_in form files meaning store directory) (FailedBetween mid new) c.args.file found) same
+    (subst (λ (store : List (List ℕ)). PartsAre wants (volume_in form files meaning directory store) (FailedInFile meaning directory mid new) c.args.file found) same
     (second.parts (subst IsTrue (sym first.reads.same.honest) honest)))

@@ -1,11 +1,12 @@
 use Rattle.std.proofs.Common.{◌≡◌, ◌<◌, ◌+◌, ◌++◌, ◌∷◌, [], ◌∙◌, ℕ, ap, arith, length, subst, sym, List}
 use Rattle.std.specs.Prelude.{Bool, IsTrue, not, ◌&&◌}
 use Rattle.std.proofs.lemmas.List.{length-append}
-use Rattle.file_cmds.specs.ReadingOn.{FailedBetween}
+use Rattle.file_cmds.specs.ReadingOn.{FailedInFile}
 use Rattle.file_cmds.specs.lemmas.Reading.{read_twice}
 use Rattle.vol_format.specs.Directory.{entries}
 use Rattle.file_listings.specs.Known.{FileFacts, facts_in, facts_with}
-use Rattle.shop_reads.specs.EntriesReply.{AreFactsUpTo, IsCompleteUpTo, bytes_read, bytes_told, parts_found, volume_in, wants_places}
+use Rattle.volume_compare.specs.Contents.{volume_in}
+use Rattle.shop_reads.specs.EntriesReply.{AreFactsUpTo, IsCompleteUpTo, bytes_read, bytes_told, parts_found, wants_places}
 use Rattle.shop_reads.proofs.FirstFiles.{bytes_more, more_complete, step_known, too_much}
 use Rattle.shop_reads.proofs.known.read_known.Goals as goal
 
@@ -25,7 +26,7 @@ returns-in_default-clause-many g c = λ honest is.
     let known : FileFacts = facts_with read.facts (parts_found (wants_places c.args.options) read.parts) in
     let size : c.unit-unit.result ≡ meaning.unit_size = c.unit-unit.ensures ∙ c.in_ok-files.ensures.reads.same.unit_size ∙ c.requires.fits.unit in
     let over : c.loop-file.left < bytes_told meaning.unit_size known = subst (λ n. c.loop-file.left < bytes_told n known) size c.in_default.ensures.none in
-    too_much (volume_in form files meaning start.store directory) c.args.options (FailedBetween start after) c.loop-file.file c.loop-file.left facts
+    too_much (volume_in form files meaning directory start.store) c.args.options (FailedInFile meaning directory start after) c.loop-file.file c.loop-file.left facts
     known before.many before.left over
     (step_known form files meaning directory c.args.options start now after c.loop-file.file facts known honest before.reads
     c.in_ok-read.ensures.reads before.many low (before.facts honest)
@@ -50,7 +51,7 @@ loop-file-preserved g c =
     record {
       reads = read_twice start now after before.reads c.in_ok-read.ensures.reads;
       facts = λ honest.
-          subst (λ (all : List FileFacts). AreFactsUpTo (volume_in form files meaning start.store directory) c.args.options (FailedBetween start after) (c.loop-file.file + 1) all)
+          subst (λ (all : List FileFacts). AreFactsUpTo (volume_in form files meaning directory start.store) c.args.options (FailedInFile meaning directory start after) (c.loop-file.file + 1) all)
           (sym more)
           (step_known form files meaning directory c.args.options start now after c.loop-file.file facts known honest before.reads
           c.in_ok-read.ensures.reads before.many low (before.facts honest)

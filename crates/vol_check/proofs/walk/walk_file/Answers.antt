@@ -2,7 +2,9 @@ use Rattle.std.proofs.Common.{◌≡◌, ◌<◌, ◌+◌, ◌++◌, [], ◌∷�
 use Rattle.std.specs.Prelude.{IsTrue}
 use Rattle.a2_device.specs.Device.{DeviceState}
 use Rattle.a2_device.specs.Reading.{unread, then_reads}
+use Rattle.a2_device.specs.Stop.{same_stop}
 use Rattle.vol_check.specs.Walk.{lists, IsSound, after_next, next_unit}
+use Rattle.vol_check.proofs.Failing.{fails_in_file}
 use Rattle.vol_check.proofs.FileFaults.{begins_telling, goes_on_telling}
 use Rattle.vol_check.proofs.Files.{root_sound, root_walking, next_walking}
 use Rattle.vol_check.proofs.Marks.{marks_then}
@@ -87,3 +89,13 @@ loop-next-preserved g c =
 pub returns-in_err-go_on-clause-marks : goal.returns-in_err-go_on-clause-marks
 returns-in_err-go_on-clause-marks g c =
     marks_then (lists c.args.walk.now) (lists c.loop-next.walk) (lists c.go_on.new.walk) c.loop-next.invariant.marks c.go_on.ensures.marks
+
+pub returns-in_err-go_on-clause-failed : goal.returns-in_err-go_on-clause-failed
+returns-in_err-go_on-clause-failed g c = λ honest failed.
+    let before = c.loop-next.invariant in
+    let still = subst IsTrue (sym before.device.same.honest) honest in
+    let last = same_stop c.from_residual-in_err-go_on.result c.in_err-go_on.field-0.0 c.from_residual-in_err-go_on.ensures.1 in
+    fails_in_file (g.F.Format.meaning c.args.format.now) (g.F.Format.directory c.args.format.now c.args.volume.now) c.args.file
+    (g.D.Device.state c.args.device.now) (g.D.Device.state c.loop-next.device) (g.D.Device.state c.go_on.new.device)
+    (lists c.loop-next.walk) c.pop.new.self.items c.in-Some.next (before.device.kept honest refl) (before.walking honest) c.in-Some.ensures.items
+    (c.in_err-go_on.ensures.failed still (subst IsTrue last failed))

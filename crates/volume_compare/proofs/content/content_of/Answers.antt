@@ -1,10 +1,9 @@
-use Rattle.std.proofs.Common.{subst, ⊎_elim, inl, inr}
-use Rattle.std.specs.Prelude.{Ok}
+use Rattle.std.proofs.Common.{refl, subst, sym, ⊎_elim, inl, inr}
+use Rattle.std.specs.Prelude.{IsTrue, Ok}
 use Rattle.std.specs.declared.alloc.AllocError.{AllocError}
-use Rattle.a2_device.specs.Device.{OnlyReads}
 use Rattle.file_cmds.specs.FileText.{IsFileText, has_failed}
 use Rattle.file_cmds.specs.declared.file_texts.FileText.{FileText}
-use Rattle.file_cmds.specs.lemmas.Reading.{one_failed, one_reading}
+use Rattle.file_cmds.specs.lemmas.Reading.{once_failed_in_file, one_reading}
 use Rattle.volume_compare.proofs.content.content_of.Goals as goal
 
 pub returns-in-Faulty : goal.returns-in-Faulty
@@ -19,7 +18,7 @@ returns-in-Faulty g c =
       content = λ honest.
           ⊎_elim
           (λ faulty. inl (subst (λ (text : FileText _). IsFileText meaning directory old.store c.args.file text) faulty (c.in_ok-text.ensures.text honest)))
-          (λ failed. inr (one_failed old new honest
-          (subst (λ (text : FileText _). OnlyReads (has_failed {E = AllocError} (Ok text)) old new) failed c.in_ok-text.ensures.device)))
+          (λ failed. inr (once_failed_in_file meaning directory old new c.args.file
+          (c.in_ok-text.ensures.failed honest (subst (λ (text : FileText _). IsTrue (has_failed {E = AllocError} (Ok text))) (sym failed) refl))))
           c.in-Faulty.is;
     }

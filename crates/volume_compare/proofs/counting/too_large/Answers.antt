@@ -1,5 +1,5 @@
 use Rattle.std.proofs.Common.{◌≡◌, ◌<◌, arith}
-use Rattle.file_cmds.specs.ReadingOn.{FailedBetween}
+use Rattle.file_cmds.specs.ReadingOn.{FailedInFile}
 use Rattle.file_cmds.specs.lemmas.Reading.{read_twice, still_honest}
 use Rattle.vol_format.specs.Directory.{entries}
 use Rattle.volume_compare.specs.Contents.{volume_in}
@@ -46,5 +46,5 @@ returns-clause-side g c = λ start most honest reads counted.
     omega (arith, c.loop-file-test.false, c.entries-file-end.ensures, c.loop-file.invariant.within) in
     counted_all
     (volume_in c.args.volumes.now.form (g.F.FileFormat.files c.args.volumes.now.format.now) (g.F.Format.meaning c.args.volumes.now.format.now) directory start.store)
-    (FailedBetween start (g.D.Device.state c.loop-file.first)) most c.loop-file.file c.loop-file.rest all
+    (FailedInFile (g.F.Format.meaning c.args.volumes.now.format.now) directory start (g.D.Device.state c.loop-file.first)) most c.loop-file.file c.loop-file.rest all
     (c.loop-file.invariant.counted start most honest reads counted)
