@@ -7,7 +7,7 @@ import re
 import sys
 
 TOP = pathlib.Path(__file__).resolve().parent.parent
-FOR_TESTS = ("tests_", "refusing", "test_volumes")
+FOR_TESTS = ("tests_", "test_volumes")
 IMPL_OR_FUNCTION = re.compile(r"^(impl[^\n{]*)|^( *)(pub )?fn (\w+)(?:<[^(]*>)?\(([^{;]*?)\)(?: ->|\n| \{)", re.M)
 
 

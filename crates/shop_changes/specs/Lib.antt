@@ -1,3 +1,5 @@
+pub mod GivenFile
+pub mod GivenWords
 pub mod Work
 pub mod EditRules
 pub mod Refusals

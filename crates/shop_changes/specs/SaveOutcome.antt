@@ -6,7 +6,7 @@ use Rattle.edit_formats.specs.Writes.{HasEdited}
 use Rattle.edit_formats.specs.declared.error.EditError.{EditError}
 use Rattle.edit_formats.specs.declared.error.EditError.TheVariants.{Device}
 use Rattle.file_edits.specs.Saved.{IsSaveRefusal}
-use Rattle.given_file.specs.Content.{GivenView, IsTooLongForHead, most_input}
+use Rattle.shop_changes.specs.GivenFile.{GivenView, IsTooLongForHead, most_input}
 use Rattle.save_formats.specs.Saves.{SaveMeaning}
 use Rattle.shop_replies.specs.declared.refusal.Refusal.TheVariants as refusals
 use Rattle.shop_replies.specs.declared.refusal.Failure.TheVariants as failures

@@ -6,7 +6,7 @@ use Rattle.vol_laws.specs.Writes.{Write}
 use Rattle.save_formats.specs.Saves.{SaveMeaning}
 use Rattle.save_formats.specs.declared.target.Attributes.{Attributes}
 use Rattle.file_edits.specs.Saved.{HasFewPlaces, HasFullDirectory, HasNameInUse, HasNoDirectory, HasNoName, HasSaved, IsOldOrSaved, IsSaveEdit, IsTooLong}
-use Rattle.given_file.specs.Content.{GivenView, content, stored_units, unit_bytes}
+use Rattle.shop_changes.specs.GivenFile.{GivenView, content, stored_units, unit_bytes}
 use Rattle.shop_replies.specs.declared.refusal.Refusal.{Refusal}
 use Rattle.shop_replies.specs.declared.refusal.Refusal.TheVariants as refusals
 

@@ -1,7 +1,7 @@
 -- Work that changes a volume, with the bytes of its files read.
 use Rattle.std.specs.Prelude.{ℕ, Bool, List}
 use Rattle.file_formats.specs.FileNames.{FileNameView, name_view}
-use Rattle.given_file.specs.Content.{GivenView, given_view}
+use Rattle.shop_changes.specs.GivenFile.{GivenView, given_view}
 use Rattle.shop_jobs.specs.Job.{EditView, edit_view}
 use Rattle.shop_changes.specs.declared.work.Work.{Work}
 use Rattle.shop_changes.specs.declared.work.Work.TheVariants as works

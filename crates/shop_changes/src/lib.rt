@@ -10,12 +10,21 @@
 //! `OptimizeOutcome`, `EditOutcome` and `SaveOutcome` say it of each work by what the optimizer and the commands
 //! promise, and `specs/Changing.antt` of all of them.
 //!
+//! A new file is given in words and bytes. The bytes that are saved are the head that DOS 3.3 puts before the bytes of
+//! some files, and the bytes that are given (`specs/GivenFile.antt`, `content`); they stand in units of one size, the
+//! last filled with zeros. A word says the type of the file (`specs/GivenWords.antt`): a letter in DOS 3.3, two
+//! hexadecimal digits in ProDOS. The date of its creation is one of `pro_dates`. A file with a head is never longer than
+//! the two bytes of its length say: a longer one is refused before memory is taken.
+//!
 //! What always holds: all memory is taken before the first write; after a failure of the device nothing of it is called
 //! again; and where no failure of the device is told and the work is not done, the device is as it was.
 #![tactic(auto)]
 
 mod changing;
 mod editing;
+mod given_error;
+mod given_file;
+mod given_words;
 mod optimizing;
 mod outcome;
 mod report_line;
@@ -23,6 +32,9 @@ mod saving;
 mod work;
 
 pub use changing::{change_in_place, change_volume};
+pub use given_error::GivenError;
+pub use given_file::{FileUnits, GivenFile, Head, MOST_INPUT, file_units};
+pub use given_words::{dos_head, dos_kind, pro_kind};
 pub use outcome::Outcome;
 pub use report_line::line_text;
 pub use work::Work;

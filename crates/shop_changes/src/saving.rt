@@ -2,7 +2,7 @@
 ghost use Rattle.std.specs.Prelude.{◌≡◌, ◌<◌, ◌≤◌, ◌*◌, Err, IfErr, IfSome, IsTrue, OnOk, length};
 ghost use Rattle.edit_formats.specs.Writes.{HasEdited};
 ghost use Rattle.file_edits.specs.Saved.{IsSaveRefusal};
-ghost use Rattle.given_file.specs.Content.{content, given_view, most_input, stored_units, unit_bytes};
+ghost use Rattle.shop_changes.specs.GivenFile.{content, given_view, most_input, stored_units, unit_bytes};
 ghost use Rattle.shop_changes.specs.Refusals.{refusal_of_edit};
 ghost use Rattle.shop_changes.specs.SaveOutcome.{IsSaveOutcome, IsSaveTriedOutcome};
 ghost use Rattle.shop_changes.specs.Saves.{
@@ -15,11 +15,12 @@ ghost use Rattle.shop_changes.specs.Saves.{
 ghost use Rattle.vol_format.specs.Fits.{Fits};
 
 use crate::editing::edit_refusal_reply;
+use crate::given_error::GivenError;
+use crate::given_file::{FileUnits, GivenFile, MOST_INPUT, file_units};
 use crate::outcome::Outcome;
 use a2_device::Device;
 use edit_formats::EditError;
 use file_edits::save;
-use given_file::{FileUnits, GivenError, GivenFile, MOST_INPUT, file_units};
 use save_formats::{Attributes, SavableFormat};
 use shop_replies::{Failure, Refusal, Reply};
 use std::alloc::Global;

@@ -1,6 +1,6 @@
 // Work that changes a volume, with the bytes of its files read.
+use crate::given_file::GivenFile;
 use file_formats::FileName;
-use given_file::GivenFile;
 use shop_jobs::Edit;
 
 /// What is changed of a volume, with the bytes of its files read.

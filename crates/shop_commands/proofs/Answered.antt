@@ -5,7 +5,7 @@ use Rattle.std.proofs.lemmas.Option.{same_Some}
 use Rattle.std.specs.Io.KnownBytes.{Appends, Keeps}
 use Rattle.std.specs.Prelude.{◌⊎◌, Option, Some, None, IfSome, codes}
 use Rattle.a2_device.specs.declared.order.Order.{Order}
-use Rattle.given_file.specs.Content.{GivenView, most_input}
+use Rattle.shop_changes.specs.GivenFile.{GivenView, most_input}
 use Rattle.shop_jobs.specs.Job.{AskView, AttributesView, ChangeOf, ChangeView, Convert, EditOf, EditView, Identify, JobView, LookAt, Catalog, Entries, Check, Map, Compare, Read, Plan, Verify, Optimize, Save}
 use Rattle.shop_jobs.specs.Paths.{from_of, is_in_place}
 use Rattle.shop_jobs.specs.declared.job.FileSystem.{FileSystem}

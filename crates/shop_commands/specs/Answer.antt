@@ -4,10 +4,10 @@ use Rattle.std.specs.Io.KnownBytes.{Appends, Keeps}
 use Rattle.a2_device.specs.declared.order.Order.{Order}
 use Rattle.a2_device.specs.declared.order.Order.TheVariants as orders
 use Rattle.file_listings.specs.DosText.{Text}
-use Rattle.given_file.specs.Content.{GivenView}
-use Rattle.given_file.specs.Words.{dos_head, dos_kind, pro_kind}
-use Rattle.given_file.specs.declared.content.Head.{Head}
-use Rattle.given_file.specs.declared.content.Head.TheVariants as heads
+use Rattle.shop_changes.specs.GivenFile.{GivenView}
+use Rattle.shop_changes.specs.GivenWords.{dos_head, dos_kind, pro_kind}
+use Rattle.shop_changes.specs.declared.given_file.Head.{Head}
+use Rattle.shop_changes.specs.declared.given_file.Head.TheVariants as heads
 use Rattle.pro_dates.specs.SaidDates.{IsDateOf, NamesDate}
 use Rattle.shop_jobs.specs.Job.{AskView, AttributesView, Catalog, ChangeOf, ChangeView, Compare, Convert, EditOf, Identify, JobView, LookAt, Optimize, Save}
 use Rattle.shop_jobs.specs.Paths.{from_of, is_in_place, named_order_of}

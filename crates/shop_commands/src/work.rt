@@ -1,6 +1,6 @@
 // The work that a change asks for.
 ghost use Rattle.std.specs.Prelude.{◌≡◌, IfErr, IfOk, option_map};
-ghost use Rattle.given_file.specs.Content.{given_view};
+ghost use Rattle.shop_changes.specs.GivenFile.{given_view};
 ghost use Rattle.shop_jobs.specs.Job.{attributes_view, change_view};
 ghost use Rattle.shop_changes.specs.Work.{work_view};
 ghost use Rattle.shop_commands.specs.Answer.{
@@ -13,9 +13,8 @@ ghost use Rattle.shop_commands.specs.Answer.{
   limit_of as of_limit,
 };
 
-use given_file::{GivenFile, Head, dos_head, dos_kind, pro_kind};
 use pro_dates::date;
-use shop_changes::Work;
+use shop_changes::{GivenFile, Head, Work, dos_head, dos_kind, pro_kind};
 use shop_jobs::{Change, FileSystem, SaveAttributes, VolumeOptions};
 use shop_reads::file_name;
 use shop_replies::Refusal;

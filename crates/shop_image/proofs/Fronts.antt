@@ -4,7 +4,7 @@ use Rattle.std.specs.Prelude.{Option}
 use Rattle.a2_device.specs.Device.{DeviceState}
 use Rattle.vol_format.specs.Meaning.{Meaning}
 use Rattle.save_formats.specs.Saves.{SaveMeaning}
-use Rattle.given_file.specs.Content.{GivenView, most_input}
+use Rattle.shop_changes.specs.GivenFile.{GivenView, most_input}
 use Rattle.shop_jobs.specs.declared.job.VolumeOptions.{VolumeOptions}
 use Rattle.shop_replies.specs.declared.reply.Reply.{Reply}
 use Rattle.shop_replies.specs.Disk.{most_bytes}

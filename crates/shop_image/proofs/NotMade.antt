@@ -6,7 +6,7 @@ use Rattle.vol_format.specs.Meaning.{Meaning}
 use Rattle.file_formats.specs.FileNames.{FileNameView}
 use Rattle.file_formats.specs.Files.{FileMeaning}
 use Rattle.save_formats.specs.Saves.{SaveMeaning}
-use Rattle.given_file.specs.Content.{GivenView}
+use Rattle.shop_changes.specs.GivenFile.{GivenView}
 use Rattle.shop_jobs.specs.Job.{EditView}
 use Rattle.shop_jobs.specs.declared.job.VolumeOptions.{VolumeOptions}
 use Rattle.shop_replies.specs.declared.refusal.Refusal.TheVariants as refusals

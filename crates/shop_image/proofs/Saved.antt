@@ -9,7 +9,7 @@ use Rattle.edit_formats.specs.declared.error.EditError.{EditError}
 use Rattle.edit_formats.specs.declared.error.EditError.TheVariants as refused
 use Rattle.file_edits.specs.Saved.{IsSaveRefusal}
 use Rattle.save_formats.specs.Saves.{SaveMeaning}
-use Rattle.given_file.specs.Content.{GivenView}
+use Rattle.shop_changes.specs.GivenFile.{GivenView}
 use Rattle.shop_replies.specs.declared.refusal.Refusal.{Refusal}
 use Rattle.shop_replies.specs.declared.refusal.Refusal.TheVariants as refusals
 use Rattle.shop_replies.specs.declared.reply.Reply.{Reply}

@@ -5,7 +5,7 @@ use Rattle.vol_format.specs.Meaning.{Meaning}
 use Rattle.vol_laws.specs.Writes.{Write}
 use Rattle.edit_formats.specs.Writes.{device_after}
 use Rattle.save_formats.specs.Saves.{SaveMeaning}
-use Rattle.given_file.specs.Content.{GivenView, IsTooLongForHead, most_input}
+use Rattle.shop_changes.specs.GivenFile.{GivenView, IsTooLongForHead, most_input}
 use Rattle.shop_replies.specs.declared.refusal.Refusal.{Refusal}
 use Rattle.shop_replies.specs.declared.refusal.Refusal.TheVariants as refusals
 use Rattle.shop_replies.specs.declared.refusal.Failure.TheVariants as failures

@@ -1,12 +1,17 @@
-//! The volumes that tests are run on, made in memory from the formats, and a device of which one call fails after so
-//! many others. No program uses it.
+//! What tests are run on: volumes, made in memory from the formats, a device of which one call fails after so many
+//! others, and an allocator that refuses chosen blocks. No program uses it.
 //!
-//! Each is the bytes of an image: in DOS order, 35 tracks of 16 sectors of 256 bytes; in ProDOS order, blocks of 512
-//! bytes. What is not named is 0.
+//! Each volume is the bytes of an image: in DOS order, 35 tracks of 16 sectors of 256 bytes; in ProDOS order, blocks of
+//! 512 bytes. What is not named is 0.
+//!
+//! Of `Refusing` a contract says nothing of what its counter holds, so that the right blocks are refused is tested, and
+//! that a collection over it is safe is proved.
 #![tactic(auto)]
 
 mod blocks;
 mod late_failure;
+mod refusing;
+mod rule;
 
 ghost use Rattle.std.specs.Prelude.{◌≡◌, ◌+◌, ◌*◌, ◌<◌, ◌≤◌, length, take, drop, slice_range, vec_len, IfOk, IsTrue};
 
@@ -17,6 +22,7 @@ pub use blocks::{
     LARGE_BYTES, block_device, put_in_block, seedlings_far_out, tree, tree_and_subdirectory,
 };
 pub use late_failure::LateFailure;
+pub use refusing::Refusing;
 use std::alloc::{AllocError, Allocator, Global};
 
 /// The bytes of a disk's image.

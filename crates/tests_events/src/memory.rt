@@ -2,10 +2,9 @@
 //! the want of it.
 use crate::volumes::{Told, answered, are_told, dos33};
 use event_replay::Event;
-use refusing::Refusing;
 use std::alloc::Global;
 use std::test::Fail;
-use test_volumes::hello;
+use test_volumes::{Refusing, hello};
 
 // What was answered to a read and a stop.
 #[derive(Clone, Copy, Debug, PartialEq, Eq)]

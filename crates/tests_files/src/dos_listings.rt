@@ -6,11 +6,10 @@ use a2_device::{Device, FaultDevice};
 use dos_format::Dos33;
 use file_cmds::{CmdError, catalog};
 use file_listings::{EntryStyle, KnownFiles, dos_entries_text, dos_listing_text};
-use refusing::Refusing;
 use reserved_places::Reserved;
 use std::alloc::{AllocError, Allocator, Global};
 use std::test::Fail;
-use test_volumes::{FIRST_CATALOG, dos_device, dos_volume, hello, put_entry};
+use test_volumes::{FIRST_CATALOG, Refusing, dos_device, dos_volume, hello, put_entry};
 
 /// DOS 3.3, with nothing reserved.
 pub fn dos_33<A: Allocator + Copy>(alloc: A) -> Result<Dos33<A>, AllocError> {

@@ -10,10 +10,9 @@ use a2_image::Image;
 use a2_media::ImageDevice;
 use file_cmds::{CmdError, read};
 use file_formats::FileName;
-use refusing::Refusing;
 use std::alloc::{AllocError, Allocator, Global};
 use std::test::Fail;
-use test_volumes::{FIRST_CATALOG, dos_device, dos_volume, hello, put_entry};
+use test_volumes::{FIRST_CATALOG, Refusing, dos_device, dos_volume, hello, put_entry};
 
 /// The runs of the body of HELLO.
 static HELLO_BODY: [(usize, u8); 3] = [(1, 169), (1, 0), (1, 96)];

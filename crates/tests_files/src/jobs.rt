@@ -9,10 +9,9 @@ use crate::pieces::{Piece, hello_with, put_writes, sub_with, tree_with};
 use crate::savings::{fill_block, save_hi, save_hole, save_note};
 use a2_device::Device;
 use edit_formats::EditError;
-use refusing::Refusing;
 use std::alloc::{AllocError, Allocator, Global};
 use std::test::Fail;
-use test_volumes::{FIRST_CATALOG, IMAGE_BYTES, VTOC, block_device, dos_device};
+use test_volumes::{FIRST_CATALOG, IMAGE_BYTES, Refusing, VTOC, block_device, dos_device};
 
 /// A job on a DOS 3.3 volume.
 #[derive(Clone, Copy)]

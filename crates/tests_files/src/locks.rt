@@ -9,11 +9,12 @@ use edit_formats::EditError;
 use file_edits::{lock, unlock};
 use file_formats::FileName;
 use pro_format::Prodos;
-use refusing::Refusing;
 use reserved_places::Reserved;
 use std::alloc::{AllocError, Allocator, Global};
 use std::test::Fail;
-use test_volumes::{FIRST_CATALOG, block_device, dos_device, hello, tree_and_subdirectory};
+use test_volumes::{
+    FIRST_CATALOG, Refusing, block_device, dos_device, hello, tree_and_subdirectory,
+};
 
 /// Why a file of a DOS 3.3 volume is not locked; `None` where it is.
 fn lock_on<A: Allocator + Copy, D: Device>(

@@ -6,11 +6,10 @@ use a2_device::{Device, Part, PartKind};
 use file_cmds::{CmdError, read_volume};
 use file_listings::{ProSteps, Step};
 use pro_format::Prodos;
-use refusing::Refusing;
 use reserved_places::Reserved;
 use std::alloc::{AllocError, Allocator, Global};
 use std::test::Fail;
-use test_volumes::{block_device, tree_and_subdirectory};
+use test_volumes::{Refusing, block_device, tree_and_subdirectory};
 
 /// A unit of BIG goes past the blocks of SUB/A, whose body then comes to stand where it stood.
 static STEPS: [Step; 2] = [

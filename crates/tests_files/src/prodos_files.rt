@@ -8,11 +8,10 @@ use file_cmds::{CmdError, read, read_volume};
 use file_formats::FileName;
 use file_listings::{EntryStyle, KnownFile, KnownFiles, ProLines, Style};
 use pro_format::Prodos;
-use refusing::Refusing;
 use reserved_places::Reserved;
 use std::alloc::{AllocError, Allocator, Global};
 use std::test::Fail;
-use test_volumes::{block_device, put_in_block, tree, tree_and_subdirectory};
+use test_volumes::{Refusing, block_device, put_in_block, tree, tree_and_subdirectory};
 
 /// Makes the line of an entry, where there is such an entry.
 fn make_line<A: Allocator + Copy>(lines: &mut ProLines<A>, entry: u32) -> Result<(), AllocError> {

@@ -1,13 +1,13 @@
 //! A file that is replaced as a whole, in a folder in memory.
 
 use crate::folder::{Folder, Kind, Mounted};
-use refusing::Refusing;
 use shop_files::{AsideFile, Place, Standing, Target, target_of};
 use std::alloc::{AllocError, Allocator, Global};
 use std::io::{self, ErrorKind, Write};
 use std::os::unix::fs::PermissionsExt;
 use std::rt::Files;
 use std::test::Fail;
+use test_volumes::Refusing;
 
 /// What of a mode is no kind.
 const MODE_BITS: u32 = 0o7777;

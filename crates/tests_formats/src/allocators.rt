@@ -1,6 +1,6 @@
-use refusing::Refusing;
 use std::alloc::Global;
 use std::test::Fail;
+use test_volumes::Refusing;
 
 /// Asks for three blocks, and tells which came and how many were asked.
 fn three_blocks(heap: &Refusing<Global>) -> ([bool; 3], u64) {

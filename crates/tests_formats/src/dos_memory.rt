@@ -3,10 +3,9 @@ use crate::dos_catalogs::catalog_of;
 use crate::dos_gaps::gaps;
 use crate::dos_lists::parts_of;
 use a2_device::WalkError;
-use refusing::Refusing;
 use std::alloc::{AllocError, Global};
 use std::test::Fail;
-use test_volumes::hello;
+use test_volumes::{Refusing, hello};
 
 #[derive(Clone, Copy, Debug)]
 enum Call {

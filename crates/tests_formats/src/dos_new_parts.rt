@@ -3,9 +3,9 @@ ghost use Rattle.std.specs.Prelude.{◌≤◌, ◌<◌};
 
 use a2_device::PartKind;
 use new_files::{NewFileError, NewPart, build_list, dos_parts, parts_of_a_new_dos_file};
-use refusing::Refusing;
 use std::alloc::{Allocator, Global};
 use std::test::Fail;
+use test_volumes::Refusing;
 
 // The parts of a file of which these units are stored.
 fn parts_of<A: Allocator>(alloc: A, stored: &[bool]) -> Result<Vec<NewPart, A>, NewFileError> {

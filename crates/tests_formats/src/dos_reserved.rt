@@ -1,6 +1,6 @@
-use refusing::Refusing;
 use reserved_places::{PlaceForm, ReserveError, Reserved};
 use std::test::Fail;
+use test_volumes::Refusing;
 
 // How a text is read: whether two places are reserved, or that it names none.
 fn told(rt: &HostRuntime, text: &str, form: PlaceForm, places: [u32; 2]) -> &'static str {

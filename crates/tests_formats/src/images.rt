@@ -1,8 +1,8 @@
 use a2_device::{BLOCK_BYTES, IMAGE_BYTES, NIBBLE_BYTES, Order, block_to_phys, dos_to_phys};
 use a2_image::{Image, ImageError, SECTOR_BYTES, sectors_of_block};
-use refusing::Refusing;
 use std::alloc::Allocator;
 use std::test::Fail;
+use test_volumes::Refusing;
 
 const TRACK: usize = 6656;
 

@@ -4,11 +4,10 @@ use crate::pro_files::{self, walked};
 use crate::pro_maps::bitmap_of;
 use a2_device::WalkError;
 use pro_format::Prodos;
-use refusing::Refusing;
 use reserved_places::Reserved;
 use std::alloc::{AllocError, Allocator, Global};
 use std::test::Fail;
-use test_volumes::{block_device, tree, tree_and_subdirectory};
+use test_volumes::{Refusing, block_device, tree, tree_and_subdirectory};
 use vol_format::Format;
 
 #[derive(Clone, Copy, Debug)]

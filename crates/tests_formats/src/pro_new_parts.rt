@@ -6,9 +6,9 @@ use new_files::{
     NewFileError, NewPart, build_index, build_master, parts_of_a_new_pro_file, pro_parts,
     pro_storage,
 };
-use refusing::Refusing;
 use std::alloc::{Allocator, Global};
 use std::test::Fail;
+use test_volumes::Refusing;
 
 // The parts of a file of which these units are stored.
 fn parts_of<A: Allocator>(alloc: A, stored: &[bool]) -> Result<Vec<NewPart, A>, NewFileError> {

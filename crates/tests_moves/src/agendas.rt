@@ -5,11 +5,10 @@ ghost use Rattle.vol_format.specs.Directory.{Directory};
 ghost use Rattle.dos_format.specs.Dos.{dos_available};
 
 use dos_format::Dos33;
-use refusing::Refusing;
 use reserved_places::Reserved;
 use std::alloc::{AllocError, Allocator, Global};
 use std::test::Fail;
-use test_volumes::{dos_device, hello};
+use test_volumes::{Refusing, dos_device, hello};
 use vol_format::Format;
 use vol_laws::Mark;
 use vol_layout::Move;

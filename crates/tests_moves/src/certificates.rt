@@ -2,10 +2,10 @@
 
 use crate::examples::{RINGS_AND_HOLE, in_reverse_order, layout_in};
 use move_plan::plan;
-use refusing::Refusing;
 use ring_cert::{Cert, CertError, CertFault, print, read, verify};
 use std::alloc::{AllocError, Global};
 use std::test::Fail;
+use test_volumes::Refusing;
 use vol_layout::{Layout, Move};
 
 /// The certificate of the plan that exchanges two parts over three places, line by line.

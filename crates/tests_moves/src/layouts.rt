@@ -1,9 +1,9 @@
 //! Layouts and the moves that change them.
 
 use crate::examples::layout_in;
-use refusing::Refusing;
 use std::alloc::Global;
 use std::test::Fail;
+use test_volumes::Refusing;
 use vol_layout::{Layout, LayoutError, Move, MoveError};
 
 /// Why these places are no layout.

@@ -4,10 +4,9 @@ ghost use Rattle.std.specs.Prelude.{◌≡◌, vec_len};
 use crate::volumes::{ALL, KEEP, dos33};
 use a2_device::Device;
 use dos_format::Dos33;
-use refusing::Refusing;
 use std::alloc::{AllocError, Global};
 use std::test::Fail;
-use test_volumes::{dos_device, hello};
+use test_volumes::{Refusing, dos_device, hello};
 use vol_check::{CheckError, check};
 use vol_mover::{OpenError, Opening, OptError, optimize};
 

@@ -2,9 +2,9 @@
 
 use crate::examples::{RINGS_AND_HOLE, in_reverse_order, layout_in};
 use move_plan::{Plan, PlanError, plan};
-use refusing::Refusing;
 use std::alloc::Global;
 use std::test::Fail;
+use test_volumes::Refusing;
 use vol_layout::Layout;
 
 /// Whether the plan for a layout has these moves, each of a part to a place.

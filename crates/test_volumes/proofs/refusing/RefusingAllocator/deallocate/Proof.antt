@@ -32,12 +32,12 @@ use denote.Triple.Clauses.{Ended, Clauses}
 use denote.Triple.Statement.{Triple}
 use denote.Triple.Walked.{Stays, AllGo, stay_dropped, walk_of, ends_at, Goes-dropped}
 use Rattle.std.proofs.alloc.Calls.{Al, token, seen, gives_key, Gives, at_gives, Gives-goes, Gives-Gives}
-use Rattle.refusing.proofs.Parts.{args, Refusing, self, inner_at, rule_at, parts}
-use Rattle.refusing.proofs.Counting.{Rule}
-use Rattle.refusing.specs.contracts.RefusingAllocator.deallocate as promise
-use Rattle.refusing.specs.contracts.RefusingAllocator.deallocate.Key as key
-use Rattle.refusing.proofs.RefusingAllocator.deallocate.Statement.{statement}
-use Rattle.refusing.proofs.RefusingAllocator.deallocate.Code as code
+use Rattle.test_volumes.proofs.Parts.{args, Refusing, self, inner_at, rule_at, parts}
+use Rattle.test_volumes.proofs.Counting.{Rule}
+use Rattle.test_volumes.specs.contracts.refusing.RefusingAllocator.deallocate as promise
+use Rattle.test_volumes.specs.contracts.refusing.RefusingAllocator.deallocate.Key as key
+use Rattle.test_volumes.proofs.refusing.RefusingAllocator.deallocate.Statement.{statement}
+use Rattle.test_volumes.proofs.refusing.RefusingAllocator.deallocate.Code as code
 
 module _ (Z : Al) where
   abbrev body : Fn

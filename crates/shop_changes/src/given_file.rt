@@ -1,7 +1,7 @@
 // The units of a new file.
 ghost use Rattle.std.specs.Prelude.{◌≡◌, ◌↔◌, ◌<◌, ◌≤◌, ◌*◌, ◌++◌, true, length, replicate, Err, IfOk, IsTrue, OnOk};
-ghost use Rattle.given_file.specs.declared.error.GivenError.TheVariants.{TooLong};
-ghost use Rattle.given_file.specs.Content.{
+ghost use Rattle.shop_changes.specs.declared.given_error.GivenError.TheVariants.{TooLong};
+ghost use Rattle.shop_changes.specs.GivenFile.{
   content,
   given_view,
   head_bytes,
@@ -11,7 +11,7 @@ ghost use Rattle.given_file.specs.Content.{
   IsTooLongForHead,
 };
 
-use crate::GivenError;
+use crate::given_error::GivenError;
 use pro_dir::ProDate;
 use std::alloc::{AllocError, Global};
 

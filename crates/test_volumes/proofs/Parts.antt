@@ -14,8 +14,8 @@ use denote.RattleType.{RattleType}
 use denote.Signature.{Slot, plain}
 use denote.Builtin.{RefOf}
 use Rattle.std.proofs.alloc.Calls.{Al, α, seen}
-use Rattle.refusing.proofs.Counting.{Rule}
-use Rattle.refusing.specs.contracts.Refusing as refusing
+use Rattle.test_volumes.proofs.Counting.{Rule}
+use Rattle.test_volumes.specs.contracts.refusing.Refusing as refusing
 
 -- over an inner allocator
 module _ (Z : Al) where

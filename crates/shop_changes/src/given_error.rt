@@ -14,7 +14,7 @@ pub enum GivenError {
 
 impl From<AllocError> for GivenError {
     ghost use Rattle.std.specs.Prelude.{◌≡◌};
-    ghost use Rattle.given_file.specs.declared.error.GivenError.TheVariants.{Memory};
+    ghost use Rattle.shop_changes.specs.declared.given_error.GivenError.TheVariants.{Memory};
 
     ghost from_gives = { λ _ e. e ≡ Memory };
 

@@ -35,14 +35,14 @@ use denote.Triple.Table.{cited}
 use denote.Triple.Walked.{Stays, AllGo, stay_dropped, walk_of, ends_at, Goes-dropped}
 use Rattle.std.proofs.alloc.Calls.{Al, token, seen, Answer, answer_val, Answer-typed, Answer-Ok, Answer-err, takes_key, Takes, at_takes, Answered, Takes-goes, Takes-gives, answers}
 use Rattle.std.proofs.VecSteps.Shapes.{after}
-use Rattle.refusing.proofs.Parts.{args, Refusing, self, inner_at, rule_at, parts}
-use Rattle.refusing.proofs.Counting.{Rule, Counts, at_counts, Counts-goes, Counts-gives}
-use Rattle.refusing.proofs.rule.Rule.refuses_next.Symbol as counting
-use Rattle.refusing.proofs.rule.Rule.refuses_next.Met as counted
-use Rattle.refusing.specs.contracts.RefusingAllocator.allocate as promise
-use Rattle.refusing.specs.contracts.RefusingAllocator.allocate.Key as key
-use Rattle.refusing.proofs.RefusingAllocator.allocate.Statement.{statement}
-use Rattle.refusing.proofs.RefusingAllocator.allocate.Code as code
+use Rattle.test_volumes.proofs.Parts.{args, Refusing, self, inner_at, rule_at, parts}
+use Rattle.test_volumes.proofs.Counting.{Rule, Counts, at_counts, Counts-goes, Counts-gives}
+use Rattle.test_volumes.proofs.rule.Rule.refuses_next.Symbol as counting
+use Rattle.test_volumes.proofs.rule.Rule.refuses_next.Met as counted
+use Rattle.test_volumes.specs.contracts.refusing.RefusingAllocator.allocate as promise
+use Rattle.test_volumes.specs.contracts.refusing.RefusingAllocator.allocate.Key as key
+use Rattle.test_volumes.proofs.refusing.RefusingAllocator.allocate.Statement.{statement}
+use Rattle.test_volumes.proofs.refusing.RefusingAllocator.allocate.Code as code
 
 module _ (Z : Al) where
   abbrev body : Fn
@@ -125,7 +125,7 @@ pub allocate_spec : {M : Type 1} → statement M
 unfolding tables_of
 allocate_spec 𝓤 𝓛 𝓜 𝓡 wired B laws g d drops met _ =
     let Z : Al = record { row = B; laws = laws; g = g; d = d; drops = drops } in
-    let counts = cited 𝓤 𝓛.H _ 𝓜 𝓡 𝓡.env counting.name (𝓡.env counting.name) refl (counted.met 𝓤 𝓛 𝓜 𝓡 (code.calls-refusing::rule::Rule::refuses_next 𝓡.env wired)) in
+    let counts = cited 𝓤 𝓛.H _ 𝓜 𝓡 𝓡.env counting.name (𝓡.env counting.name) refl (counted.met 𝓤 𝓛 𝓜 𝓡 (code.calls-test_volumes::rule::Rule::refuses_next 𝓡.env wired)) in
     proved 𝓛 (ended Z) (stayed Z) (clauses Z 𝓛 𝓜.mem 𝓡.returns) 𝓜 𝓡 (goes Z 𝓛 𝓜.mem 𝓡.returns) (key.name (args Z)) (body Z) (code.unfolded 𝓤 𝓛.H 𝓜 𝓡 wired (B, tt) d drops)
     (λ κs. (shr_vals, (uint_vals w64, (uint_vals w64, tt)))) (λ κs. ((λ r vs s. s.0), (uint_Tells w64, (uint_Tells w64, tt))))
     (λ κs qs bounds a τ are. walk Z 𝓛 𝓜.mem 𝓡.returns (tables_of 𝓤 𝓛.H 𝓜 (tables 𝓤 𝓛.H 𝓜 𝓡 𝓡.env)) counts (met.allocate drops) κs.0 κs.1.0 qs.0 qs.1.0 bounds.0 a.0 a.1.0 a.1.1.0 τ are.1.0.1 are.1.1.0.1)

@@ -15,8 +15,8 @@ use denote.Builtin.{bool}
 use denote.Steps.{nothing, only}
 use denote.Triple.Statement.{Contract}
 use denote.Triple.Spec.{triple_of}
-use Rattle.refusing.specs.contracts.rule.Rule as rule
-use Rattle.refusing.specs.contracts.rule.Rule.refuses_next as counts
+use Rattle.test_volumes.specs.contracts.rule.Rule as rule
+use Rattle.test_volumes.specs.contracts.rule.Rule.refuses_next as counts
 
 abbrev pub Rule : RattleType
 Rule = rule.the_row

@@ -1,6 +1,6 @@
 -- Which blocks a handle refuses, by their numbers from 0 in the order in which they are asked, and which allocator has the others.
 use Rattle.std.specs.Prelude.{ℕ, ◌<◌, ◌≤◌}
-use Rattle.refusing.specs.declared.Refusing.{Refusing}
+use Rattle.test_volumes.specs.declared.refusing.Refusing.{Refusing}
 
 -- the block of this number is refused
 abbrev pub IsRefused : {B : Type 0} → Refusing B → ℕ → Type 0

@@ -2,8 +2,8 @@
 use Rattle.std.specs.Prelude.{◌+◌, ◌-◌, ◌*◌, ◌==◌, ℕ, List, [], ◌∷◌, codes, Option, Some, None, option_and_then, option_map, if◌then◌else◌}
 use Rattle.std.specs.Int.{is_in_range}
 use Rattle.std.specs.Str.{bytes_eq}
-use Rattle.given_file.specs.declared.content.Head.{Head}
-use Rattle.given_file.specs.declared.content.Head.TheVariants as heads
+use Rattle.shop_changes.specs.declared.given_file.Head.{Head}
+use Rattle.shop_changes.specs.declared.given_file.Head.TheVariants as heads
 
 -- the type that a capital letter names: text, Integer BASIC, Applesoft, binary, special, relocatable
 abbrev pub letter_kind : List ℕ → Option ℕ

@@ -1,23 +1,14 @@
-//! An allocator for tests: it passes each call on to another one, but refuses some of the blocks
-//! that are asked of it.
-//!
-//! A `Refusing` numbers the blocks that are asked from 0, in the order in which they are asked, and
-//! counts them; a block that is to grow is asked anew. Which numbers it refuses is fixed when it is
-//! made. A block that it hands out is the inner allocator's, and goes back to it.
-//!
-//! A contract says nothing of what a cell holds, so that the right blocks are refused is tested,
-//! and that a collection over a `Refusing` is safe is proved.
-#![tactic(auto)]
-
-mod rule;
-
+// An allocator for tests: it passes each call on to another one, but refuses some of the blocks
+// that are asked of it.
 ghost use Rattle.std.specs.Prelude.{◌≡◌, ℕ, ◌<◌, ◌≤◌, ◌↔◌};
 
-use rule::Rule;
+use crate::rule::Rule;
 use std::alloc::{AllocError, Allocator};
 
-/// A handle that refuses some of the blocks that are asked of it, and has the others from `inner`.
-/// Lend it: `&heap` is the handle to hand in.
+/// A handle that refuses some of the blocks that are asked of it, and has the others from `inner`,
+/// to which they go back. It numbers the blocks that are asked from 0, in the order in which they
+/// are asked, and counts them; a block that is to grow is asked anew. Which numbers it refuses is
+/// fixed when it is made. Lend it: `&heap` is the handle to hand in.
 #[derive(Drop)]
 pub struct Refusing<B> {
     inner: B,
@@ -25,7 +16,7 @@ pub struct Refusing<B> {
 }
 
 impl<B> Refusing<B> {
-    ghost use Rattle.refusing.specs.Refused.{IsRefused, inner_of};
+    ghost use Rattle.test_volumes.specs.Refused.{IsRefused, inner_of};
 
     /// Refuses no block.
     pub fn none(inner: B) -> Refusing<B>

@@ -1,5 +1,4 @@
-//! Which blocks are refused, and how many were asked.
-
+// Which blocks are refused, and how many were asked.
 ghost use Rattle.std.specs.Prelude.{◌≡◌};
 
 use std::cell::Cell;

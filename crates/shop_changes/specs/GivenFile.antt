@@ -1,9 +1,9 @@
 -- What is saved of a file as its owner gives it.
 use Rattle.std.specs.Prelude.{◌≢◌, ◌<◌, ◌+◌, ◌-◌, ◌*◌, ◌/◌, ◌%◌, ℕ, min, Bool, true, List, [], ◌∷◌, ◌++◌, length, replicate}
 use Rattle.pro_dir.specs.declared.date.ProDate.{ProDate}
-use Rattle.given_file.specs.declared.content.GivenFile.{GivenFile}
-use Rattle.given_file.specs.declared.content.Head.{Head}
-use Rattle.given_file.specs.declared.content.Head.TheVariants.{None, Length, AddressAndLength}
+use Rattle.shop_changes.specs.declared.given_file.GivenFile.{GivenFile}
+use Rattle.shop_changes.specs.declared.given_file.Head.{Head}
+use Rattle.shop_changes.specs.declared.given_file.Head.TheVariants.{None, Length, AddressAndLength}
 
 -- a new file as contracts see it: its type, its auxiliary type or address, its date, its head and its bytes
 pub record GivenView : Type 0 where

@@ -1,8 +1,8 @@
 // What the words say of a new file.
 ghost use Rattle.std.specs.Prelude.{◌≡◌, option_map};
-ghost use Rattle.given_file.specs.Words.{dos_head, dos_kind, hex_byte, hex_value, letter_kind, pro_kind};
+ghost use Rattle.shop_changes.specs.GivenWords.{dos_head, dos_kind, hex_byte, hex_value, letter_kind, pro_kind};
 
-use crate::Head;
+use crate::given_file::Head;
 
 // The type that a letter names.
 fn letter_kind(letter: &str) -> Option<u8>
