@@ -1,9 +1,11 @@
 //! Tests of the libraries of files: of `file_cmds`, `file_listings` and `file_edits` worked volumes of DOS 3.3 and
 //! ProDOS with the literal text of their listings and the literal bytes of their files, each public call on its happy
 //! path, refused memory, and each read and write failing in turn; of `shop_files` files that are replaced in a folder
-//! in memory, whose calls fail in turn.
+//! in memory, whose calls fail in turn; of `host_folders` names and new folders of the system, whose calls fail in turn.
 #![tactic(auto)]
 
+#[cfg(test)]
+mod counted_files;
 #[cfg(test)]
 mod deletions;
 #[cfg(test)]
@@ -13,11 +15,17 @@ mod dos_reads;
 #[cfg(test)]
 mod folder;
 #[cfg(test)]
+mod host_names;
+#[cfg(test)]
 mod jobs;
 #[cfg(test)]
 mod late_failures;
 #[cfg(test)]
 mod locks;
+#[cfg(test)]
+mod new_folders;
+#[cfg(test)]
+mod new_folders_memory;
 #[cfg(test)]
 mod pieces;
 #[cfg(test)]

@@ -1,0 +1,11 @@
+pub mod HostNames
+pub mod Laws
+pub mod Path
+pub mod Folder
+pub mod Calls
+pub mod Memory
+pub mod Failing
+pub mod NewFolder
+pub mod System
+pub mod Start
+pub mod lemmas

@@ -1,0 +1,51 @@
+//! What a volume's files are on the host: the names under which they stand in a folder, and the folder that they are put
+//! into, which is, at every moment, what stood at its path before or the whole of what was put into it.
+//!
+//! **Names** (`specs/HostNames.antt`). A name is a stem, a number and a tail: the stored name, byte by byte, with `%` and
+//! two digits in the place of what is no plain character; nothing for the first entry of a folder with its bare name,
+//! and else `~2`, `~3` and so on; and `#` with the type and the aux type, of files where they are told (`Naps`). Then
+//! the first and the last character are escaped where a system takes them for something else, and the first one of a
+//! name of a device. Whoever names a folder counts: an entry's number is one more than the number of earlier entries of
+//! the folder with its bare name, letters of either case taken as one (`bare_name` gives that name to compare).
+//!
+//! What always holds: a name is safe on every system (`a_host_name_is_safe`), says its entry
+//! (`a_host_name_says_its_entry`), and is another's even without regard to case only where both have one bare name and
+//! one number (`host_names_are_apart`).
+//!
+//! **Folders.** `Folder` is what is asked of a folder: that folders are made in it and files put into it, by paths of
+//! safe names (`specs/Path.antt`). Of an honest folder it is known what was made in it, in order, after each call and
+//! after each failure (`specs/Folder.antt`). `MemoryFolder` is a folder in memory, and honest; `FailingFolder` refuses
+//! one call of another folder, and passes all others on (`specs/Failing.antt`).
+//!
+//! `SystemFolder` is a new folder of the system: a folder aside, in which all is made, takes its place in one step, a
+//! renaming; whatever fails before that, the folder aside is removed and what stood at the place stands. Nothing that
+//! exists is opened, so no link is followed, and no name leads out of the folder. `folder_name` says which names a
+//! folder that is to be made may have (`specs/NewFolder.antt`). No contract can say what a file system holds: what is
+//! promised of it is tested, with a file system whose calls fail in turn.
+//!
+//! What always holds: no call makes a folder honest or dishonest.
+#![tactic(auto)]
+
+mod entry;
+mod failing;
+mod folder;
+mod law;
+mod letters;
+mod memory;
+mod names;
+mod new_folder;
+mod path;
+mod safe;
+mod stem;
+mod system;
+mod tail;
+
+pub use entry::{Naming, Stored};
+pub use failing::FailingFolder;
+pub use folder::{Folder, FolderFailure};
+pub use law::{a_host_name_is_safe, a_host_name_says_its_entry, host_names_are_apart};
+pub use memory::{MadeItem, MemoryFolder};
+pub use names::{bare_name, host_name};
+pub use new_folder::folder_name;
+pub use path::is_safe_path;
+pub use system::{StartError, SystemFolder};
