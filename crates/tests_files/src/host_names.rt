@@ -3,8 +3,9 @@ ghost use Rattle.std.specs.Prelude.{◌≤◌};
 
 use host_folders::{Naming, Stored, bare_name, host_name};
 use reserved_places::PlaceForm;
-use std::alloc::{AllocError, Global};
+use std::alloc::{AllocError, Allocator, Global};
 use std::test::Fail;
+use test_volumes::Refusing;
 
 // Whether an entry of type $06 and aux type $0300 has these names with and without its type, in that order.
 fn is_named(
@@ -209,4 +210,28 @@ fn folders(rt: HostRuntime) -> Result<(), Fail> {
     assert!(rt; host_name(alloc, Naming::Naps, &stored, 1)?.as_str() == "Sub.A");
     assert!(rt; bare_name(alloc, Naming::Naps, &stored)?.as_slice() == b"sub.a".as_slice());
     Ok(())
+}
+
+// Whether there was memory for the name of an entry and for what it is compared by.
+fn are_made<A: Allocator + Copy>(alloc: A) -> bool {
+    let stored = Stored {
+        form: PlaceForm::Block,
+        name: b"-CON.X ",
+        kind: 0x06,
+        aux: 0x0300,
+        directory: false,
+    };
+    host_name(alloc, Naming::Naps, &stored, 2).is_ok()
+        && bare_name(alloc, Naming::Naps, &stored).is_ok()
+}
+
+#[test]
+fn each_refused_block_is_memory(rt: HostRuntime) {
+    let whole = Refusing::none(rt.alloc());
+    assert!(rt; are_made(&whole));
+    for before in 0..whole.asked() {
+        let heap = Refusing::one(rt.alloc(), before);
+        assert!(rt; !are_made(&heap));
+        assert_eq!(rt; heap.asked(), before + 1);
+    }
 }
