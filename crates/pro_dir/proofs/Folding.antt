@@ -1,5 +1,6 @@
 -- What is left of a path without its last name.
 use Rattle.std.proofs.Common.{◌≡◌, ◌↔◌, ◌<◌, ◌+◌, ℕ, refl, sym, ◌∙◌, ap, arith, List, ◌∷◌, ◌++◌, length, drop, Option, Some, None, Bool, true, false}
+use Rattle.std.specs.Prelude.{IfSome, IfNone}
 use Rattle.std.specs.Str.{bytes_eq}
 use Rattle.std.specs.Bool.{Decides}
 use Rattle.std.proofs.lemmas.List.{append_cancel_right, drop-map, length-map, length-append}
@@ -34,6 +35,23 @@ path-alone entries number within is =
     above_of : Option ℕ → Option (List ℕ)
     above_of None = None
     above_of (Some parent) = Some (path_of entries parent)
+
+-- both for the parent as it is
+pub path-below : (entries : List Entry) (number : ℕ) → number < length entries
+    → IfSome (parent_of entries number) (λ parent. path_of entries number ≡ path_of entries parent ++ 0x2f ∷ name_of (entry_in entries number).bytes)
+path-below entries number within = below (parent_of entries number) refl
+  where
+    below : (found : Option ℕ) → parent_of entries number ≡ found → IfSome found (λ parent. path_of entries number ≡ path_of entries parent ++ 0x2f ∷ name_of (entry_in entries number).bytes)
+    below None is = tt
+    below (Some parent) is = path-parent entries number parent within is
+
+pub path-top : (entries : List Entry) (number : ℕ) → number < length entries
+    → IfNone (parent_of entries number) (path_of entries number ≡ name_of (entry_in entries number).bytes)
+path-top entries number within = top (parent_of entries number) refl
+  where
+    top : (found : Option ℕ) → parent_of entries number ≡ found → IfNone found (path_of entries number ≡ name_of (entry_in entries number).bytes)
+    top None is = path-alone entries number within is
+    top (Some parent) is = tt
 
 -- two paths with the same last name are the same where what is above it is
 pub same_above : (given path above parent name : List ℕ) → given ≡ above ++ 0x2f ∷ name → path ≡ parent ++ 0x2f ∷ name → (given ≡ path) ↔ (above ≡ parent)

@@ -74,6 +74,20 @@ directory_before entries (suc count) key = by_test (directory_before entries cou
     by_test before true = omega arith
     by_test before false = weaker (last_directory entries count key) before
 
+-- a parent is a directory
+pub directory_leads : (entries : List Entry) (count key : ℕ) → IfSome (last_directory entries count key) (λ parent. is_directory (entry_in entries parent) ≡ true)
+directory_leads entries zero key = tt
+directory_leads entries (suc count) key = by_test (directory_leads entries count key) (is_directory (entry_in entries count)) refl (key_of (entry_in entries count) == key)
+  where
+    Leads : Option ℕ → Type 0
+    Leads found = IfSome found (λ parent. is_directory (entry_in entries parent) ≡ true)
+
+    by_test : Leads (last_directory entries count key) → (directory : Bool) → is_directory (entry_in entries count) ≡ directory → (same : Bool)
+        → Leads (if directory && same then Some count else last_directory entries count key)
+    by_test before true is true = is
+    by_test before true is false = before
+    by_test before false is same = before
+
 -- what is below a name below a path
 joined : (above : Option (List ℕ)) (name rest : List ℕ) → name_below above name ++ 0x2f ∷ rest ≡ name_below above (name ++ 0x2f ∷ rest)
 joined None name rest = refl

@@ -9,6 +9,7 @@ ghost use Rattle.std.specs.Prelude.{
   ℕ,
   List,
   IsTrue,
+  true,
   length,
   reverse,
   OnOk,
@@ -17,7 +18,7 @@ ghost use Rattle.std.specs.Prelude.{
   IfNone,
 };
 ghost use Rattle.std.specs.Str.{bytes_eq};
-ghost use Rattle.pro_dir.specs.Entry.{name_of};
+ghost use Rattle.pro_dir.specs.Entry.{is_directory, name_of};
 ghost use Rattle.pro_dir.specs.Letters.{taken};
 ghost use Rattle.pro_dir.specs.Listed.{directory_of};
 ghost use Rattle.pro_dir.specs.Parents.{entry_in, parent_of as parent_in};
@@ -75,11 +76,20 @@ fn without_name<'a>(path: &'a [u8], name: &[u8], letters: Letters) -> Option<&'a
 }
 
 impl<A: Allocator> VolumeDir<A> {
-    // The entry of the directory in which an entry stands, if that is not the volume's.
-    fn parent(&self, entry: u32) -> Option<u32>
+    /// The entry of the directory in which an entry stands, if that is not the volume's. It stands before the entry, and
+    /// the entry's path is its path, a slash and the entry's own name; the path of an entry of the volume's directory is
+    /// its own name.
+    pub fn parent(&self, entry: u32) -> Option<u32>
         requires { entry < length (directory_of self.now).entries }
         ensures value { result ≡ parent_in (directory_of self.now).entries entry }
         ensures before { IfSome result (λ parent. parent < entry) }
+        ensures directory { IfSome result (λ parent.
+            is_directory (entry_in (directory_of self.now).entries parent) ≡ true) }
+        ensures below { IfSome result (λ parent. path_of (directory_of self.now).entries entry
+            ≡ path_of (directory_of self.now).entries parent
+            ++ 0x2f ∷ name_of (entry_in (directory_of self.now).entries entry).bytes) }
+        ensures top { IfNone result (path_of (directory_of self.now).entries entry
+            ≡ name_of (entry_in (directory_of self.now).entries entry).bytes) }
     {
         parent_of(self.entries.as_slice(), self.directories.as_slice(), entry)
     }
