@@ -1,6 +1,6 @@
 # make            builds the proved program to ./a2shop
 # make demo       builds it; identifies, lists, compares, draws, checks, plans and optimizes a DOS sample, in place too, and lists it again, from disk bytes too;
-#                 saves a file to it and reads it back; locks, unlocks, renames and deletes files; checks, plans and optimizes a ProDOS sample, lists it before and after, and verifies the plan
+#                 takes all files out of a ProDOS sample, saves a file to a DOS one and reads it back; locks, unlocks, renames and deletes files; checks, plans and optimizes a ProDOS sample, lists it before and after, and verifies the plan
 # make test       runs the gate (the proofs from nothing, the must-fail edits), all tests, and the end-to-end tests
 # make assure     tries the further edits, crates/*/assure, that the prover must refuse; each run of the gate tries a share
 # make install    copies the program that was built, its manual page and the completions of the shells to $(PREFIX), and proves nothing
@@ -25,6 +25,7 @@ demo: a2shop
 	./a2shop compare samples/hello.dsk samples/hello.po --all
 	./a2shop map samples/hello.dsk
 	./a2shop check samples/hello.dsk --fs dos --order dos
+	rm -rf demo.files && ./a2shop extract samples/work.po --into demo.files
 	./a2shop read samples/hello.dsk HELLO --fs dos --order dos | od -A n -t x1
 	./a2shop save samples/hello.dsk NOTE --fs dos --order dos --from samples/README.md --type B --aux 768 --out demo.dsk
 	./a2shop catalog demo.dsk --fs dos --order dos
@@ -58,7 +59,7 @@ demo: a2shop
 	./a2shop optimize samples/work.po --fs prodos --order prodos --out demo.po
 	./a2shop catalog demo.po --fs prodos --order prodos
 	./a2shop check demo.po --fs prodos --order prodos
-	rm -f demo.dsk demo.nib demo.po demo.cert
+	rm -rf demo.dsk demo.nib demo.po demo.cert demo.files
 
 test:
 	bash tests/run

@@ -3,7 +3,7 @@ _a2shop() {
   local word=${COMP_WORDS[COMP_CWORD]} before=${COMP_WORDS[COMP_CWORD-1]}
   COMPREPLY=()
   if [ "$COMP_CWORD" -eq 1 ]; then
-    mapfile -t COMPREPLY < <(compgen -W "catalog list compare map check read convert plan optimize lock unlock delete rename save verify identify help --help --version" -- "$word")
+    mapfile -t COMPREPLY < <(compgen -W "catalog list compare map check read extract convert plan optimize lock unlock delete rename save verify identify help --help --version" -- "$word")
     return
   fi
   case "${COMP_WORDS[1]} $before" in
@@ -25,6 +25,11 @@ _a2shop() {
     'check --reserve') return ;;
     'read --fs') mapfile -t COMPREPLY < <(compgen -W "auto dos prodos" -- "$word"); return ;;
     'read --order') mapfile -t COMPREPLY < <(compgen -W "auto dos prodos nibble" -- "$word"); return ;;
+    'extract --fs') mapfile -t COMPREPLY < <(compgen -W "auto dos prodos" -- "$word"); return ;;
+    'extract --order') mapfile -t COMPREPLY < <(compgen -W "auto dos prodos nibble" -- "$word"); return ;;
+    'extract --into') return ;;
+    'extract --names') return ;;
+    'extract --most') return ;;
     'convert --order') mapfile -t COMPREPLY < <(compgen -W "auto dos prodos nibble" -- "$word"); return ;;
     'convert --to') mapfile -t COMPREPLY < <(compgen -W "dos prodos nibble" -- "$word"); return ;;
     'convert --out') mapfile -t COMPREPLY < <(compgen -f -- "$word"); return ;;
@@ -78,6 +83,7 @@ _a2shop() {
     map) mapfile -t COMPREPLY < <(compgen -W "--fs --order --data-disk --reserve --auto --explain --help" -- "$word") ;;
     check) mapfile -t COMPREPLY < <(compgen -W "--fs --order --bodies --data-disk --reserve --auto --explain --help" -- "$word") ;;
     read) mapfile -t COMPREPLY < <(compgen -W "--fs --order --whole --data-disk --stored --auto --explain --help" -- "$word") ;;
+    extract) mapfile -t COMPREPLY < <(compgen -W "--fs --order --into --names --most --data-disk --auto --explain --help" -- "$word") ;;
     convert) mapfile -t COMPREPLY < <(compgen -W "--order --to --out --volume --data-disk --auto --explain --help" -- "$word") ;;
     plan) mapfile -t COMPREPLY < <(compgen -W "--fs --order --data-disk --reserve --reclaim --words --auto --explain --help" -- "$word") ;;
     optimize) mapfile -t COMPREPLY < <(compgen -W "--fs --order --out --in-place --data-disk --reserve --reclaim --stop-after --cert --auto --explain --help" -- "$word") ;;

@@ -448,10 +448,10 @@ class ProVolume(Volume):
             raise Faulty("DirLink", self.place_text(holder))
 
     def read_tree(self):
-        """The entries in directory order, a directory's own behind it."""
-        waiting = [(b"", iter(self.read_directory(2)))]
+        """The entries in directory order, a directory's own behind it, and of each the number of its directory's entry or None."""
+        waiting, self.above = [(b"", None, iter(self.read_directory(2)))], []
         while waiting:
-            above, entries = waiting[-1]
+            above, number, entries = waiting[-1]
             item = next(entries, None)
             if item is None:
                 waiting.pop()
@@ -459,10 +459,11 @@ class ProVolume(Volume):
             holder, raw = item
             path = above + raw[1:1 + raw[0] % 16]
             self.entries.append(Entry(len(self.entries), holder, raw, path))
+            self.above.append(number)
             if raw[0] >> 4 == 0xD:
                 key = word(raw, 0x11)
                 self.check_header(key, holder)
-                waiting.append((path + b"/", iter(self.read_directory(key))))
+                waiting.append((path + b"/", len(self.entries) - 1, iter(self.read_directory(key))))
 
     def check_header(self, key, holder):
         self.may_be_directory(key, holder)

@@ -40,6 +40,18 @@ static int stops(void) {
 STOPPED_OPEN(open)
 STOPPED_OPEN(open64)
 
+#define STOPPED_OPEN_AT(name) \
+  int name(int folder, const char *path, int flags, ...) { \
+    va_list more; \
+    va_start(more, flags); \
+    mode_t mode = va_arg(more, mode_t); \
+    va_end(more); \
+    NEXT(int, #name); \
+    return stops() ? -1 : next(folder, path, flags, mode); \
+  }
+STOPPED_OPEN_AT(openat)
+STOPPED_OPEN_AT(openat64)
+
 #define STOPPED(type, name, parameters, ...) \
   type name parameters { \
     NEXT(type, #name); \
@@ -55,6 +67,11 @@ STOPPED(int, lchown, (const char *path, uid_t owner, gid_t group), path, owner, 
 STOPPED(ssize_t, readlink, (const char *path, char *to, size_t count), path, to, count)
 STOPPED(int, rename, (const char *from, const char *to), from, to)
 STOPPED(int, unlink, (const char *path), path)
+STOPPED(int, unlinkat, (int folder, const char *path, int flags), folder, path, flags)
+STOPPED(int, rmdir, (const char *path), path)
+STOPPED(int, mkdir, (const char *path, mode_t mode), path, mode)
+STOPPED(int, chmod, (const char *path, mode_t mode), path, mode)
+STOPPED(int, fstatat, (int folder, const char *path, struct stat *found, int flags), folder, path, found, flags)
 STOPPED(int, fchmod, (int file, mode_t mode), file, mode)
 STOPPED(int, stat, (const char *path, struct stat *found), path, found)
 STOPPED(int, lstat, (const char *path, struct stat *found), path, found)

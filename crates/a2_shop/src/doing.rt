@@ -77,8 +77,8 @@ fn reply_of_units(rt: &HostRuntime, job: &Job, inputs: &mut Inputs) -> Option<Re
     }
 }
 
-// The most bytes that are read of an image, but for one that shows that there are more.
-fn most_of(job: &Job) -> u32 {
+/// The most bytes that are read of an image, but for one that shows that there are more.
+pub fn most_of(job: &Job) -> u32 {
     let order = match image_order(job) {
         Some(order) => order,
         None => Order::Prodos,

@@ -2,7 +2,9 @@
 use crate::asking::is_auto;
 use crate::stop::Stop;
 use shop_files::{Found, JobFiles, OpenImage, extra_bytes, is_in_its_file};
-use shop_jobs::{Job, certificate_path, is_in_place, is_on_standard_input, out_path, volume_of};
+use shop_jobs::{
+    Job, certificate_path, into_path, is_in_place, is_on_standard_input, out_path, volume_of,
+};
 use shop_replies::{Failure, Refusal, Side};
 
 /// The image of a job, open, and its bytes where all of them were read, and those of a file beside
@@ -33,6 +35,7 @@ fn note_paths(rt: &HostRuntime, job: &Job, found: &mut Found) {
         found.path = job.image.as_str().to_string(rt.alloc()).ok();
         found.out = copy_of(rt, out_path(job));
         found.certificate = copy_of(rt, certificate_path(job));
+        found.folder = copy_of(rt, into_path(job));
     }
 }
 

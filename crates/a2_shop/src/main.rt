@@ -4,13 +4,15 @@
 //! `stages.rt` is the program as a line of stages: its words, the job that they ask for, the inputs
 //! of the job opened, the job settled where a word is `auto`, the job done, its files ended and its
 //! answer told. Each stage has its file: `words.rt`, `asking.rt`, `inputs.rt`, `settling.rt`,
-//! `doing.rt` and `ending.rt`; `stop.rt` has what ends the line early. `streams.rt` takes the
+//! `doing.rt` and `ending.rt`; a job that makes a folder is done and ended in `extracting.rt`, and
+//! `stop.rt` has what ends the line early. `streams.rt` takes the
 //! descriptors of closed streams, so that no file gets one.
 #![tactic(auto)]
 
 mod asking;
 mod doing;
 mod ending;
+mod extracting;
 mod inputs;
 mod settling;
 mod stages;

@@ -2,12 +2,14 @@
 use crate::asking::asked_job;
 use crate::doing::{Done, do_job, fault_files, is_content};
 use crate::ending::{Outputs, end, explain_answer};
+use crate::extracting::extract_job;
 use crate::inputs::{Inputs, files_of, open_inputs};
 use crate::settling::settled_job;
 use crate::stop::Stop;
 use crate::streams::take_closed_streams;
 use crate::words::{VERSION, greet, told_fault, words_of};
 use explanations::Overheard;
+use shop_commands::extracts;
 use shop_files::{Ending, Found, JobFiles};
 use shop_jobs::Job;
 use shop_replies::{Failure, Reply, written};
@@ -123,6 +125,9 @@ fn finish_job<T: Write>(
     found: &mut Found,
     text: &mut T,
 ) -> Result<Ending, Stop> {
+    if extracts(job) {
+        return extract_job(rt, job, inputs, text);
+    }
     let mut outputs = Outputs::of(rt, files);
     match do_job(rt, job, inputs, &mut outputs.certificate) {
         Ok(done) => {

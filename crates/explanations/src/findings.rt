@@ -123,7 +123,8 @@ pub static FINDINGS: [Explanation; 30] = [
         front: "UNREADABLE",
         meaning: "This can't be read from the image: with `check --bodies` a sector or block of an accepted volume, \
             whose place comes first, with the path of the file behind it; with `compare` a file of the first image or \
-            of the second, whose number comes first.",
+            of the second, whose number comes first; with `extract` a file of which nothing was written, by the name \
+            that it would have in the folder.",
         advice: "Take the other files off the image, and look for another copy of the disk. `a2shop list --digests` \
             tells a digest of each file that can be read as a whole, and `a2shop check` the faults of the volume.",
     },

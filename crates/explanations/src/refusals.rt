@@ -2,7 +2,7 @@
 use crate::explanation::Explanation;
 
 /// The explanations of a job that is not done: refusals and failures.
-pub static REFUSALS: [Explanation; 23] = [
+pub static REFUSALS: [Explanation; 25] = [
     Explanation {
         front: "REFUSED InPlace",
         meaning: "This image is not changed in its own file. That is done where the units of the volume stand in the \
@@ -102,11 +102,25 @@ pub static REFUSALS: [Explanation; 23] = [
         advice: "Take a file off a copy of the disk, or name fewer places behind `--reserve`, and try again.",
     },
     Explanation {
+        front: "REFUSED Folder",
+        meaning: "The files are put into a new folder, and none can be made at this path: something stands there that \
+            is no empty folder, a link too; or the path is empty, or ends in `.` or `..`. Nothing was written.",
+        advice: "Name a folder behind `--into` that is not there yet, or an empty one.",
+    },
+    Explanation {
+        front: "REFUSED TooDeep",
+        meaning: "A file or a directory of the volume stands in more than 64 directories, or its path in the folder \
+            would have more than 1,024 bytes. No volume that was filled on a real machine has such files: ProDOS takes \
+            paths of 64 characters and a prefix. Nothing was written.",
+        advice: "Run `a2shop check`: the volume is often damaged, or the order is the wrong one. `a2shop read` still \
+            takes out one file.",
+    },
+    Explanation {
         front: "REFUSED TooLarge",
-        meaning: "The files of the volume that are read, and the units of the parts that are told, have more bytes in \
-            all than `--most` allows, or than 1,073,741,824 where it is left out. A file of ProDOS may have many bytes \
-            of which the volume holds none, and the files of a damaged volume may share their parts.",
-        advice: "Give a greater number behind `--most`, or leave `--digests` and `--places` out.",
+        meaning: "The files of the volume that are read or written, and the units of the parts that are told, have \
+            more bytes in all than `--most` allows, or than 1,073,741,824 where it is left out. A file of ProDOS may \
+            have many bytes of which the volume holds none, and the files of a damaged volume may share their parts.",
+        advice: "Give a greater number behind `--most`; of a list leave `--digests` and `--places` out.",
     },
     Explanation {
         front: "REFUSED InputTooLong",

@@ -6,7 +6,7 @@ use Rattle.std.specs.Io.KnownBytes.{Appends, Keeps}
 use Rattle.std.specs.Prelude.{◌⊎◌, Option, Some, None, IfSome, codes}
 use Rattle.a2_device.specs.declared.order.Order.{Order}
 use Rattle.shop_changes.specs.GivenFile.{GivenView, most_input}
-use Rattle.shop_jobs.specs.Job.{AskView, AttributesView, ChangeOf, ChangeView, Convert, EditOf, EditView, Identify, JobView, LookAt, Catalog, Entries, Check, Map, Compare, Read, Plan, Verify, Optimize, Save}
+use Rattle.shop_jobs.specs.Job.{AskView, AttributesView, ChangeOf, ChangeView, Convert, EditOf, EditView, ExtractFrom, Identify, JobView, LookAt, Catalog, Entries, Check, Map, Compare, Read, Plan, Verify, Optimize, Save}
 use Rattle.shop_jobs.specs.Paths.{from_of, is_in_place}
 use Rattle.shop_jobs.specs.declared.job.FileSystem.{FileSystem}
 use Rattle.shop_jobs.specs.declared.job.VolumeOptions.{VolumeOptions}
@@ -87,6 +87,7 @@ reply-whole (LookAt volume reserve look) image more bytes reply taken looked = r
       (volume-whole volume reserve image (λ (reserved : List Bool). IsLookReply look more (shown_by volume reserved)) looked.plain looked.is);
   told = looked.told;
 }
+reply-whole (ExtractFrom volume options into) image more bytes reply taken is = is
 reply-whole (ChangeOf volume reserve change target) image more bytes reply taken (inl refused) = inl refused
 reply-whole (ChangeOf volume reserve change target) image more bytes reply taken (inr (work, asks, told)) =
     inr (asked-whole volume reserve image change more bytes reply taken work asks
@@ -129,6 +130,7 @@ unread_not_made (LookAt volume reserve (Compare other options)) side failure mad
 unread_not_made (LookAt volume reserve (Read name whole)) side failure made = false≢true made
 unread_not_made (LookAt volume reserve (Plan reclaim in_words)) side failure made = false≢true made
 unread_not_made (LookAt volume reserve (Verify from reclaim)) side failure made = false≢true made
+unread_not_made (ExtractFrom volume options into) side failure made = false≢true made
 unread_not_made (ChangeOf volume reserve change target) side failure made = false≢true made
 unread_not_made (Convert words) side failure made = false≢true made
 unread_not_made Identify side failure made = false≢true made
@@ -146,6 +148,7 @@ makes_image (LookAt volume reserve look) image more reply outside looked made =
     absurd (volume_not_made volume reserve image (λ (reserved : List Bool). IsLookReply look more (shown_by volume reserved)) looked.plain
     (λ reserved device. look_not_made look more (shown_by volume reserved) device looked.plain) looked.is
     (sided_made look looked.plain (subst (λ (r : Reply). IsMade r) looked.told made)))
+makes_image (ExtractFrom volume options into) image more reply outside is made = absurd (refused_not_made refusals.Folder reply is made)
 makes_image (ChangeOf volume reserve change target) image more reply outside is made = outside
 
 -- an edit that makes an image answers with it, and hands it out with `OK`
@@ -176,6 +179,7 @@ hands_for Identify image more reply status old new is made out = (reply, made, o
 hands_for (Convert words) image more reply status old new is made out =
     ok_handed reply status old new (converted_image words.order words.to words.volume image reply is made) out
 hands_for (LookAt volume reserve look) image more reply status old new is made out = (reply, made, out)
+hands_for (ExtractFrom volume options into) image more reply status old new is made out = (reply, made, out)
 hands_for (ChangeOf volume reserve (Optimize reclaim stop_after cert) target) image more reply status old new is made out = (reply, made, out)
 hands_for (ChangeOf volume reserve (EditOf name edit) target) image more reply status old new (inl (refusal, told, refuses)) made out = absurd refuses
 hands_for (ChangeOf volume reserve (EditOf name edit) target) image more reply status old new (inr (work, asks, told)) made out =

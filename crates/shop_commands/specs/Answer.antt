@@ -1,5 +1,5 @@
 -- What the program answers to a job on an image, and to words.
-use Rattle.std.specs.Prelude.{◌≡◌, ◌⊎◌, ℕ, Bool, true, false, List, [], Option, Some, None, IfSome, IsSome, codes, string_bytes, unwrap_or}
+use Rattle.std.specs.Prelude.{◌≡◌, ◌⊎◌, ℕ, true, false, List, [], Option, Some, None, IfSome, IsSome, codes, string_bytes, unwrap_or}
 use Rattle.std.specs.Io.KnownBytes.{Appends, Keeps}
 use Rattle.a2_device.specs.declared.order.Order.{Order}
 use Rattle.a2_device.specs.declared.order.Order.TheVariants as orders
@@ -9,7 +9,7 @@ use Rattle.shop_changes.specs.GivenWords.{dos_head, dos_kind, pro_kind}
 use Rattle.shop_changes.specs.declared.given_file.Head.{Head}
 use Rattle.shop_changes.specs.declared.given_file.Head.TheVariants as heads
 use Rattle.pro_dates.specs.SaidDates.{IsDateOf, NamesDate}
-use Rattle.shop_jobs.specs.Job.{AskView, AttributesView, Catalog, ChangeOf, ChangeView, Compare, Convert, EditOf, Identify, JobView, LookAt, Optimize, Save}
+use Rattle.shop_jobs.specs.Job.{AskView, AttributesView, Catalog, ChangeOf, ChangeView, Compare, Convert, EditOf, ExtractFrom, Identify, JobView, LookAt, Optimize, Save}
 use Rattle.shop_jobs.specs.Paths.{from_of, is_in_place, named_order_of}
 use Rattle.shop_jobs.specs.declared.job.FileSystem.{FileSystem}
 use Rattle.shop_jobs.specs.declared.job.FileSystem.TheVariants as systems
@@ -90,11 +90,13 @@ RefusesWords volume change refusal = ⊥
 -- ---- what is told
 
 -- What is told of each job on these bytes of an image, with these bytes of the file beside it: of a look what it tells of
--- the volume; of a change that its words are refused, or what the work that it asks for tells of the volume.
+-- the volume; of an extraction that there is no folder; of a change that its words are refused, or what the work that it
+-- asks for tells of the volume.
 abbrev pub IsReplyToBytes : AskView → List ℕ → List ℕ → Reply → Type 0
 IsReplyToBytes Identify image extra reply = IsIdentifyReply image reply
 IsReplyToBytes (Convert words) image extra reply = IsConvertReply words.order words.to words.volume image reply
 IsReplyToBytes (LookAt volume reserve look) image extra reply = IsImageLook look extra volume reserve image reply
+IsReplyToBytes (ExtractFrom volume options into) image extra reply = reply ≡ refused refusals.Folder
 IsReplyToBytes (ChangeOf volume reserve change target) image extra reply =
     ((refusal : Refusal) × (reply ≡ refused refusal) × RefusesWords volume change refusal)
     ⊎ ((work : WorkView) × AsksFor volume change extra work
@@ -127,6 +129,11 @@ abbrev pub ReadsVolume : AskView → Type 0
 ReadsVolume (LookAt volume reserve look) = Unit {0}
 ReadsVolume ask = ⊥
 
+-- the job puts the files of its volume into a folder
+abbrev pub ExtractsVolume : AskView → Type 0
+ExtractsVolume (ExtractFrom volume options into) = Unit {0}
+ExtractsVolume ask = ⊥
+
 -- the job changes a volume
 abbrev pub ChangesVolume : AskView → Type 0
 ChangesVolume (ChangeOf volume reserve change target) = Unit {0}
@@ -137,6 +144,7 @@ abbrev pub MakesImage : AskView → Type 0
 MakesImage Identify = ⊥
 MakesImage (Convert words) = Unit {0}
 MakesImage (LookAt volume reserve look) = ⊥
+MakesImage (ExtractFrom volume options into) = ⊥
 MakesImage (ChangeOf volume reserve change target) = is_in_place (ChangeOf volume reserve change target) ≡ false
 
 -- the image of a job is handed out, once its text is told: `OK` for a conversion, an edit or a saving, else that of the

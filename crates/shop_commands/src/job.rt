@@ -10,6 +10,7 @@ ghost use Rattle.shop_commands.specs.Answer.{
   IsDosCatalogAnswer,
   IsInPlaceAnswer,
   IsReplyToBytes,
+  ExtractsVolume,
   IsStatus,
   MakesImage,
   ReadsExtra,
@@ -74,7 +75,15 @@ pub fn only_reads(job: &Job) -> bool
     matches!(&job.ask, Ask::Look { .. })
 }
 
-/// The reply to a job on the bytes of its image, and on those of a file beside it.
+/// Whether a job puts the files of its volume into a folder.
+pub fn extracts(job: &Job) -> bool
+    ensures { IsTrue result ↔ ExtractsVolume (ask_view job.now.ask) }
+{
+    matches!(&job.ask, Ask::Extract { .. })
+}
+
+/// The reply to a job on the bytes of its image, and on those of a file beside it. A job that puts files into a folder
+/// is refused with `Folder`: here there is none.
 pub fn reply_to(alloc: Global, job: &Job, image: Vec<u8>, extra: Vec<u8>) -> Reply
     ensures { IsReplyToBytes (ask_view job.now.ask) image.items extra.items result }
 {
@@ -91,6 +100,7 @@ pub fn reply_to(alloc: Global, job: &Job, image: Vec<u8>, extra: Vec<u8>) -> Rep
             reserve,
             look,
         } => image_look(alloc, look, extra, image, *volume, reserve.as_deref()),
+        Ask::Extract { .. } => Reply::refused(Refusal::Folder),
         Ask::Change {
             volume,
             reserve,

@@ -16,12 +16,15 @@
 #![tactic(auto)]
 
 mod command;
+mod extracting;
 mod input;
 mod job;
 mod on_device;
+mod telling;
 mod work;
 
 pub use command::{job_of_words, run_command, tell_words_fault};
-pub use job::{only_reads, reply_to, run_job, unread_reply};
+pub use extracting::{NotExtracted, extract_on_device};
+pub use job::{extracts, only_reads, reply_to, run_job, unread_reply};
 pub use on_device::{read_job_on_device, run_job_in_place};
 pub use work::change_work;

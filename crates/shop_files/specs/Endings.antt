@@ -69,6 +69,7 @@ nothing_found = record {
   path = None;
   out = None;
   certificate = None;
+  folder = None;
   order = None;
   bytes = None;
   fault = None;

@@ -21,6 +21,8 @@ pub enum Unwritten {
     CertificateBeforeImage,
     /// The file of the certificate, after an image was changed where it stands.
     CertificateAfterImage,
+    /// The new folder. What stood at its path stands.
+    Folder,
 }
 
 /// How a job ended: its status, and what could not be written, if that was the end.

@@ -31,6 +31,8 @@ pub struct Found {
     pub out: Option<String>,
     /// The path of the certificate's file.
     pub certificate: Option<String>,
+    /// The path of the new folder.
+    pub folder: Option<String>,
     /// The order that the job names for its image.
     pub order: Option<Order>,
     /// How many bytes were read of the image.
@@ -55,6 +57,7 @@ impl Found {
             path: None,
             out: None,
             certificate: None,
+            folder: None,
             order: None,
             bytes: None,
             fault: None,
@@ -195,8 +198,15 @@ fn unwritten_text(unwritten: Unwritten) -> &'static str {
         Unwritten::CertificateAfterImage => {
             "it could not be written. The image was changed in its own file."
         }
+        Unwritten::Folder => "it could not be written. What stood there stands.",
     }
 }
+
+/// What may be in the way of a new folder.
+const IN_THE_WAY_OF_A_FOLDER: &str =
+    "A folder is first filled under another name in the same place, one that ends in `.new`. Look whether the folder \
+    around it is there and may be written to, whether the disk has room and takes such names, and, where an empty \
+    folder stands there, whether you may fill it. Folders that end in `.new` and were left behind may be deleted.";
 
 /// What may be in the way of an output file.
 const IN_THE_WAY: &str =
@@ -237,6 +247,10 @@ fn tell_unwritten(rt: &HostRuntime, found: &Found) -> io::Result<()> {
         Unwritten::Certificate
         | Unwritten::CertificateBeforeImage
         | Unwritten::CertificateAfterImage => &found.certificate,
+        Unwritten::Folder => {
+            let name = shown(rt, &found.folder)?;
+            return eprintln!(rt; "{name}: {text} {IN_THE_WAY_OF_A_FOLDER}");
+        }
     };
     let name = shown(rt, path)?;
     eprintln!(rt; "{name}: {text} {IN_THE_WAY}")

@@ -4,6 +4,7 @@ use Rattle.a2_device.specs.declared.order.Order.{Order}
 use Rattle.shop_jobs.specs.declared.job.VolumeOptions.{VolumeOptions}
 use Rattle.shop_jobs.specs.declared.job.ListOptions.{ListOptions}
 use Rattle.shop_jobs.specs.declared.job.CompareOptions.{CompareOptions}
+use Rattle.shop_jobs.specs.declared.job.ExtractOptions.{ExtractOptions}
 use Rattle.shop_jobs.specs.declared.job.FileName.{FileName}
 use Rattle.shop_jobs.specs.declared.job.FileName.TheVariants as names
 use Rattle.shop_jobs.specs.declared.job.Edit.{Edit}
@@ -106,11 +107,12 @@ pub record ConversionView : Type 0 where
   pub out : Text
   pub volume : ℕ
 
--- what is asked
+-- what is asked: of an extraction how it is made, and the path of the folder
 pub data AskView : Type 0 where
   Identify : AskView
   Convert : ConversionView → AskView
   LookAt : VolumeOptions → Option Text → LookView → AskView
+  ExtractFrom : VolumeOptions → ExtractOptions → Text → AskView
   ChangeOf : VolumeOptions → Option Text → ChangeView → TargetView → AskView
 
 abbrev pub ask_view : Ask → AskView
@@ -118,6 +120,7 @@ ask_view asks.Identify = Identify
 ask_view (asks.Convert order to out volume) =
     Convert (record { order = order; to = to; out = string_bytes out; volume = volume })
 ask_view (asks.Look volume reserve look) = LookAt volume (option_map string_bytes reserve) (look_view look)
+ask_view (asks.Extract volume options into) = ExtractFrom volume options (string_bytes into)
 ask_view (asks.Change volume reserve change target) =
     ChangeOf volume (option_map string_bytes reserve) (change_view change) (target_view target)
 

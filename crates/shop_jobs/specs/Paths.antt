@@ -7,6 +7,7 @@ use Rattle.shop_jobs.specs.Job.{
   ChangeOf,
   Compare,
   Convert,
+  ExtractFrom,
   Identify,
   InPlace,
   JobView,
@@ -35,7 +36,13 @@ abbrev pub out_of : AskView → Option Text
 out_of (Convert words) = Some words.out
 out_of (ChangeOf volume reserve change target) = file_of target
 out_of (LookAt volume reserve look) = None
+out_of (ExtractFrom volume options into) = None
 out_of Identify = None
+
+-- the path of the folder that a job makes
+abbrev pub into_of : AskView → Option Text
+into_of (ExtractFrom volume options into) = Some into
+into_of ask = None
 
 -- the path of the file that a job writes its certificate to
 abbrev pub certificate_of : AskView → Option Text
@@ -59,6 +66,7 @@ is_in_place ask = false
 -- what a job reads its image as; none of a job that wants no file system
 abbrev pub volume_of : AskView → Option VolumeOptions
 volume_of (LookAt volume reserve look) = Some volume
+volume_of (ExtractFrom volume options into) = Some volume
 volume_of (ChangeOf volume reserve change target) = Some volume
 volume_of (Convert words) = None
 volume_of Identify = None
@@ -66,6 +74,7 @@ volume_of Identify = None
 -- the places that a job reserves, as its words name them
 abbrev pub reserve_of : AskView → Option Text
 reserve_of (LookAt volume reserve look) = reserve
+reserve_of (ExtractFrom volume options into) = None
 reserve_of (ChangeOf volume reserve change target) = reserve
 reserve_of (Convert words) = None
 reserve_of Identify = None
@@ -73,6 +82,7 @@ reserve_of Identify = None
 -- the order that a job names for its image
 abbrev pub named_order_of : AskView → Option Order
 named_order_of (LookAt volume reserve look) = Some volume.order
+named_order_of (ExtractFrom volume options into) = Some volume.order
 named_order_of (ChangeOf volume reserve change target) = Some volume.order
 named_order_of (Convert words) = Some words.order
 named_order_of Identify = None

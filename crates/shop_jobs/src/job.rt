@@ -1,5 +1,6 @@
 // What the workshop is asked for.
 use a2_device::Order;
+use host_folders::Naming;
 
 /// The file system of a volume, `--fs`.
 #[derive(Clone, Copy, Debug, PartialEq, Eq)]
@@ -96,6 +97,15 @@ pub struct CompareOptions {
     pub most: u64,
 }
 
+/// How the files of a volume are put into a folder.
+#[derive(Clone, Copy, Debug, PartialEq, Eq)]
+pub struct ExtractOptions {
+    /// Whether the type and the aux type of a file stand in its name.
+    pub naming: Naming,
+    /// How many bytes the files that are written may have in all.
+    pub most: u64,
+}
+
 /// What is asked of a volume that is only read.
 #[derive(Debug, PartialEq, Eq, Drop)]
 pub enum Look {
@@ -189,6 +199,13 @@ pub enum Ask {
         /// The places that are kept for the system beside its own, as the words name them.
         reserve: Option<String>,
         look: Look,
+    },
+    /// The files of the image's volume in a new folder.
+    Extract {
+        volume: VolumeOptions,
+        options: ExtractOptions,
+        /// The path of the folder.
+        into: String,
     },
     /// A change of the image's volume.
     Change {

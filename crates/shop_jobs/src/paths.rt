@@ -7,6 +7,7 @@ ghost use Rattle.shop_jobs.specs.Paths.{
   certificate_of,
   file_of,
   from_of,
+  into_of,
   is_in_place as goes_in_place,
   named_order_of,
   out_of,
@@ -84,7 +85,17 @@ pub fn out_path(job: &Job) -> Option<&str>
     match &job.ask {
         Ask::Convert { out, .. } => Some(out.as_str()),
         Ask::Change { target, .. } => file_of(target),
-        Ask::Identify | Ask::Look { .. } => None,
+        Ask::Identify | Ask::Look { .. } | Ask::Extract { .. } => None,
+    }
+}
+
+/// The path of the folder that a job makes.
+pub fn into_path(job: &Job) -> Option<&str>
+    ensures { option_map (λ s. s.now) result ≡ into_of (ask_view job.now.ask) }
+{
+    match &job.ask {
+        Ask::Extract { into, .. } => Some(into.as_str()),
+        _ => None,
     }
 }
 
@@ -106,7 +117,9 @@ pub fn volume_of(job: &Job) -> Option<VolumeOptions>
     ensures { result ≡ read_as (ask_view job.now.ask) }
 {
     match &job.ask {
-        Ask::Look { volume, .. } | Ask::Change { volume, .. } => Some(*volume),
+        Ask::Look { volume, .. } | Ask::Extract { volume, .. } | Ask::Change { volume, .. } => {
+            Some(*volume)
+        }
         Ask::Identify | Ask::Convert { .. } => None,
     }
 }
@@ -117,7 +130,7 @@ pub fn reserve_of(job: &Job) -> Option<&str>
 {
     match &job.ask {
         Ask::Look { reserve, .. } | Ask::Change { reserve, .. } => reserve.as_deref(),
-        Ask::Identify | Ask::Convert { .. } => None,
+        Ask::Identify | Ask::Convert { .. } | Ask::Extract { .. } => None,
     }
 }
 
@@ -126,7 +139,9 @@ pub fn image_order(job: &Job) -> Option<Order>
     ensures { result ≡ named_order_of (ask_view job.now.ask) }
 {
     match &job.ask {
-        Ask::Look { volume, .. } | Ask::Change { volume, .. } => Some(volume.order),
+        Ask::Look { volume, .. } | Ask::Extract { volume, .. } | Ask::Change { volume, .. } => {
+            Some(volume.order)
+        }
         Ask::Convert { order, .. } => Some(*order),
         Ask::Identify => None,
     }

@@ -29,4 +29,4 @@ pub use opening::{device_of, form_of, open_volume};
 pub use reading::{most_beside, read_front};
 pub use refusal::{Failure, Refusal, Side};
 pub use reply::{FAILED, Reply, Status, Told};
-pub use writing::written;
+pub use writing::{write_whole, written};

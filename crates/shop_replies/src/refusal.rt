@@ -33,7 +33,11 @@ pub enum Refusal {
     VolumeFull,
     /// Some part is misplaced, and each place has a part.
     NoFreePlace,
-    /// The files that are read have too many bytes in all.
+    /// No new folder can stand at the path: something does that is no empty folder, or it names none.
+    Folder,
+    /// An entry stands in too many directories, or its path on the host is too long.
+    TooDeep,
+    /// The files that are read or written have too many bytes in all.
     TooLarge,
     /// The file that is read beside the image is too long.
     InputTooLong,
@@ -90,6 +94,8 @@ impl Refusal {
             Refusal::DirFull => b"REFUSED DirFull\n",
             Refusal::VolumeFull => b"REFUSED VolumeFull\n",
             Refusal::NoFreePlace => b"REFUSED NoFreePlace\n",
+            Refusal::Folder => b"REFUSED Folder\n",
+            Refusal::TooDeep => b"REFUSED TooDeep\n",
             Refusal::TooLarge => b"REFUSED TooLarge\n",
             Refusal::InputTooLong => b"REFUSED InputTooLong\n",
             Refusal::NoSector => b"REFUSED NoSector\n",

@@ -23,8 +23,8 @@ pub fn written<W: Write>(bytes: &[u8], status: u8, writer: &mut W) -> u8
     status
 }
 
-// Writes bytes to the last, or as many as the writer takes, and answers whether it took all.
-pub(crate) fn write_whole<W: Write>(bytes: &[u8], writer: &mut W) -> bool
+/// Writes bytes to the last, or as many as the writer takes, and answers whether it took all.
+pub fn write_whole<W: Write>(bytes: &[u8], writer: &mut W) -> bool
     ensures whole { IsTrue result → Appends (W.contents writer.old) (W.contents writer.new) bytes.now }
     ensures front { AppendsFront (W.contents writer.old) (W.contents writer.new) bytes.now }
 {

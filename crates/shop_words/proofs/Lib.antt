@@ -19,6 +19,7 @@ pub mod CompareLine
 pub mod MapLine
 pub mod CheckLine
 pub mod ReadLine
+pub mod ExtractLine
 pub mod ConvertLine
 pub mod PlainTable
 pub mod AskedLemmas

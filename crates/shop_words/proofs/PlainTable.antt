@@ -4,7 +4,7 @@ use Rattle.std.proofs.lemmas.List.Elements.{All-contains, All-cons}
 use Rattle.clap.specs.Faults.{is_simple_and_free}
 use Rattle.clap.specs.Simple.{is_simple, subcommand_of}
 use Rattle.clap.specs.Takes.{takes}
-use Rattle.shop_words.specs.Table.{Text, FormView, catalog_form, list_form, compare_form, map_form, check_form, read_form, convert_form, plan_form, optimize_form, lock_form, unlock_form, delete_form, rename_form, save_form, verify_form, identify_form, forms}
+use Rattle.shop_words.specs.Table.{Text, FormView, catalog_form, list_form, compare_form, map_form, check_form, read_form, extract_form, convert_form, plan_form, optimize_form, lock_form, unlock_form, delete_form, rename_form, save_form, verify_form, identify_form, forms}
 use Rattle.shop_words.specs.Grammar.{shop}
 use Rattle.shop_words.specs.Plain.{Use, IsPlainLine, line_words}
 use Rattle.shop_jobs.specs.Job.{Lock, Unlock, Delete}
@@ -18,6 +18,7 @@ use Rattle.shop_words.proofs.CompareLine.{compare_defaults, compare_known, is_so
 use Rattle.shop_words.proofs.MapLine.{map_defaults, map_known, is_some-line_job-map}
 use Rattle.shop_words.proofs.CheckLine.{check_defaults, check_known, is_some-line_job-check}
 use Rattle.shop_words.proofs.ReadLine.{read_defaults, read_known, is_some-line_job-read}
+use Rattle.shop_words.proofs.ExtractLine.{extract_defaults, extract_known, is_some-line_job-extract}
 use Rattle.shop_words.proofs.ConvertLine.{convert_defaults, convert_known, is_some-line_job-convert}
 use Rattle.shop_words.proofs.PlanLine.{plan_defaults, plan_known, is_some-line_job-plan}
 use Rattle.shop_words.proofs.OptimizeLine.{optimize_defaults, optimize_known, is_some-line_job-optimize}
@@ -48,6 +49,9 @@ serves_check = record { known = check_known; defaults = check_defaults; job = is
 
 serves_read : IsServed read_form
 serves_read = record { known = read_known; defaults = read_defaults; job = is_some-line_job-read }
+
+serves_extract : IsServed extract_form
+serves_extract = record { known = extract_known; defaults = extract_defaults; job = is_some-line_job-extract }
 
 serves_convert : IsServed convert_form
 serves_convert = record { known = convert_known; defaults = convert_defaults; job = is_some-line_job-convert }
@@ -81,12 +85,13 @@ serves_identify = record { known = identify_known; defaults = identify_defaults;
 
 all_served : All IsServed forms
 all_served =
-    All-cons IsServed catalog_form (list_form ∷ compare_form ∷ map_form ∷ check_form ∷ read_form ∷ convert_form ∷ plan_form ∷ optimize_form ∷ lock_form ∷ unlock_form ∷ delete_form ∷ rename_form ∷ save_form ∷ verify_form ∷ identify_form ∷ []) serves_catalog
-    (All-cons IsServed list_form (compare_form ∷ map_form ∷ check_form ∷ read_form ∷ convert_form ∷ plan_form ∷ optimize_form ∷ lock_form ∷ unlock_form ∷ delete_form ∷ rename_form ∷ save_form ∷ verify_form ∷ identify_form ∷ []) serves_list
-    (All-cons IsServed compare_form (map_form ∷ check_form ∷ read_form ∷ convert_form ∷ plan_form ∷ optimize_form ∷ lock_form ∷ unlock_form ∷ delete_form ∷ rename_form ∷ save_form ∷ verify_form ∷ identify_form ∷ []) serves_compare
-    (All-cons IsServed map_form (check_form ∷ read_form ∷ convert_form ∷ plan_form ∷ optimize_form ∷ lock_form ∷ unlock_form ∷ delete_form ∷ rename_form ∷ save_form ∷ verify_form ∷ identify_form ∷ []) serves_map
-    (All-cons IsServed check_form (read_form ∷ convert_form ∷ plan_form ∷ optimize_form ∷ lock_form ∷ unlock_form ∷ delete_form ∷ rename_form ∷ save_form ∷ verify_form ∷ identify_form ∷ []) serves_check
-    (All-cons IsServed read_form (convert_form ∷ plan_form ∷ optimize_form ∷ lock_form ∷ unlock_form ∷ delete_form ∷ rename_form ∷ save_form ∷ verify_form ∷ identify_form ∷ []) serves_read
+    All-cons IsServed catalog_form (list_form ∷ compare_form ∷ map_form ∷ check_form ∷ read_form ∷ extract_form ∷ convert_form ∷ plan_form ∷ optimize_form ∷ lock_form ∷ unlock_form ∷ delete_form ∷ rename_form ∷ save_form ∷ verify_form ∷ identify_form ∷ []) serves_catalog
+    (All-cons IsServed list_form (compare_form ∷ map_form ∷ check_form ∷ read_form ∷ extract_form ∷ convert_form ∷ plan_form ∷ optimize_form ∷ lock_form ∷ unlock_form ∷ delete_form ∷ rename_form ∷ save_form ∷ verify_form ∷ identify_form ∷ []) serves_list
+    (All-cons IsServed compare_form (map_form ∷ check_form ∷ read_form ∷ extract_form ∷ convert_form ∷ plan_form ∷ optimize_form ∷ lock_form ∷ unlock_form ∷ delete_form ∷ rename_form ∷ save_form ∷ verify_form ∷ identify_form ∷ []) serves_compare
+    (All-cons IsServed map_form (check_form ∷ read_form ∷ extract_form ∷ convert_form ∷ plan_form ∷ optimize_form ∷ lock_form ∷ unlock_form ∷ delete_form ∷ rename_form ∷ save_form ∷ verify_form ∷ identify_form ∷ []) serves_map
+    (All-cons IsServed check_form (read_form ∷ extract_form ∷ convert_form ∷ plan_form ∷ optimize_form ∷ lock_form ∷ unlock_form ∷ delete_form ∷ rename_form ∷ save_form ∷ verify_form ∷ identify_form ∷ []) serves_check
+    (All-cons IsServed read_form (extract_form ∷ convert_form ∷ plan_form ∷ optimize_form ∷ lock_form ∷ unlock_form ∷ delete_form ∷ rename_form ∷ save_form ∷ verify_form ∷ identify_form ∷ []) serves_read
+    (All-cons IsServed extract_form (convert_form ∷ plan_form ∷ optimize_form ∷ lock_form ∷ unlock_form ∷ delete_form ∷ rename_form ∷ save_form ∷ verify_form ∷ identify_form ∷ []) serves_extract
     (All-cons IsServed convert_form (plan_form ∷ optimize_form ∷ lock_form ∷ unlock_form ∷ delete_form ∷ rename_form ∷ save_form ∷ verify_form ∷ identify_form ∷ []) serves_convert
     (All-cons IsServed plan_form (optimize_form ∷ lock_form ∷ unlock_form ∷ delete_form ∷ rename_form ∷ save_form ∷ verify_form ∷ identify_form ∷ []) serves_plan
     (All-cons IsServed optimize_form (lock_form ∷ unlock_form ∷ delete_form ∷ rename_form ∷ save_form ∷ verify_form ∷ identify_form ∷ []) serves_optimize
@@ -96,7 +101,7 @@ all_served =
     (All-cons IsServed rename_form (save_form ∷ verify_form ∷ identify_form ∷ []) serves_rename
     (All-cons IsServed save_form (verify_form ∷ identify_form ∷ []) serves_save
     (All-cons IsServed verify_form (identify_form ∷ []) serves_verify
-    (All-cons IsServed identify_form [] serves_identify (λ k d lt. absurd (omega arith)))))))))))))))))
+    (All-cons IsServed identify_form [] serves_identify (λ k d lt. absurd (omega arith))))))))))))))))))
 
 served : (f : FormView) → Contains forms f → IsServed f
 served f at = All-contains IsServed forms f all_served at

@@ -36,10 +36,13 @@ use Rattle.shop_jobs.specs.declared.job.ListForm.{ListForm}
 use Rattle.shop_jobs.specs.declared.job.ListForm.TheVariants as list_forms
 use Rattle.shop_jobs.specs.declared.job.ListOptions.{ListOptions}
 use Rattle.shop_jobs.specs.declared.job.CompareOptions.{CompareOptions}
+use Rattle.shop_jobs.specs.declared.job.ExtractOptions.{ExtractOptions}
+use Rattle.host_folders.specs.declared.entry.Naming.{Naming}
+use Rattle.host_folders.specs.declared.entry.Naming.TheVariants as namings
 use Rattle.shop_jobs.specs.declared.job.FileSystem.{FileSystem}
 use Rattle.shop_jobs.specs.declared.job.FileSystem.TheVariants as file_systems
 use Rattle.shop_jobs.specs.declared.job.VolumeOptions.{VolumeOptions}
-use Rattle.shop_jobs.specs.Job.{AskView, AttributesView, ByPath, ByStored, Catalog, ChangeOf, ChangeView, Check, Compare, Convert, Delete, EditOf, EditView, FileNameView, Identify, InPlace, JobView, Lock, Entries, LookAt, LookView, Map, Optimize, Plan, Read, Rename, Save, TargetView, ToFile, Unlock, Verify}
+use Rattle.shop_jobs.specs.Job.{AskView, AttributesView, ByPath, ByStored, Catalog, ChangeOf, ChangeView, Check, Compare, Convert, Delete, EditOf, EditView, ExtractFrom, FileNameView, Identify, InPlace, JobView, Lock, Entries, LookAt, LookView, Map, Optimize, Plan, Read, Rename, Save, TargetView, ToFile, Unlock, Verify}
 
 -- ---- what a word names
 
@@ -88,6 +91,16 @@ form_said (Some word) = form_named word
 abbrev pub most_bytes : Option Text → Option ℕ
 most_bytes None = Some 1073741824
 most_bytes (Some word) = number_named greatest_number word
+
+-- what the names of files tell that is said, type and aux type where nothing is
+abbrev pub naming_named : Text → Option Naming
+naming_named word =
+    if bytes_eq word (codes "naps") then Some namings.Naps else
+    if bytes_eq word (codes "plain") then Some namings.Plain else None
+
+abbrev pub naming_said : Option Text → Option Naming
+naming_said None = Some namings.Naps
+naming_said (Some word) = naming_named word
 
 -- ---- what is said under each parameter's name; a flag says `true`
 
@@ -234,6 +247,21 @@ change_of _ _ _ reserve = None
 abbrev pub change_by : Option ChangeView → Said → Option AskView
 change_by change said = change_of change (volume_by said) (target_by said) (said (codes "reserve"))
 
+-- the files of the volume in a folder
+abbrev pub extraction_of : Option Naming → Option ℕ → Option ExtractOptions
+extraction_of (Some naming) (Some most) = Some (record { naming = naming; most = most })
+extraction_of _ _ = None
+
+abbrev pub extraction_by : Said → Option ExtractOptions
+extraction_by said = extraction_of (naming_said (said (codes "names"))) (most_bytes (said (codes "most")))
+
+abbrev pub extract_of : Option VolumeOptions → Option ExtractOptions → Option Text → Option AskView
+extract_of (Some volume) (Some options) (Some into) = Some (ExtractFrom volume options into)
+extract_of _ _ _ = None
+
+abbrev pub extract_by : Said → Option AskView
+extract_by said = extract_of (volume_by said) (extraction_by said) (said (codes "into"))
+
 abbrev pub conversion_of : Option Order → Option Order → Option Text → Option ℕ → Option AskView
 conversion_of (Some order) (Some to) (Some out) (Some volume) =
     Some (Convert (record { order = order; to = to; out = out; volume = volume }))
@@ -252,6 +280,7 @@ ask_by command said =
     if bytes_eq command (codes "map") then look_by (Some Map) (said (codes "reserve")) said else
     if bytes_eq command (codes "check") then look_by (Some (check_by said)) (said (codes "reserve")) said else
     if bytes_eq command (codes "read") then look_by (read_by said) None said else
+    if bytes_eq command (codes "extract") then extract_by said else
     if bytes_eq command (codes "convert") then convert_by said else
     if bytes_eq command (codes "plan") then look_by (Some (plan_by said)) (said (codes "reserve")) said else
     if bytes_eq command (codes "optimize") then change_by (optimize_by said) said else

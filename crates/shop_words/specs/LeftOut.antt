@@ -55,6 +55,7 @@ abbrev pub may_leave_out : List Text → Bool
 may_leave_out [] = false
 may_leave_out (command ∷ words) =
     bytes_eq command (codes "list") || bytes_eq command (codes "compare") || bytes_eq command (codes "map")
+    || bytes_eq command (codes "extract")
 
 -- one of the words is `--auto` and one is another, or both options may be left out
 abbrev pub asks_to_fill_in : List Text → Bool

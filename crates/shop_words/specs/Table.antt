@@ -153,6 +153,19 @@ read_form = record {
   parameters = image ∷ name_of_file ∷ file_system ∷ order ∷ whole ∷ data_disk ∷ stored ∷ [];
 }
 
+-- `--into FOLDER` and `--names NAMES`
+abbrev pub into : ParameterView
+into = parameter (codes "into") (needed any)
+
+abbrev pub names : ParameterView
+names = parameter (codes "names") (optional (one_of (codes "naps" ∷ codes "plain" ∷ [])))
+
+abbrev pub extract_form : FormView
+extract_form = record {
+  name = codes "extract";
+  parameters = image ∷ file_system ∷ order ∷ into ∷ names ∷ most ∷ data_disk ∷ [];
+}
+
 -- the new name of a file
 abbrev pub new_name : ParameterView
 new_name = parameter (codes "new") positional
@@ -260,4 +273,4 @@ identify_form = record {
 
 -- the forms of all commands
 abbrev pub forms : List FormView
-forms = catalog_form ∷ list_form ∷ compare_form ∷ map_form ∷ check_form ∷ read_form ∷ convert_form ∷ plan_form ∷ optimize_form ∷ lock_form ∷ unlock_form ∷ delete_form ∷ rename_form ∷ save_form ∷ verify_form ∷ identify_form ∷ []
+forms = catalog_form ∷ list_form ∷ compare_form ∷ map_form ∷ check_form ∷ read_form ∷ extract_form ∷ convert_form ∷ plan_form ∷ optimize_form ∷ lock_form ∷ unlock_form ∷ delete_form ∷ rename_form ∷ save_form ∷ verify_form ∷ identify_form ∷ []

@@ -8,6 +8,7 @@ ghost use Rattle.shop_words.specs.Job.{ask_by, found_job, job_by, rows_say};
 
 use crate::changing::{edit_in, optimize_in, rename_in};
 use crate::converting::convert_in;
+use crate::extracting::extract_in;
 use crate::looking::{
     catalog_in, check_in, compare_in, list_in, map_in, plan_in, read_in, verify_in,
 };
@@ -29,6 +30,7 @@ fn ask_in(alloc: Global, command: &str, matches: &ArgMatches<'_>) -> Result<Opti
         "map" => map_in(alloc, matches),
         "check" => check_in(alloc, matches),
         "read" => read_in(alloc, matches),
+        "extract" => extract_in(alloc, matches),
         "convert" => convert_in(alloc, matches),
         "plan" => plan_in(alloc, matches),
         "optimize" => optimize_in(alloc, matches),

@@ -34,6 +34,9 @@ pub enum Help {
     All,
     Most,
     Bodies,
+    Into,
+    Names,
+    MostWritten,
 }
 
 impl Help {
@@ -77,6 +80,12 @@ impl Help {
             Help::All => "Tell the files that are the same too",
             Help::Most =>
                 "How many bytes the files that are read may have in all, those of an image; 1073741824 if left out",
+            Help::Into =>
+                "Folder that the files are put into; nothing, or an empty folder, may stand there",
+            Help::Names =>
+                "What the names tell: naps for the type and the aux type behind each, or plain; naps if left out",
+            Help::MostWritten =>
+                "How many bytes the files that are written may have in all; 1073741824 if left out",
             Help::Bodies => "Read the sectors of each file too, and tell those that can't be read",
             Help::Whole => "Take all bytes of the file's sectors, and not its content alone",
             Help::Stored =>
@@ -95,6 +104,7 @@ pub fn of(command: &str) -> &'static str {
         "map" => "Show where the files of a volume stand, a character for each sector or block",
         "check" => "Tell whether a volume is sound, or what is wrong with it",
         "read" => "Write the bytes of a file of a volume to standard output",
+        "extract" => "Put the files of a volume into a new folder, whole or not at all",
         "convert" =>
             "Write the sectors of an image in another order; tracks that it makes are of volume 254 without --volume",
         "plan" =>

@@ -195,9 +195,9 @@ fn complete_other(alloc: Global, words: &mut Vec<String>) -> Result<(), AllocErr
 // Whether the command with this name may leave out the file system and the order.
 fn may_leave_both(command: &str) -> bool
     ensures { result ≡ (bytes_eq command.now (codes "list") || bytes_eq command.now (codes "compare")
-        || bytes_eq command.now (codes "map")) }
+        || bytes_eq command.now (codes "map") || bytes_eq command.now (codes "extract")) }
 {
-    command == "list" || command == "compare" || command == "map"
+    command == "list" || command == "compare" || command == "map" || command == "extract"
 }
 
 // Whether the words are those of a command that may leave out the file system and the order.

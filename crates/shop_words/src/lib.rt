@@ -31,6 +31,7 @@ mod changing;
 mod converting;
 mod escaping;
 mod explain;
+mod extracting;
 mod fault;
 mod grammar;
 mod help;

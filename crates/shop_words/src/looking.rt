@@ -22,7 +22,7 @@ use clap::ArgMatches;
 use shop_jobs::{Ask, CompareOptions, ListForm, ListOptions, Look};
 use std::alloc::{AllocError, Global};
 
-/// How many bytes the files that are read for a list may have in all, where the words say nothing.
+/// How many bytes files may have in all that are read or written, where the words say nothing.
 const MOST_BYTES: u64 = 1 << 30;
 
 /// What is asked by a command that looks for this, and reserves no places.
@@ -66,8 +66,8 @@ fn form_for(places: bool, form: Option<ListForm>) -> Option<ListForm>
     }
 }
 
-// How many bytes files may have in all.
-fn most_bytes(word: Option<&str>) -> Option<u64>
+/// How many bytes files may have in all.
+pub fn most_bytes(word: Option<&str>) -> Option<u64>
     ensures { result ≡ most_bytes (option_map (λ s. s.now) word.entry) }
 {
     match word {

@@ -111,6 +111,31 @@ Status:
      REFUSED NotFound  no file has the name
   4  FAILED Input, Device or Memory: the file, a sector of the image or memory failed";
 
+const EXTRACT: &str = "\
+Examples:
+  a2shop extract disk.dsk --into files
+  a2shop extract disk.po --fs prodos --order prodos --into files --names plain
+
+--fs and --order are auto where they are left out. The folder is filled beside its place, and takes it
+as a whole once all is written; after a refusal or a failure nothing of it stays. A line tells of each
+entry, by its name in the folder:
+  FILE N NAME      the file of N bytes is written
+  FOLDER NAME/     the folder of a directory is made
+  UNREADABLE NAME  the file can't be read, and nothing of it is written; see read --whole and check
+A name is the stored one, with % and two digits for what may not stand in a name, ~2 and so on for the
+second of one name, and, as NAME#060300, the type and the aux type of the file.
+
+Status:
+  0  all files are in the folder
+  1  the folder stands, without the files that can't be read
+  3  REFUSED Folder    something stands at the folder's path that is no empty folder
+     REFUSED Length    the image has another length than one in its order
+     REFUSED Check     the header, the directory or the map's pointer has a fault
+     REFUSED TooDeep   an entry stands in more than 64 directories, or has too long a path
+     REFUSED TooLarge  the files have more bytes than --most
+  4  FAILED Input, Device or Memory: the file, a sector of the image or memory failed; without a line
+     the folder could not be written";
+
 const CONVERT: &str = "\
 Example:
   a2shop convert disk.dsk --auto --to nibble --out disk.nib
@@ -285,6 +310,7 @@ pub fn of(command: &str) -> &'static str {
         "map" => MAP,
         "check" => CHECK,
         "read" => READ,
+        "extract" => EXTRACT,
         "convert" => CONVERT,
         "plan" => PLAN,
         "optimize" => OPTIMIZE,

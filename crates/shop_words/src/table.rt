@@ -244,6 +244,24 @@ const MOST: Parameter = Parameter {
     help: Help::Most,
 };
 
+const INTO: Parameter = Parameter {
+    name: "into",
+    kind: Kind::Needed(Values::Any),
+    help: Help::Into,
+};
+
+const NAMES: Parameter = Parameter {
+    name: "names",
+    kind: Kind::Optional(Values::OneOf(&["naps", "plain"])),
+    help: Help::Names,
+};
+
+const MOST_WRITTEN: Parameter = Parameter {
+    name: "most",
+    kind: Kind::Optional(Values::Number { greatest: u64::MAX }),
+    help: Help::MostWritten,
+};
+
 const FORMS: &[Form] = &[
     Form {
         name: "catalog",
@@ -286,6 +304,18 @@ const FORMS: &[Form] = &[
     Form {
         name: "read",
         parameters: &[IMAGE, NAME, FILE_SYSTEM, ORDER, WHOLE, DATA_DISK, STORED],
+    },
+    Form {
+        name: "extract",
+        parameters: &[
+            IMAGE,
+            FILE_SYSTEM,
+            ORDER,
+            INTO,
+            NAMES,
+            MOST_WRITTEN,
+            DATA_DISK,
+        ],
     },
     Form {
         name: "convert",

@@ -96,6 +96,10 @@ fn what_is_left_out_is_auto(rt: HostRuntime) -> Result<(), Fail> {
             "compare a b --fs dos --order=auto",
             "compare a b --fs dos --order=auto --other-order auto ",
         ),
+        (
+            "extract a --into out",
+            "extract a --into out --fs auto --order auto ",
+        ),
         ("catalog list", "catalog list "),
         ("frobnicate a --auto", "frobnicate a "),
         ("--auto", "--auto "),

@@ -10,6 +10,7 @@ use std::test::Fail;
 mod comparisons;
 mod conversions;
 mod escapes;
+mod extractions;
 mod moves;
 mod reads;
 mod refusals;

@@ -1,17 +1,18 @@
 //! Tests of the libraries of files: of `file_cmds`, `file_listings` and `file_edits` worked volumes of DOS 3.3 and
 //! ProDOS with the literal text of their listings and the literal bytes of their files, each public call on its happy
 //! path, refused memory, and each read and write failing in turn; of `shop_files` files that are replaced in a folder
-//! in memory, whose calls fail in turn; of `host_folders` names and new folders of the system, whose calls fail in turn.
+//! in memory, whose calls fail in turn; of `host_folders` names, folders in memory and new folders of the
+//! system; of `volume_extract` the worked texts and folders.
 #![tactic(auto)]
 
-#[cfg(test)]
-mod counted_files;
 #[cfg(test)]
 mod deletions;
 #[cfg(test)]
 mod dos_listings;
 #[cfg(test)]
 mod dos_reads;
+#[cfg(test)]
+mod extractions;
 #[cfg(test)]
 mod folder;
 #[cfg(test)]

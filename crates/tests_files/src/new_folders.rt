@@ -1,6 +1,5 @@
-//! Rows on the folders: in memory, refusing a call, and in scratch folders of the system, whose calls fail in turn.
+//! Rows on the folders: in memory, refusing a call, and in scratch folders of the system.
 
-use crate::counted_files::{Calls, CountedFiles};
 use host_folders::{
     FailingFolder, Folder, FolderFailure, MadeItem, MemoryFolder, StartError, SystemFolder,
     folder_name, is_safe_path,
@@ -334,46 +333,5 @@ fn no_hundred_and_first_name_is_tried(rt: HostRuntime) -> Result<(), Fail> {
     }
     assert!(rt; names_in(&rt, "scratch_names")? == 99);
     fs::remove_dir_all(&rt, "scratch_names")?;
-    Ok(())
-}
-
-/// What writing a folder of which a call fails answers, how many calls there were, and whether nothing else stands
-/// there than should: the whole folder, or what stood before.
-fn written_failing(
-    rt: &HostRuntime,
-    failing: u32,
-    stands: bool,
-) -> io::Result<(Result<(), FolderFailure>, u32, bool)> {
-    scratch(rt, "scratch_calls")?;
-    if stands {
-        fs::create_dir(rt, "scratch_calls/out")?;
-    }
-    let calls = Calls::new(Some(failing));
-    let files = CountedFiles::new(rt, &calls);
-    let answer = written(&files, rt.alloc(), "scratch_calls/out");
-    let names = names_in(rt, "scratch_calls")?;
-    let is_right = match answer {
-        Ok(()) => names == 1 && holds_items(rt, "scratch_calls/out")?,
-        Err(_) if stands => names == 1 && names_in(rt, "scratch_calls/out")? == 0,
-        Err(_) => names == 0,
-    };
-    fs::remove_dir_all(rt, "scratch_calls")?;
-    Ok((answer, calls.made(), is_right))
-}
-
-#[test]
-fn each_failing_call_leaves_what_stood_there(rt: HostRuntime) -> Result<(), Fail> {
-    // A look, a folder aside, two folders, three files, five writes, a renaming; over an empty folder a reading and a
-    // mode more.
-    for (stands, calls) in [(false, 13), (true, 15)] {
-        for failing in 0..calls {
-            let (answer, made, is_right) = written_failing(&rt, failing, stands)?;
-            assert!(rt; answer == Err(FolderFailure::Failed), "{failing}");
-            assert!(rt; made == failing + 1, "{failing}");
-            assert!(rt; is_right, "{failing}");
-        }
-        let (answer, made, is_right) = written_failing(&rt, calls, stands)?;
-        assert!(rt; answer.is_ok() && made == calls && is_right);
-    }
     Ok(())
 }

@@ -1,11 +1,16 @@
 //! The tests of images and of both file systems: of `a2_nibble`, `a2_image`, `a2_device` and `test_volumes`; of
 //! `reserved_places`; of `dos_vtoc`, `dos_catalog`, `dos_tslist` and `dos_format`; of `pro_bitmap`, `pro_dir`,
-//! `pro_dates`, `pro_tree` and `pro_format`; and of `new_files` for each of the two. They hold the worked rows with
-//! literal values, printed text, each public call on its happy path, refused memory, and reads and writes that fail.
+//! `pro_dates`, `pro_tree` and `pro_format`; of `new_files` for each of the two; and of the texts and programs of
+//! `apple_text` and `applesoft`. They hold the worked rows with literal values, printed text, each public call on its
+//! happy path, refused memory, and reads and writes that fail.
 #![tactic(auto)]
 
 #[cfg(test)]
 mod allocators;
+#[cfg(test)]
+mod apple_texts;
+#[cfg(test)]
+mod basic_programs;
 #[cfg(test)]
 mod devices;
 #[cfg(test)]
@@ -50,5 +55,7 @@ mod pro_paths;
 mod pro_pointers;
 #[cfg(test)]
 mod pro_slots;
+#[cfg(test)]
+mod texts_memory;
 #[cfg(test)]
 mod tracks;

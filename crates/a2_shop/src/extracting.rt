@@ -1,0 +1,129 @@
+// A job that puts the files of a volume into a new folder, done and ended: the folder takes its place
+// once all is in it and told.
+ghost use Rattle.std.specs.Prelude.{◌≡◌, Some};
+ghost use Rattle.shop_jobs.specs.Job.{ask_view};
+ghost use Rattle.shop_jobs.specs.Paths.{volume_of as read_as};
+ghost use Rattle.shop_commands.specs.Answer.{ExtractsVolume};
+ghost use Rattle.shop_commands.specs.OnDevice.{HasUnitsFor};
+
+use crate::doing::most_of;
+use crate::inputs::Inputs;
+use crate::stop::Stop;
+use a2_device::Device;
+use a2_media::FileError;
+use host_folders::{StartError, SystemFolder, folder_name};
+use shop_commands::{NotExtracted, extract_on_device};
+use shop_files::{Ending, Unwritten};
+use shop_jobs::{Job, VolumeOptions, into_path, volume_of};
+use shop_replies::{Failure, Refusal, Reply, device_of, open_volume};
+use std::alloc::Global;
+use std::io::Write;
+
+/// The folder that a job makes.
+type JobFolder<'a> = SystemFolder<'a, HostRuntime, Global>;
+
+// The folder at the path that a job names, begun.
+fn start_folder<'a>(rt: &'a HostRuntime, job: &Job) -> Result<JobFolder<'a>, Stop> {
+    let Some(into) = into_path(job) else {
+        return Err(Stop::Refused(Refusal::Folder));
+    };
+    let Some(path) = folder_name(into) else {
+        return Err(Stop::Refused(Refusal::Folder));
+    };
+    match SystemFolder::start(rt, rt.alloc(), path) {
+        Ok(folder) => Ok(folder),
+        Err(StartError::Taken) => Err(Stop::Refused(Refusal::Folder)),
+        Err(StartError::Failed) => Err(Stop::Unwritten(Unwritten::Folder)),
+        Err(StartError::Memory) => Err(Stop::Failed(Failure::Memory)),
+    }
+}
+
+// How a job ended whose files were not put into its folder, or not told; nothing of the folder stays.
+fn end_without<T: Write>(error: NotExtracted, text: &mut T) -> Ending {
+    match error {
+        NotExtracted::Refused(reply) => Ending::written(reply.tell(text)),
+        NotExtracted::Folder => Ending::stopped(Unwritten::Folder),
+        NotExtracted::Text => Ending::stopped(Unwritten::Text),
+    }
+}
+
+// Puts the files of the volume on a device into a folder, tells of them, and lets the folder take its
+// place.
+fn extract_units<D: Device, T: Write>(
+    rt: &HostRuntime,
+    job: &Job,
+    device: &mut D,
+    mut folder: JobFolder<'_>,
+    text: &mut T,
+) -> Ending
+    requires job { ExtractsVolume (ask_view job.now.ask) }
+    requires units { HasUnitsFor (ask_view job.now.ask) (D.state device.old) }
+{
+    match extract_on_device(rt.alloc(), job, device, &mut folder, text) {
+        Ok(status) => match folder.finish() {
+            Ok(()) => Ending::written(status),
+            Err(_) => Ending::stopped(Unwritten::Folder),
+        },
+        Err(error) => {
+            folder.abandon();
+            end_without(error, text)
+        }
+    }
+}
+
+// Puts the files of a volume whose image has these bytes into the folder of a job.
+fn extract_bytes<T: Write>(
+    rt: &HostRuntime,
+    job: &Job,
+    volume: VolumeOptions,
+    bytes: Vec<u8>,
+    text: &mut T,
+) -> Result<Ending, Stop>
+    requires job { ExtractsVolume (ask_view job.now.ask) }
+    requires volume { read_as (ask_view job.now.ask) ≡ Some volume }
+{
+    let folder = start_folder(rt, job)?;
+    match open_volume(bytes, volume.order, volume.file_system) {
+        Ok(image) => {
+            let mut device = device_of(image, volume.file_system);
+            Ok(extract_units(rt, job, &mut device, folder, text))
+        }
+        Err(error) => {
+            folder.abandon();
+            Ok(Ending::written(Reply::from(error).tell(text)))
+        }
+    }
+}
+
+/// Puts the files of the volume of a job into its folder, tells of them, and lets the folder take its
+/// place. The image is read as a whole where its units do not stand in its file as they are.
+pub fn extract_job<T: Write>(
+    rt: &HostRuntime,
+    job: &Job,
+    inputs: &mut Inputs,
+    text: &mut T,
+) -> Result<Ending, Stop>
+    requires job { ExtractsVolume (ask_view job.now.ask) }
+{
+    let Some(volume) = volume_of(job) else {
+        return Err(Stop::Refused(Refusal::Folder));
+    };
+    if let Some(bytes) = inputs.bytes.take() {
+        return extract_bytes(rt, job, volume, bytes, text);
+    }
+    match inputs.image.device(volume) {
+        Ok(mut device) => {
+            let folder = start_folder(rt, job)?;
+            Ok(extract_units(rt, job, &mut device, folder, text))
+        }
+        Err(FileError::InPlace) => {
+            let bytes = inputs.image.bytes(rt, most_of(job))?;
+            extract_bytes(rt, job, volume, bytes, text)
+        }
+        Err(FileError::Length) => {
+            start_folder(rt, job)?.abandon();
+            Err(Stop::Refused(Refusal::Length))
+        }
+        Err(FileError::Io) => Err(Stop::Failed(Failure::Input)),
+    }
+}

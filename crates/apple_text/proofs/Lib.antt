@@ -1,0 +1,6 @@
+pub mod Alike
+pub mod Taking
+pub mod Lines
+pub mod SoFar
+pub mod WorkedTexts
+pub mod Utf8

@@ -1,0 +1,4 @@
+pub mod Shown
+pub mod Taken
+pub mod Reading
+pub mod Laws

@@ -1,0 +1,14 @@
+pub mod Split
+pub mod Programs
+pub mod Characters
+pub mod Standing
+pub mod Scanning
+pub mod Bodies
+pub mod Texts
+pub mod Squeezed
+pub mod Table
+pub mod Ahead
+pub mod Again
+pub mod Relisted
+pub mod Linked
+pub mod WorkedPrograms

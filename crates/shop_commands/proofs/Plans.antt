@@ -1,0 +1,28 @@
+-- How the volume of a format is extracted, by the words of a job.
+use Rattle.std.proofs.Common.{◌≡◌, ◌∙◌, ap, sym, Bool, List, []}
+use Rattle.reserved_places.specs.declared.form.PlaceForm.TheVariants.{Sector, Block}
+use Rattle.dos_format.specs.Dos.{dos_meaning}
+use Rattle.pro_format.specs.Pro.{pro_meaning}
+use Rattle.file_formats.specs.DosFiles.{dos_files}
+use Rattle.file_formats.specs.ProFiles.{pro_files}
+use Rattle.volume_extract.specs.Extraction.{plan_of}
+use Rattle.volume_extract.specs.Names.{dos_own, pro_own}
+use Rattle.shop_jobs.specs.declared.job.ExtractOptions.{ExtractOptions}
+use Rattle.shop_jobs.specs.declared.job.FileSystem.{FileSystem}
+use Rattle.shop_jobs.specs.declared.job.FileSystem.TheVariants.{Dos, Prodos}
+use Rattle.shop_jobs.specs.declared.job.VolumeOptions.{VolumeOptions}
+use Rattle.shop_commands.specs.Extracting.{plan_for, plan_in}
+
+pub dos_plan : (volume : VolumeOptions) (options : ExtractOptions) (data_disk : Bool) (reserved : List Bool) → volume.file_system ≡ Dos
+    → data_disk ≡ volume.data_disk → reserved ≡ []
+    → plan_of Sector options.naming dos_files (dos_meaning data_disk reserved) dos_own options.most ≡ plan_for volume options
+dos_plan volume options data_disk reserved dos same none =
+    ap (λ (places : List Bool). plan_of Sector options.naming dos_files (dos_meaning data_disk places) dos_own options.most) none
+    ∙ ap (λ (either : Bool). plan_of Sector options.naming dos_files (dos_meaning either []) dos_own options.most) same
+    ∙ ap (λ (system : FileSystem). plan_in system volume.data_disk options) (sym dos)
+
+pub pro_plan : (volume : VolumeOptions) (options : ExtractOptions) (reserved : List Bool) → volume.file_system ≡ Prodos → reserved ≡ []
+    → plan_of Block options.naming pro_files (pro_meaning reserved) pro_own options.most ≡ plan_for volume options
+pro_plan volume options reserved prodos none =
+    ap (λ (places : List Bool). plan_of Block options.naming pro_files (pro_meaning places) pro_own options.most) none
+    ∙ ap (λ (system : FileSystem). plan_in system volume.data_disk options) (sym prodos)

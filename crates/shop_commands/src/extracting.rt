@@ -1,0 +1,199 @@
+// The job that puts the files of a volume into a folder.
+ghost use Rattle.std.specs.Prelude.{◌≡◌, [], IfErr, IfOk, IsTrue};
+ghost use Rattle.a2_device.specs.Device.{DeviceState};
+ghost use Rattle.file_cmds.specs.ReadingOn.{ReadsOn};
+ghost use Rattle.host_folders.specs.Folder.{FolderState};
+ghost use Rattle.shop_jobs.specs.Job.{ask_view};
+ghost use Rattle.shop_jobs.specs.declared.job.FileSystem.TheVariants.{Dos as OfDos, Prodos as OfProdos};
+ghost use Rattle.shop_replies.specs.Volume.{HasUnitsOf};
+ghost use Rattle.shop_commands.specs.Answer.{ExtractsVolume};
+ghost use Rattle.shop_commands.specs.Extracting.{
+  IsExtractTold,
+  IsExtracted,
+  IsNotExtracted,
+  IsNotExtractedBy,
+  not_extracted as refused_by,
+  plan_for,
+};
+ghost use Rattle.shop_commands.specs.OnDevice.{HasUnitsFor};
+ghost use Rattle.vol_format.specs.Fits.{Fits};
+ghost use Rattle.volume_extract.specs.Extraction.{IsExtraction, plan_of};
+
+use crate::telling::tell_extraction;
+use a2_device::Device;
+use dos_format::Dos33;
+use host_folders::{Folder, FolderFailure};
+use pro_format::Prodos;
+use reserved_places::{PlaceForm, Reserved};
+use shop_jobs::{Ask, ExtractOptions, FileSystem, Job, VolumeOptions};
+use shop_replies::{Failure, Refusal, Reply};
+use std::alloc::Global;
+use std::io::Write;
+use volume_extract::{ExtractError, TreeFormat, extract};
+
+/// Why the files of a volume were not put into a folder and told.
+#[derive(Debug, Drop)]
+pub enum NotExtracted {
+    /// The job is refused, or something failed, as this reply tells. Nothing was told.
+    Refused(Reply),
+    /// The folder could not be written. Nothing was told.
+    Folder,
+    /// The text could not be written. All files are in the folder.
+    Text,
+}
+
+// Why nothing is extracted.
+fn not_extracted(error: ExtractError) -> NotExtracted
+    ensures { result ≡ refused_by error }
+{
+    match error {
+        ExtractError::Check => NotExtracted::Refused(Reply::refused(Refusal::Check)),
+        ExtractError::Device => NotExtracted::Refused(Reply::failed(Failure::Device)),
+        ExtractError::TooDeep => NotExtracted::Refused(Reply::refused(Refusal::TooDeep)),
+        ExtractError::TooLarge => NotExtracted::Refused(Reply::refused(Refusal::TooLarge)),
+        ExtractError::Folder(FolderFailure::Failed) => NotExtracted::Folder,
+        ExtractError::Folder(FolderFailure::Memory) | ExtractError::Memory => {
+            NotExtracted::Refused(Reply::failed(Failure::Memory))
+        }
+    }
+}
+
+// Puts the files of a volume of a format into a folder, and tells of it.
+fn extract_by<D: Device, F: TreeFormat, O: Folder, T: Write>(
+    alloc: Global,
+    device: &mut D,
+    format: &F,
+    form: PlaceForm,
+    folder: &mut O,
+    options: ExtractOptions,
+    text: &mut T,
+) -> Result<u8, NotExtracted>
+    requires fits { Fits (F.meaning format.now) (D.state device.old) }
+    ensures reads { ReadsOn (D.state device.old) (D.state device.new) }
+    ensures same { (O.state folder.new).honest ≡ (O.state folder.old).honest }
+    ensures extracted { IsTrue (D.state device.old).honest → IfOk result (λ status. IsExtraction
+        (plan_of form options.naming (F.files format.now) (F.meaning format.now) (F.own format.now) options.most)
+        (D.state device.old) (D.state device.new) (O.state folder.old) (O.state folder.new)
+        (IsExtractTold status (T.contents text.old) (T.contents text.new))) }
+    ensures refused { IsTrue (D.state device.old).honest → IfErr result (IsNotExtractedBy O.state O.may_fail
+        (plan_of form options.naming (F.files format.now) (F.meaning format.now) (F.own format.now) options.most)
+        (D.state device.old) (D.state device.new) (O.state folder.old) (O.state folder.new)
+        (T.contents text.old) (T.contents text.new)) }
+{
+    match extract(
+        alloc,
+        device,
+        format,
+        form,
+        folder,
+        options.naming,
+        options.most,
+    ) {
+        Ok(told) => tell_extraction(alloc, &told, text),
+        Err(error) => Err(not_extracted(error)),
+    }
+}
+
+// The same of a DOS 3.3 volume.
+fn extract_dos<D: Device, O: Folder, T: Write>(
+    alloc: Global,
+    device: &mut D,
+    folder: &mut O,
+    volume: VolumeOptions,
+    options: ExtractOptions,
+    text: &mut T,
+) -> Result<u8, NotExtracted>
+    requires dos { volume.file_system ≡ OfDos }
+    requires units { HasUnitsOf OfDos (D.state device.old) }
+    ensures reads { ReadsOn (D.state device.old) (D.state device.new) }
+    ensures same { (O.state folder.new).honest ≡ (O.state folder.old).honest }
+    ensures extracted { IsTrue (D.state device.old).honest → IfOk result (λ status. IsExtraction
+        (plan_for volume options) (D.state device.old) (D.state device.new) (O.state folder.old) (O.state folder.new)
+        (IsExtractTold status (T.contents text.old) (T.contents text.new))) }
+    ensures refused { IsTrue (D.state device.old).honest → IfErr result (IsNotExtractedBy O.state O.may_fail
+        (plan_for volume options) (D.state device.old) (D.state device.new) (O.state folder.old) (O.state folder.new)
+        (T.contents text.old) (T.contents text.new)) }
+{
+    let Ok(format) = Dos33::new(alloc, volume.data_disk, Reserved::none(alloc)) else {
+        return Err(NotExtracted::Refused(Reply::failed(Failure::Memory)));
+    };
+    extract_by(
+        alloc,
+        device,
+        &format,
+        PlaceForm::Sector,
+        folder,
+        options,
+        text,
+    )
+}
+
+// The same of a ProDOS volume.
+fn extract_prodos<D: Device, O: Folder, T: Write>(
+    alloc: Global,
+    device: &mut D,
+    folder: &mut O,
+    volume: VolumeOptions,
+    options: ExtractOptions,
+    text: &mut T,
+) -> Result<u8, NotExtracted>
+    requires prodos { volume.file_system ≡ OfProdos }
+    requires units { HasUnitsOf OfProdos (D.state device.old) }
+    ensures reads { ReadsOn (D.state device.old) (D.state device.new) }
+    ensures same { (O.state folder.new).honest ≡ (O.state folder.old).honest }
+    ensures extracted { IsTrue (D.state device.old).honest → IfOk result (λ status. IsExtraction
+        (plan_for volume options) (D.state device.old) (D.state device.new) (O.state folder.old) (O.state folder.new)
+        (IsExtractTold status (T.contents text.old) (T.contents text.new))) }
+    ensures refused { IsTrue (D.state device.old).honest → IfErr result (IsNotExtractedBy O.state O.may_fail
+        (plan_for volume options) (D.state device.old) (D.state device.new) (O.state folder.old) (O.state folder.new)
+        (T.contents text.old) (T.contents text.new)) }
+{
+    let format = Prodos::new(alloc, Reserved::none(alloc));
+    extract_by(
+        alloc,
+        device,
+        &format,
+        PlaceForm::Block,
+        folder,
+        options,
+        text,
+    )
+}
+
+/// Puts the files of the volume that a job names into a folder, on the device that has the volume, and tells of each
+/// entry, and how many there are: once all that can be read is in the folder. The status is 0, or 1 where a file can't
+/// be read.
+///
+/// # Errors
+/// `Refused` with what `extract` refuses, or where the device or memory fails; `Folder` where the folder fails; `Text`
+/// where the text can't be written.
+pub fn extract_on_device<D: Device, O: Folder, T: Write>(
+    alloc: Global,
+    job: &Job,
+    device: &mut D,
+    folder: &mut O,
+    text: &mut T,
+) -> Result<u8, NotExtracted>
+    requires extracts { ExtractsVolume (ask_view job.now.ask) }
+    requires units { HasUnitsFor (ask_view job.now.ask) (D.state device.old) }
+    ensures reads { ReadsOn (D.state device.old) (D.state device.new) }
+    ensures same { (O.state folder.new).honest ≡ (O.state folder.old).honest }
+    ensures extracted { IsTrue (D.state device.old).honest → IfOk result (λ status. IsExtracted
+        (ask_view job.now.ask) (D.state device.old) (D.state device.new) (O.state folder.old) (O.state folder.new)
+        (IsExtractTold status (T.contents text.old) (T.contents text.new))) }
+    ensures refused { IsTrue (D.state device.old).honest → IfErr result (IsNotExtracted O.state O.may_fail
+        (ask_view job.now.ask) (D.state device.old) (D.state device.new) (O.state folder.old) (O.state folder.new)
+        (T.contents text.old) (T.contents text.new)) }
+{
+    match &job.ask {
+        Ask::Extract {
+            volume,
+            options,
+            ..
+        } => match volume.file_system {
+            FileSystem::Dos => extract_dos(alloc, device, folder, *volume, *options, text),
+            FileSystem::Prodos => extract_prodos(alloc, device, folder, *volume, *options, text),
+        },
+        _ => unreachable!(),
+    }
+}

@@ -1,0 +1,11 @@
+pub mod SameKeys
+pub mod Chain
+pub mod Growing
+pub mod Wider
+pub mod SafeHosts
+pub mod Counted
+pub mod OneMore
+pub mod Ready
+pub mod Apart
+pub mod Ends
+pub mod TreeNames

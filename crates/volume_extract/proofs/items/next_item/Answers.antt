@@ -1,0 +1,76 @@
+use Rattle.std.proofs.Common.{◌≡◌, ◌∙◌, ap, inr, refl, sym, subst, arith, length, string_bytes}
+use Rattle.std.specs.declared.alloc.Global.{Global}
+use Rattle.file_cmds.specs.lemmas.Reading.{read_twice}
+use Rattle.file_formats.specs.declared.listing.ListEntry.{ListEntry}
+use Rattle.volume_extract.specs.Items.{IsAbove}
+use Rattle.volume_extract.specs.Keys.{keys_of}
+use Rattle.volume_extract.specs.Kept.{StandsBefore}
+use Rattle.volume_extract.specs.Looked.{aux_looked}
+use Rattle.volume_extract.specs.Source.{contents_since, source_of}
+use Rattle.volume_extract.proofs.Ready.{IsNamedSo, aux_early, early_since, few_keys, found_on, long_at, next_at}
+use Rattle.volume_extract.proofs.SafeHosts.{stands_before}
+use Rattle.volume_extract.proofs.Wider.{aux_later}
+use Rattle.volume_extract.proofs.items.next_item.Goals as goal
+
+pub host_of-requires-clause-above : goal.host_of-requires-clause-above
+host_of-requires-clause-above g c =
+    let opened = c.args.opened.now in
+    let own = g.F.TreeFormat.own opened.format.now in
+    let directory = g.F.Format.directory opened.format.now opened.volume in
+    let some = c.requires.kept in
+    let place = c.in-Some.ensures some.0 some.1 in
+    subst (StandsBefore (length c.args.kept.now)) (sym c.in_ok-head.ensures.above)
+    (stands_before own directory (length c.args.kept.now) c.in-Some.place.above
+    (subst (λ n. IsAbove own directory n c.in-Some.place.above) (sym some.1.long) place.is_above))
+
+pub returns-then-len-gt-MOST_HOST-clause-next : goal.returns-then-len-gt-MOST_HOST-clause-next
+returns-then-len-gt-MOST_HOST-clause-next g c = λ start items reads are counted.
+    let opened = c.args.opened.now in
+    let format = opened.format.now in
+    let source = source_of opened.form opened.naming (g.F.FileFormat.files format) (g.F.Format.meaning format) (g.F.TreeFormat.own format)
+    (g.F.Format.directory format opened.volume) in
+    let old = g.D.Device.state c.args.device.now in
+    let now = g.D.Device.state c.look_early.new.device in
+    let same : c.args.entry ≡ length items = c.requires.entry ∙ are.long in
+    let early = early_since source start old now reads c.args.entry c.in_ok-early.early c.in_ok-early.ensures.early in
+    let aux = c.aux_of-aux.ensures ∙ ap (λ (shown : ListEntry Global). aux_looked shown.aux c.in_ok-early.early) c.in_ok-shown.ensures in
+    let named : IsNamedSo source start (contents_since source start now) items c.name_entry.new.names c.in-Some.place c.in_ok-head.head
+    (string_bytes c.in_ok-host.host) c.args.entry = record {
+      kind = c.in_ok-shown.shown.kind;
+      aux = c.aux_of-aux.result;
+      is_head = c.in_ok-head.ensures.head (keys_of opened.naming items) counted (few_keys opened.naming items c.args.entry same c.requires.few);
+      is_kind = ap (λ (shown : ListEntry Global). shown.kind) c.in_ok-shown.ensures;
+      has_aux = aux_early source start now c.args.entry c.in_ok-early.early early c.aux_of-aux.result aux;
+      is_path = c.in_ok-host.ensures items are;
+    } in
+    inr (long_at source start (contents_since source start now) items c.name_entry.new.names c.in-Some.place c.in_ok-head.head (string_bytes c.in_ok-host.host)
+    (c.in-Some.ensures items are) c.args.entry same c.requires.few named (omega (arith, c.if-len-gt-MOST_HOST.true, c.len.ensures)))
+
+pub returns-clause-next : goal.returns-clause-next
+returns-clause-next g c = λ start items reads are counted.
+    let opened = c.args.opened.now in
+    let format = opened.format.now in
+    let source = source_of opened.form opened.naming (g.F.FileFormat.files format) (g.F.Format.meaning format) (g.F.TreeFormat.own format)
+    (g.F.Format.directory format opened.volume) in
+    let old = g.D.Device.state c.args.device.now in
+    let now = g.D.Device.state c.look_early.new.device in
+    let last = g.D.Device.state c.look_on.new.device in
+    let same : c.args.entry ≡ length items = c.requires.entry ∙ are.long in
+    let early = early_since source start old now reads c.args.entry c.in_ok-early.early c.in_ok-early.ensures.early in
+    let aux = c.aux_of-aux.ensures ∙ ap (λ (shown : ListEntry Global). aux_looked shown.aux c.in_ok-early.early) c.in_ok-shown.ensures in
+    let reads_now = read_twice start old now reads c.in_ok-early.ensures.reads in
+    let named : IsNamedSo source start (contents_since source start last) items c.name_entry.new.names c.in-Some.place c.in_ok-head.head
+    (string_bytes c.in_ok-host.host) c.args.entry = record {
+      kind = c.in_ok-shown.shown.kind;
+      aux = c.aux_of-aux.result;
+      is_head = c.in_ok-head.ensures.head (keys_of opened.naming items) counted (few_keys opened.naming items c.args.entry same c.requires.few);
+      is_kind = ap (λ (shown : ListEntry Global). shown.kind) c.in_ok-shown.ensures;
+      has_aux = aux_later source start now last c.in_ok-looked.ensures.reads c.args.entry c.aux_of-aux.result
+          (aux_early source start now c.args.entry c.in_ok-early.early early c.aux_of-aux.result aux);
+      is_path = c.in_ok-host.ensures items are;
+    } in
+    next_at source start (contents_since source start last) items c.name_entry.new.names c.in-Some.place c.in_ok-head.head (string_bytes c.in_ok-host.host)
+    (c.in-Some.ensures items are) c.args.entry same c.requires.few named c.in_ok-body.body c.in_ok-host.host refl
+    (omega (arith, c.if-len-gt-MOST_HOST.false, c.len.ensures))
+    (found_on source start last c.args.entry c.in_ok-looked.looked c.in_ok-body.body c.in_ok-body.ensures
+    (c.in_ok-looked.ensures.looked start reads_now early))

@@ -1,0 +1,15 @@
+pub mod Names
+pub mod Items
+pub mod ExtractText
+pub mod Refusal
+pub mod Keys
+pub mod Looked
+pub mod Counts
+pub mod Kept
+pub mod Made
+pub mod Placing
+pub mod Naming
+pub mod Source
+pub mod Extraction
+pub mod Progress
+pub mod Laws

@@ -1,0 +1,26 @@
+// A volume that was read, and how its entries are named.
+ghost use Rattle.std.specs.Prelude.{◌≡◌, ◌<◌};
+ghost use Rattle.vol_format.specs.Directory.{entries, entry_of, is_directory};
+
+use crate::tree_format::TreeFormat;
+use host_folders::Naming;
+use reserved_places::PlaceForm;
+use vol_format::Link;
+
+/// A volume that was read, and how its entries are named on the host.
+#[derive(Drop)]
+pub struct Opened<'a, F: TreeFormat> {
+    pub format: &'a F,
+    /// What its places are called.
+    pub form: PlaceForm,
+    pub naming: Naming,
+    pub volume: F::Volume,
+}
+
+/// Whether an entry is that of a directory.
+pub fn is_folder<F: TreeFormat>(opened: &Opened<'_, F>, entry: u32) -> bool
+    requires { entry < entries (F.directory opened.now.format.now opened.now.volume) }
+    ensures { result ≡ is_directory (entry_of (F.directory opened.now.format.now opened.now.volume) entry) }
+{
+    matches!(opened.format.root(&opened.volume, entry), Link::Directory)
+}
