@@ -2,7 +2,7 @@
 //! ProDOS with the literal text of their listings and the literal bytes of their files, each public call on its happy
 //! path, refused memory, and each read and write failing in turn; of `shop_files` files that are replaced in a folder
 //! in memory, whose calls fail in turn; of `host_folders` names, folders in memory and new folders of the
-//! system; of `volume_extract` the worked texts and folders.
+//! system.
 #![tactic(auto)]
 
 #[cfg(test)]
@@ -11,8 +11,6 @@ mod deletions;
 mod dos_listings;
 #[cfg(test)]
 mod dos_reads;
-#[cfg(test)]
-mod extractions;
 #[cfg(test)]
 mod folder;
 #[cfg(test)]
