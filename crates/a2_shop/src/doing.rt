@@ -135,7 +135,7 @@ pub fn is_content(job: &Job) -> bool {
     matches!(
         job.ask,
         Ask::Look {
-            look: Look::Read { .. },
+            look: Look::Read { out: None, .. },
             ..
         }
     )

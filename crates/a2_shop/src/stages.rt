@@ -12,7 +12,7 @@ use explanations::Overheard;
 use shop_commands::extracts;
 use shop_files::{Ending, Found, JobFiles};
 use shop_jobs::Job;
-use shop_replies::{Failure, Reply, written};
+use shop_replies::{Failure, Refusal, Reply, written};
 use shop_words::{asks_explain, asks_version, filled_in, without_explain};
 use std::io::{BufWriter, Write};
 
@@ -127,6 +127,9 @@ fn finish_job<T: Write>(
 ) -> Result<Ending, Stop> {
     if extracts(job) {
         return extract_job(rt, job, inputs, text);
+    }
+    if files.has_no_free_place(rt) {
+        return Err(Stop::Refused(Refusal::Exists));
     }
     let mut outputs = Outputs::of(rt, files);
     match do_job(rt, job, inputs, &mut outputs.certificate) {

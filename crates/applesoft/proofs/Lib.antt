@@ -2,6 +2,7 @@ pub mod Split
 pub mod Programs
 pub mod Characters
 pub mod Standing
+pub mod Letters
 pub mod Scanning
 pub mod Bodies
 pub mod Texts

@@ -1,5 +1,6 @@
 -- What the readers of texts and programs answer.
-use Rattle.std.specs.Prelude.{◌≡◌, ◌≢◌, ◌<◌, ℕ, List, ◌∷◌, ◌++◌, All, length, slice_index, take}
+use Rattle.std.specs.Prelude.{◌≡◌, ◌≢◌, ◌<◌, ◌==◌, ℕ, Bool, true, List, [], ◌∷◌, ◌++◌, All, length, slice_index, take}
+use Rattle.std.specs.Char.{to_ascii_uppercase}
 use Rattle.std.specs.Option.{option_to_list}
 use Rattle.apple_text.specs.Shown.{Text, character}
 use Rattle.applesoft.specs.declared.items.Item as items
@@ -7,7 +8,7 @@ use Rattle.applesoft.specs.declared.line.Numbered.{Numbered}
 use Rattle.applesoft.specs.declared.listing.ListedLine.{ListedLine}
 use Rattle.applesoft.specs.Program.{IsCode, IsLine, Line, line_bytes}
 use Rattle.applesoft.specs.Scan.{Found, Item}
-use Rattle.applesoft.specs.Tokens.{IsAllowed}
+use Rattle.applesoft.specs.Tokens.{IsAllowed, without_spaces}
 
 -- a word that was found, by the token and the place behind it
 abbrev pub found : ℕ → List ℕ → Found
@@ -61,3 +62,16 @@ pub record IsNewlineAt (text : Text) (place : ℕ) : Type 0 where
 -- a line without its link, with this one
 abbrev pub line_at : {A : Type 0} → ℕ → Numbered A → Line
 line_at link line = record { link = link; number = line.number; body = line.body.items }
+
+-- the letter that characters begin with, as a capital and with the spaces before it passed over; none is $00
+abbrev pub letter_of : List ℕ → ℕ
+letter_of [] = 0
+letter_of (c ∷ cs) = to_ascii_uppercase c
+
+abbrev pub first_letter : List ℕ → ℕ
+first_letter codes = letter_of (without_spaces codes)
+
+-- a word begins with a letter, or has none
+abbrev pub begins_with : List ℕ → ℕ → Bool
+begins_with [] letter = true
+begins_with (first ∷ more) letter = letter == first

@@ -1,10 +1,11 @@
 // The words of the tokens.
 ghost use Rattle.std.specs.Prelude.{◌≡◌, ◌<◌, ◌≤◌, ◌++◌, IfNone, IfSome, OnOk, [], length, map, slice_index_or};
-ghost use Rattle.applesoft.specs.Reading.{found};
+ghost use Rattle.applesoft.specs.Reading.{begins_with, first_letter, found};
 ghost use Rattle.applesoft.specs.Scan.{begins_with_n_or_o, behind_letter, behind_word, first_standing, first_word};
 ghost use Rattle.applesoft.specs.Scan.{standing};
 ghost use Rattle.applesoft.specs.Words.{word_of};
 
+use crate::codes::without_spaces;
 use std::alloc::{AllocError, Allocator};
 
 // The words of $80 to $EA, in order.
@@ -87,6 +88,42 @@ fn standing<'a>(token: u8, word: &[u8], codes: &'a [u8]) -> Option<&'a [u8]>
     Some(rest)
 }
 
+// The letter that characters begin with, as a capital and with the spaces before it passed over; $00 where they have
+// none.
+fn first_letter(codes: &[u8]) -> u8
+    ensures { result ≡ first_letter codes.now }
+{
+    match without_spaces(codes) {
+        [c, ..] => c.to_ascii_uppercase(),
+        [] => 0,
+    }
+}
+
+// Whether a word begins with a letter, or has none.
+#[inline]
+fn begins_with(word: &[u8], letter: u8) -> bool
+    ensures { result ≡ begins_with word.now letter }
+{
+    match word {
+        [first, ..] => letter == *first,
+        [] => true,
+    }
+}
+
+// The same as `standing` of characters that begin with this letter: most words are passed over by their first one.
+#[inline]
+fn standing_by_letter<'a>(token: u8, word: &[u8], letter: u8, codes: &'a [u8]) -> Option<&'a [u8]>
+    requires { letter ≡ first_letter codes.now }
+    ensures some { IfSome result (λ rest.
+        standing token (behind_word word.now codes.now) ≡ Some (found token rest.now)) }
+    ensures none { IfNone result (standing token (behind_word word.now codes.now) ≡ None) }
+{
+    if !begins_with(word, letter) {
+        return None;
+    }
+    standing(token, word, codes)
+}
+
 // The first of some words that stands there, and what stands behind it.
 fn first_standing<'a>(words: &[&str], codes: &'a [u8]) -> Option<(u8, &'a [u8])>
     requires { length words.now ≤ COUNT }
@@ -94,10 +131,11 @@ fn first_standing<'a>(words: &[&str], codes: &'a [u8]) -> Option<(u8, &'a [u8])>
         first_standing 0 (map (λ w. w.now) words.now) codes.now ≡ Some (found first.0 first.1.now)) }
     ensures none { IfNone result (first_standing 0 (map (λ w. w.now) words.now) codes.now ≡ None) }
 {
+    let letter = first_letter(codes);
     let mut words = words;
     let mut token = 0;
     while let [word, more @ ..] = words {
-        if let Some(rest) = standing(token, word.as_bytes(), codes) {
+        if let Some(rest) = standing_by_letter(token, word.as_bytes(), letter, codes) {
             return Some((token, rest));
         }
         words = more;

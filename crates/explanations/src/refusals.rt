@@ -2,7 +2,7 @@
 use crate::explanation::Explanation;
 
 /// The explanations of a job that is not done: refusals and failures.
-pub static REFUSALS: [Explanation; 25] = [
+pub static REFUSALS: [Explanation; 28] = [
     Explanation {
         front: "REFUSED InPlace",
         meaning: "This image is not changed in its own file. That is done where the units of the volume stand in the \
@@ -27,9 +27,9 @@ pub static REFUSALS: [Explanation; 25] = [
     },
     Explanation {
         front: "REFUSED Type",
-        meaning: "The word behind `--type` is no type of this file system's files. DOS 3.3 takes one of the capital \
-            letters T, I, A, B, S and R: text, Integer BASIC, Applesoft, binary and two special types; ProDOS takes \
-            two hexadecimal digits. Nothing was written.",
+        meaning: "The word behind `--type` is no type of this file system's files, or the AppleSingle file has one \
+            that DOS 3.3 does not have. DOS 3.3 takes one of the capital letters T, I, A, B, S and R: text, Integer \
+            BASIC, Applesoft, binary and two special types; ProDOS takes two hexadecimal digits. Nothing was written.",
         advice: "Write it as `--type B` for a binary file of DOS 3.3; for ProDOS as `--type 04` for text, `06` for \
             binary or `FC` for Applesoft.",
     },
@@ -62,8 +62,9 @@ pub static REFUSALS: [Explanation; 25] = [
     Explanation {
         front: "REFUSED Exists",
         meaning: "The directory has an entry with the new name, or with the name of the new file: a file, a directory, \
-            or the very file that was to be renamed. Letters of either case are the same to ProDOS. No file is \
-            replaced by another, and nothing was written.",
+            or the very file that was to be renamed. Letters of either case are the same to ProDOS. Of `a2shop read` \
+            it is the path behind `--out` at which something stands, a link too. No file is replaced by another, and \
+            nothing was written.",
         advice: "Choose another name, or first rename or delete the entry that has it: `a2shop catalog` shows them. To \
             save a file anew, delete the old one first.",
     },
@@ -121,6 +122,27 @@ pub static REFUSALS: [Explanation; 25] = [
             more bytes in all than `--most` allows, or than 1,073,741,824 where it is left out. A file of ProDOS may \
             have many bytes of which the volume holds none, and the files of a damaged volume may share their parts.",
         advice: "Give a greater number behind `--most`; of a list leave `--digests` and `--places` out.",
+    },
+    Explanation {
+        front: "REFUSED Form",
+        meaning: "The file can't be told in the form that `--as` names: its bytes are no program of that BASIC, or \
+            with `shown` it is neither a text nor a program.",
+        advice: "Look at its type with `a2shop catalog`. Its bytes as they are come without `--as`, all bytes of its \
+            sectors with `--whole`.",
+    },
+    Explanation {
+        front: "REFUSED Text",
+        meaning: "The line with this number of the file behind `--from` can't be taken as `--as` says: a text may have \
+            the characters of the Apple II, tabs, and the pictures of control characters; a line of a program begins \
+            with a number that is greater than that of the line before. Nothing was written.",
+        advice: "Look at that line: quotation marks and dashes of today's texts, and letters with accents, are not \
+            among the characters. Write plain ones in their place, and save it as UTF-8.",
+    },
+    Explanation {
+        front: "REFUSED Single",
+        meaning: "The file behind `--from` is no AppleSingle file of version 2 whose data can be read, or one with a \
+            resource fork, which has no place in a file of the Apple II. Nothing was written.",
+        advice: "Look whether it is the right file. To save its bytes as they are, leave `--as single` out.",
     },
     Explanation {
         front: "REFUSED InputTooLong",

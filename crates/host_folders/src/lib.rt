@@ -48,4 +48,5 @@ pub use memory::{MadeItem, MemoryFolder};
 pub use names::{bare_name, host_name};
 pub use new_folder::folder_name;
 pub use path::is_safe_path;
+pub use stem::name_bytes;
 pub use system::{StartError, SystemFolder};

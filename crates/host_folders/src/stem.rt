@@ -6,8 +6,8 @@ use crate::letters::{escape, is_plain, is_printed, without_end};
 use reserved_places::PlaceForm;
 use std::alloc::{AllocError, Allocator};
 
-// The bytes of a stored name that count.
-fn name_bytes(form: PlaceForm, name: &[u8]) -> &[u8]
+/// The bytes of a stored name that count: of DOS 3.3 those before the spaces that fill it up.
+pub fn name_bytes(form: PlaceForm, name: &[u8]) -> &[u8]
     ensures { result.now ≡ name_bytes form name.now }
 {
     match form {

@@ -36,23 +36,25 @@ fn dos_aux(kind: u8, address: u16) -> u16
     }
 }
 
-// The type of ProDOS of an entry.
-fn type_of(stored: &Stored) -> u8
-    ensures { result ≡ type_of (entry_view stored.now) }
-{
-    match stored.form {
-        PlaceForm::Sector => dos_type(stored.kind),
-        PlaceForm::Block => stored.kind,
+impl Stored<'_> {
+    /// Its type of ProDOS: of DOS 3.3 the one that its kind has there, or 0 where it has none.
+    pub fn file_type(&self) -> u8
+        ensures { result ≡ type_of (entry_view self.now) }
+    {
+        match self.form {
+            PlaceForm::Sector => dos_type(self.kind),
+            PlaceForm::Block => self.kind,
+        }
     }
-}
 
-// The aux type of an entry.
-fn aux_of(stored: &Stored) -> u16
-    ensures { result ≡ aux_of (entry_view stored.now) }
-{
-    match stored.form {
-        PlaceForm::Sector => dos_aux(stored.kind, stored.aux),
-        PlaceForm::Block => stored.aux,
+    /// Its aux type of ProDOS: of DOS 3.3 where it is loaded, or its kind where that has no type.
+    pub fn aux_type(&self) -> u16
+        ensures { result ≡ aux_of (entry_view self.now) }
+    {
+        match self.form {
+            PlaceForm::Sector => dos_aux(self.kind, self.aux),
+            PlaceForm::Block => self.aux,
+        }
     }
 }
 
@@ -92,7 +94,7 @@ pub(crate) fn push_tail<A: Allocator>(
 {
     match naming {
         Naming::Naps if !stored.directory => {
-            push_told_tail(text, type_of(stored), aux_of(stored))
+            push_told_tail(text, stored.file_type(), stored.aux_type())
         }
         _ => Ok(()),
     }

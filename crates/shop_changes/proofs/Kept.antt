@@ -19,7 +19,9 @@ use Rattle.shop_reads.specs.Reserving.{ReservesNamed}
 use Rattle.shop_changes.specs.Changing.{IsChangeOutcome, IsWorkOutcome, KeepsDevice, LacksMemory}
 use Rattle.shop_changes.specs.EditOutcome.{TellsEdit}
 use Rattle.shop_changes.specs.EditRules.{ChangedMeaning}
+use Rattle.shop_changes.specs.GivenFile.{GivenView}
 use Rattle.shop_changes.specs.OptimizeOutcome.{IsOptimizeOutcome, TellsError}
+use Rattle.shop_changes.specs.SaveOutcome.{IsSaveOutcome}
 use Rattle.shop_changes.specs.Work.{WorkView, Optimize, EditOf, Save}
 use Rattle.shop_changes.specs.declared.outcome.Outcome.{Outcome}
 use Rattle.shop_changes.specs.declared.outcome.Outcome.TheVariants.{Optimized, Changed, Stopped, Unfinished}
@@ -58,14 +60,22 @@ module _ (old new : DeviceState) (honest : IsTrue old.honest) (reply : Reply) (q
   edit_kept (Err edits.VolumeFull) outcome tells refused told = refused edits.VolumeFull refl (λ is. cc)
   edit_kept (Err edits.Memory) outcome tells refused told = refused edits.Memory refl (λ is. cc)
 
-  work_kept : (work : WorkView) (format : ChangedMeaning) (outcome : Outcome) → IsWorkOutcome work format old new outcome → outcome ≡ Unfinished reply → new ≡ old
-  work_kept (Optimize reclaim limit) format outcome is told = optimize_kept format.units reclaim limit outcome is told
-  work_kept (EditOf edit name) format outcome is told = edit_kept is.result outcome is.told (is.edited.refused honest) told
-  work_kept (Save path given) format outcome is told = elim is [
+  save_kept : (path : List ℕ) (given : GivenView) (format : ChangedMeaning) (outcome : Outcome) → IsSaveOutcome path given format.edits.save format.units old new outcome
+      → outcome ≡ Unfinished reply → new ≡ old
+  save_kept path given format outcome is told = elim is [
     | inl long ↦ long.2
     | inr (inl long) ↦ long.3
     | inr (inr (inl memory)) ↦ memory.3
     | inr (inr (inr tried)) ↦ edit_kept tried.2.result outcome tried.2.told (tried.2.edited.refused honest) told
+  ]
+
+  work_kept : (work : WorkView) (format : ChangedMeaning) (outcome : Outcome) → IsWorkOutcome work format old new outcome → outcome ≡ Unfinished reply → new ≡ old
+  work_kept (Optimize reclaim limit) format outcome is told = optimize_kept format.units reclaim limit outcome is told
+  work_kept (EditOf edit name) format outcome is told = edit_kept is.result outcome is.told (is.edited.refused honest) told
+  work_kept (Save path said) format outcome is told = elim is [
+    | inl long ↦ long.2
+    | inr (inl none) ↦ none.1.3
+    | inr (inr given) ↦ save_kept path given.1.0 format outcome given.1.2 told
   ]
 
 -- what work makes of a volume, or want of memory for its format

@@ -4,6 +4,8 @@ use Rattle.std.specs.Int.{is_in_range}
 use Rattle.std.specs.Str.{bytes_eq}
 use Rattle.shop_changes.specs.declared.given_file.Head.{Head}
 use Rattle.shop_changes.specs.declared.given_file.Head.TheVariants as heads
+use Rattle.shop_jobs.specs.declared.job.FileSystem.{FileSystem}
+use Rattle.shop_jobs.specs.declared.job.FileSystem.TheVariants.{Dos, Prodos}
 
 -- the type that a capital letter names: text, Integer BASIC, Applesoft, binary, special, relocatable
 abbrev pub letter_kind : List ℕ → Option ℕ
@@ -14,11 +16,6 @@ letter_kind word =
     if bytes_eq word (codes "B") then Some 0x04 else
     if bytes_eq word (codes "S") then Some 0x08 else
     if bytes_eq word (codes "R") then Some 0x10 else None
-
--- the type of a DOS 3.3 file that is said, text where none is
-abbrev pub dos_kind : Option (List ℕ) → Option ℕ
-dos_kind None = Some 0x00
-dos_kind (Some word) = letter_kind word
 
 -- the value of a hexadecimal digit: 0 to 9, A to F, a to f
 abbrev pub hex_value : ℕ → Option ℕ
@@ -32,10 +29,29 @@ abbrev pub hex_byte : List ℕ → Option ℕ
 hex_byte (high ∷ low ∷ []) = option_and_then (λ first. option_map (λ second. 16 * first + second) (hex_value low)) (hex_value high)
 hex_byte _ = None
 
--- the type of a ProDOS file that is said, binary where none is
-abbrev pub pro_kind : Option (List ℕ) → Option ℕ
-pro_kind None = Some 0x06
-pro_kind (Some word) = hex_byte word
+-- the type that a word names, in a file system
+abbrev pub kind_named : FileSystem → List ℕ → Option ℕ
+kind_named Dos word = letter_kind word
+kind_named Prodos word = hex_byte word
+
+-- the type where none is said: text in DOS 3.3, binary in ProDOS
+abbrev pub usual_kind : FileSystem → ℕ
+usual_kind Dos = 0x00
+usual_kind Prodos = 0x06
+
+-- the type of DOS 3.3 for one of ProDOS: those that the letters name
+abbrev pub dos_kind_for : ℕ → Option ℕ
+dos_kind_for file_type =
+    if file_type == 0x04 then Some 0x00 else
+    if file_type == 0xfa then Some 0x01 else
+    if file_type == 0xfc then Some 0x02 else
+    if file_type == 0x06 then Some 0x04 else
+    if file_type == 0xf2 then Some 0x08 else
+    if file_type == 0xfe then Some 0x10 else None
+
+abbrev pub kind_for : FileSystem → ℕ → Option ℕ
+kind_for Dos file_type = dos_kind_for file_type
+kind_for Prodos file_type = Some file_type
 
 -- what DOS 3.3 puts before the bytes of a file of a type: of a BASIC program the length, of a binary file the address and the length
 abbrev pub dos_head : ℕ → Head
@@ -43,3 +59,7 @@ dos_head kind =
     if kind == 0x01 then heads.Length else
     if kind == 0x02 then heads.Length else
     if kind == 0x04 then heads.AddressAndLength else heads.None
+
+abbrev pub head_of : FileSystem → ℕ → Head
+head_of Dos kind = dos_head kind
+head_of Prodos kind = heads.None

@@ -9,4 +9,5 @@ pub mod Outcome
 pub mod OptimizeOutcome
 pub mod EditOutcome
 pub mod SaveOutcome
+pub mod SaidFile
 pub mod Changing

@@ -10,7 +10,7 @@ ghost use Rattle.vol_format.specs.Fits.{Fits};
 use crate::editing::edit_in_place;
 use crate::optimizing::optimize_in_place;
 use crate::outcome::Outcome;
-use crate::saving::save_in_place;
+use crate::said_file::save_said;
 use crate::work::Work;
 use a2_device::Device;
 use dos_format::Dos33;
@@ -46,8 +46,8 @@ fn change_by<D: Device, F: SavableFormat>(
             let outcome = edit_in_place(alloc, &mut device, format, edit, name);
             (outcome, device)
         }
-        Work::Save { path, given } => {
-            let outcome = save_in_place(alloc, &mut device, format, path, given);
+        Work::Save { path, said } => {
+            let outcome = save_said(alloc, &mut device, format, path, said);
             (outcome, device)
         }
     }

@@ -1,8 +1,19 @@
 // What the words say of a new file.
-ghost use Rattle.std.specs.Prelude.{◌≡◌, option_map};
-ghost use Rattle.shop_changes.specs.GivenWords.{dos_head, dos_kind, hex_byte, hex_value, letter_kind, pro_kind};
+ghost use Rattle.std.specs.Prelude.{◌≡◌};
+ghost use Rattle.shop_changes.specs.GivenWords.{
+  dos_head,
+  dos_kind_for,
+  head_of,
+  hex_byte,
+  hex_value,
+  kind_for,
+  kind_named,
+  letter_kind,
+  usual_kind,
+};
 
 use crate::given_file::Head;
+use shop_jobs::FileSystem;
 
 // The type that a letter names.
 fn letter_kind(letter: &str) -> Option<u8>
@@ -16,16 +27,6 @@ fn letter_kind(letter: &str) -> Option<u8>
         "S" => Some(0x08),
         "R" => Some(0x10),
         _ => None,
-    }
-}
-
-/// The type of a DOS 3.3 file: one of the letters T I A B S R, T if none is said.
-pub fn dos_kind(word: Option<&str>) -> Option<u8>
-    ensures { result ≡ dos_kind (option_map (λ s. s.now) word.entry) }
-{
-    match word {
-        Some(letter) => letter_kind(letter),
-        None => Some(0x00),
     }
 }
 
@@ -51,23 +52,69 @@ fn hex_byte(digits: &[u8]) -> Option<u8>
     }
 }
 
-/// The type of a ProDOS file: two hexadecimal digits of either case, 06 if none is said.
-pub fn pro_kind(word: Option<&str>) -> Option<u8>
-    ensures { result ≡ pro_kind (option_map (λ s. s.now) word.entry) }
+/// The type that a word names: of DOS 3.3 one of the letters T I A B S R, of ProDOS two hexadecimal digits of either
+/// case.
+pub fn kind_named(file_system: FileSystem, word: &str) -> Option<u8>
+    ensures { result ≡ kind_named file_system word.now }
 {
-    match word {
-        Some(digits) => hex_byte(digits.as_bytes()),
-        None => Some(0x06),
+    match file_system {
+        FileSystem::Dos => letter_kind(word),
+        FileSystem::Prodos => hex_byte(word.as_bytes()),
     }
 }
 
-/// What DOS 3.3 puts before the bytes of a file of a type.
-pub fn dos_head(kind: u8) -> Head
+/// The type of a new file where none is said: T of DOS 3.3, 06 of ProDOS.
+pub fn usual_kind(file_system: FileSystem) -> u8
+    ensures { result ≡ usual_kind file_system }
+{
+    match file_system {
+        FileSystem::Dos => 0x00,
+        FileSystem::Prodos => 0x06,
+    }
+}
+
+// The type of DOS 3.3 for one of ProDOS.
+fn dos_kind_for(file_type: u8) -> Option<u8>
+    ensures { result ≡ dos_kind_for file_type }
+{
+    match file_type {
+        0x04 => Some(0x00),
+        0xfa => Some(0x01),
+        0xfc => Some(0x02),
+        0x06 => Some(0x04),
+        0xf2 => Some(0x08),
+        0xfe => Some(0x10),
+        _ => None,
+    }
+}
+
+/// The type in a file system for one of ProDOS: DOS 3.3 has six of them.
+pub fn kind_for(file_system: FileSystem, file_type: u8) -> Option<u8>
+    ensures { result ≡ kind_for file_system file_type }
+{
+    match file_system {
+        FileSystem::Dos => dos_kind_for(file_type),
+        FileSystem::Prodos => Some(file_type),
+    }
+}
+
+// What DOS 3.3 puts before the bytes of a file of a type.
+fn dos_head(kind: u8) -> Head
     ensures { result ≡ dos_head kind }
 {
     match kind {
         0x01 | 0x02 => Head::Length,
         0x04 => Head::AddressAndLength,
         _ => Head::None,
+    }
+}
+
+/// What a file system puts before the bytes of a file of a type.
+pub fn head_of(file_system: FileSystem, kind: u8) -> Head
+    ensures { result ≡ head_of file_system kind }
+{
+    match file_system {
+        FileSystem::Dos => dos_head(kind),
+        FileSystem::Prodos => Head::None,
     }
 }

@@ -10,7 +10,8 @@
 //! `OptimizeOutcome`, `EditOutcome` and `SaveOutcome` say it of each work by what the optimizer and the commands
 //! promise, and `specs/Changing.antt` of all of them.
 //!
-//! A new file is given in words and bytes. The bytes that are saved are the head that DOS 3.3 puts before the bytes of
+//! A new file is said in words and bytes, and these give a file (`specs/SaidFile.antt`): the bytes as they are, or what
+//! is taken of a text, the listing of a program or an AppleSingle file. The bytes that are saved are the head that DOS 3.3 puts before the bytes of
 //! some files, and the bytes that are given (`specs/GivenFile.antt`, `content`); they stand in units of one size, the
 //! last filled with zeros. A word says the type of the file (`specs/GivenWords.antt`): a letter in DOS 3.3, two
 //! hexadecimal digits in ProDOS. The date of its creation is one of `pro_dates`. A file with a head is never longer than
@@ -28,13 +29,15 @@ mod given_words;
 mod optimizing;
 mod outcome;
 mod report_line;
+mod said_file;
 mod saving;
 mod work;
 
 pub use changing::{change_in_place, change_volume};
 pub use given_error::GivenError;
 pub use given_file::{FileUnits, GivenFile, Head, MOST_INPUT, file_units};
-pub use given_words::{dos_head, dos_kind, pro_kind};
+pub use given_words::{head_of, kind_for, kind_named, usual_kind};
 pub use outcome::Outcome;
 pub use report_line::line_text;
+pub use said_file::SaidFile;
 pub use work::Work;

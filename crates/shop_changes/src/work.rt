@@ -1,5 +1,5 @@
 // Work that changes a volume, with the bytes of its files read.
-use crate::given_file::GivenFile;
+use crate::said_file::SaidFile;
 use file_formats::FileName;
 use shop_jobs::Edit;
 
@@ -7,18 +7,9 @@ use shop_jobs::Edit;
 #[derive(Clone, Copy)]
 pub enum Work<'a> {
     /// Its files are brought into order, by at most so many writes.
-    Optimize {
-        reclaim: bool,
-        limit: u64,
-    },
+    Optimize { reclaim: bool, limit: u64 },
     /// A file of it is changed.
-    Edit {
-        edit: &'a Edit,
-        name: FileName<'a>,
-    },
+    Edit { edit: &'a Edit, name: FileName<'a> },
     /// A new file is saved to it.
-    Save {
-        path: &'a [u8],
-        given: GivenFile<'a>,
-    },
+    Save { path: &'a [u8], said: SaidFile<'a> },
 }

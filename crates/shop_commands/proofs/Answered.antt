@@ -3,11 +3,13 @@ use Rattle.std.proofs.Common.{◌≡◌, ◌≢◌, ◌∙◌, ℕ, ◌+◌, Boo
 use Rattle.std.proofs.lemmas.Bool.{false≢true}
 use Rattle.std.proofs.lemmas.Option.{same_Some}
 use Rattle.std.specs.Io.KnownBytes.{Appends, Keeps}
-use Rattle.std.specs.Prelude.{◌⊎◌, Option, Some, None, IfSome, codes}
+use Rattle.std.specs.Prelude.{◌⊎◌, Option, Some, None, IfSome, IsSome, codes}
 use Rattle.a2_device.specs.declared.order.Order.{Order}
-use Rattle.shop_changes.specs.GivenFile.{GivenView, most_input}
-use Rattle.shop_jobs.specs.Job.{AskView, AttributesView, ChangeOf, ChangeView, Convert, EditOf, EditView, ExtractFrom, Identify, JobView, LookAt, Catalog, Entries, Check, Map, Compare, Read, Plan, Verify, Optimize, Save}
-use Rattle.shop_jobs.specs.Paths.{from_of, is_in_place}
+use Rattle.file_forms.specs.declared.form.GivenForm.{GivenForm}
+use Rattle.shop_changes.specs.GivenFile.{most_input}
+use Rattle.shop_changes.specs.SaidFile.{SaidView}
+use Rattle.shop_jobs.specs.Job.{AskView, AttributesView, ChangeOf, ChangeView, Convert, EditOf, EditView, ExtractFrom, Identify, JobView, LookAt, LookView, Catalog, Entries, Check, Map, Compare, Read, Plan, Verify, Optimize, Save}
+use Rattle.shop_jobs.specs.Paths.{from_of, is_in_place, new_file_of}
 use Rattle.shop_jobs.specs.declared.job.FileSystem.{FileSystem}
 use Rattle.shop_jobs.specs.declared.job.VolumeOptions.{VolumeOptions}
 use Rattle.shop_words.specs.Job.{asked_job}
@@ -26,36 +28,38 @@ use Rattle.file_formats.specs.FileNames.{FileNameView}
 use Rattle.shop_reads.specs.FileNames.{named_by}
 use Rattle.shop_reads.specs.Look.{IsLookReply, shown_by}
 use Rattle.shop_reads.proofs.Fronts.{look-take}
-use Rattle.shop_reads.proofs.NotMade.{look_not_made}
+use Rattle.shop_reads.proofs.NotMade.{look_made}
 use Rattle.shop_changes.specs.EditRules.{changed_by}
 use Rattle.shop_changes.specs.Work.{WorkView}
 use Rattle.shop_changes.specs.Work as works
 use Rattle.shop_image.specs.ChangeReply.{IsChangeReply}
+use Rattle.shop_image.specs.LookReply.{IsImageLook}
 use Rattle.shop_image.specs.VolumeReply.{IsVolumeReply}
-use Rattle.shop_image.proofs.Fronts.{saved-take, volume-told, volume-whole, with_given_bytes}
-use Rattle.shop_image.proofs.NotMade.{edited_image, saved_image, sided_made, volume_made, volume_not_made}
+use Rattle.shop_image.proofs.Fronts.{saved-take, volume-told, volume-whole, with_said_bytes}
+use Rattle.shop_image.proofs.NotMade.{edited_image, said_image, sided_made, sided_same, volume_made}
 use Rattle.image_readings.proofs.Fronts.{identify-whole}
 use Rattle.image_readings.proofs.NotMade.{identify_not_made}
 use Rattle.shop_replies.specs.Reading.{IsReadFailure, most_beside}
 use Rattle.shop_replies.specs.declared.refusal.Side.{Side}
-use Rattle.shop_commands.specs.Answer.{AreToldNoJob, AsksFor, HandsOutFor, IsAnswer, IsCommandAnswer, IsGiven, IsInPlaceAnswer, IsReplyToBytes, IsWordsAnswer, MakesImage, TellsNoJob, beside, image_order_of, unread_reply}
+use Rattle.shop_commands.specs.Answer.{AreToldNoJob, AsksFor, HandsOutFor, IsAnswer, IsCommandAnswer, IsSaid, IsInPlaceAnswer, IsReplyToBytes, IsWordsAnswer, MakesImage, TellsNoJob, beside, image_order_of, unread_reply}
 
 -- what is told of the work of a change
 abbrev IsWorkTold : VolumeOptions → Option (List ℕ) → List ℕ → WorkView → Reply → Type 0
 IsWorkTold volume reserve image work reply = IsVolumeReply volume reserve image (λ (reserved : List Bool). IsChangeReply work (changed_by volume reserved)) reply
 
--- the words of a saving give a file whatever its bytes are
-given-whole : (file_system : FileSystem) (attributes : AttributesView) (front bytes : List ℕ) (given : GivenView) → IsGiven file_system attributes front given
-    → IsGiven file_system attributes bytes (with_given_bytes given bytes)
-given-whole file_system attributes front bytes given is = record { kind = is.kind; aux = is.aux; date = is.date; head = is.head; bytes = refl }
+-- the words of a saving say a file whatever its bytes are
+said-whole : (file_system : FileSystem) (attributes : AttributesView) (form : Option GivenForm) (front bytes : List ℕ) (said : SaidView)
+    → IsSaid file_system attributes form front said → IsSaid file_system attributes form bytes (with_said_bytes said bytes)
+said-whole file_system attributes form front bytes said is =
+    record { system = is.system; kind = is.kind; aux = is.aux; date = is.date; form_is = is.form_is; bytes = refl }
 
 -- a file that is too long is told so by one byte past the most
-saved-whole : (volume : VolumeOptions) (reserve : Option (List ℕ)) (image name : List ℕ) (given : GivenView) (front bytes : List ℕ) (reply : Reply) → front ≡ take (most_input + 1) bytes
-    → IsWorkTold volume reserve image (works.Save name (with_given_bytes given front)) reply → IsWorkTold volume reserve image (works.Save name (with_given_bytes given bytes)) reply
-saved-whole volume reserve image name given front bytes reply taken is =
-    volume-told volume reserve image (λ (reserved : List Bool). IsChangeReply (works.Save name (with_given_bytes given front)) (changed_by volume reserved))
-    (λ (reserved : List Bool). IsChangeReply (works.Save name (with_given_bytes given bytes)) (changed_by volume reserved)) reply
-    (λ reserved device told. saved-take name front bytes given (changed_by volume reserved).edits.save (changed_by volume reserved).units device reply taken told) is
+saved-whole : (volume : VolumeOptions) (reserve : Option (List ℕ)) (image name : List ℕ) (said : SaidView) (front bytes : List ℕ) (reply : Reply) → front ≡ take (most_input + 1) bytes
+    → IsWorkTold volume reserve image (works.Save name (with_said_bytes said front)) reply → IsWorkTold volume reserve image (works.Save name (with_said_bytes said bytes)) reply
+saved-whole volume reserve image name said front bytes reply taken is =
+    volume-told volume reserve image (λ (reserved : List Bool). IsChangeReply (works.Save name (with_said_bytes said front)) (changed_by volume reserved))
+    (λ (reserved : List Bool). IsChangeReply (works.Save name (with_said_bytes said bytes)) (changed_by volume reserved)) reply
+    (λ reserved device told. saved-take name front bytes said (changed_by volume reserved).edits.save (changed_by volume reserved).units device reply taken told) is
 
 -- so the work that is asked with the bytes that were read is told as that with all of them
 asked-whole : (volume : VolumeOptions) (reserve : Option (List ℕ)) (image : List ℕ) (change : ChangeView) (front bytes : List ℕ) (reply : Reply) → front ≡ take (most_input + 1) bytes
@@ -63,11 +67,11 @@ asked-whole : (volume : VolumeOptions) (reserve : Option (List ℕ)) (image : Li
     → (other : WorkView) × AsksFor volume change bytes other × IsWorkTold volume reserve image other reply
 asked-whole volume reserve image (Optimize reclaim stop_after cert) front bytes reply taken work asks told = (work, asks, told)
 asked-whole volume reserve image (EditOf name edit) front bytes reply taken work asks told = (work, asks, told)
-asked-whole volume reserve image (Save name attributes from) front bytes reply taken work (given, is, asks) told = (
-  works.Save name (with_given_bytes given bytes),
-  (with_given_bytes given bytes, given-whole volume.file_system attributes front bytes given is, refl),
-  saved-whole volume reserve image name given front bytes reply taken
-      (subst (λ (w : WorkView). IsWorkTold volume reserve image w reply) (asks ∙ ap (λ (xs : List ℕ). works.Save name (with_given_bytes given xs)) is.bytes) told),
+asked-whole volume reserve image (Save name attributes form from) front bytes reply taken work (said, is, asks) told = (
+  works.Save name (with_said_bytes said bytes),
+  (with_said_bytes said bytes, said-whole volume.file_system attributes form front bytes said is, refl),
+  saved-whole volume reserve image name said front bytes reply taken
+      (subst (λ (w : WorkView). IsWorkTold volume reserve image w reply) (asks ∙ ap (λ (xs : List ℕ). works.Save name (with_said_bytes said xs)) is.bytes) told),
 )
 
 -- the bytes that are read of an image
@@ -127,7 +131,7 @@ unread_not_made (LookAt volume reserve (Entries options)) side failure made = fa
 unread_not_made (LookAt volume reserve (Check bodies)) side failure made = false≢true made
 unread_not_made (LookAt volume reserve Map) side failure made = false≢true made
 unread_not_made (LookAt volume reserve (Compare other options)) side failure made = false≢true made
-unread_not_made (LookAt volume reserve (Read name whole)) side failure made = false≢true made
+unread_not_made (LookAt volume reserve (Read name form out)) side failure made = false≢true made
 unread_not_made (LookAt volume reserve (Plan reclaim in_words)) side failure made = false≢true made
 unread_not_made (LookAt volume reserve (Verify from reclaim)) side failure made = false≢true made
 unread_not_made (ExtractFrom volume options into) side failure made = false≢true made
@@ -140,14 +144,21 @@ pub none_handed : {O P : Type 0} (ask : AskView) (side : Side) (failure : Failur
 none_handed ask side failure reply old new status text_old text_new same handed =
     ⊎_elim inl (λ made. absurd (unread_not_made ask side failure (subst (λ (r : Reply). IsMade r) same made.0))) handed
 
+-- a look that makes something has a new file for it, and answers with `OK`
+looked_made : (volume : VolumeOptions) (reserve : Option (List ℕ)) (look : LookView) (image more : List ℕ) (reply : Reply)
+    → IsImageLook look more volume reserve image reply → IsMade reply → IsSome (new_file_of look) × IsMadeReply reply
+looked_made volume reserve look image more reply looked made =
+    let plain_made = sided_made look looked.plain (subst (λ (r : Reply). IsMade r) looked.told made) in
+    let both = volume_made volume reserve image (λ (reserved : List Bool). IsLookReply look more (shown_by volume reserved)) looked.plain
+    (IsSome (new_file_of look) × IsMadeReply looked.plain)
+    (λ reserved device told. look_made look more (shown_by volume reserved) device looked.plain told plain_made) looked.is plain_made in
+    (both.0, subst (λ (r : Reply). IsMadeReply r) (sym (looked.told ∙ sided_same look looked.plain both.0)) both.1)
+
 -- only a job that makes an image has a reply with one
 makes_image : (ask : AskView) (image more : List ℕ) (reply : Reply) → is_in_place ask ≡ false → IsReplyToBytes ask image more reply → IsMade reply → MakesImage ask
 makes_image Identify image more reply outside is made = absurd (identify_not_made image reply is made)
 makes_image (Convert words) image more reply outside is made = tt
-makes_image (LookAt volume reserve look) image more reply outside looked made =
-    absurd (volume_not_made volume reserve image (λ (reserved : List Bool). IsLookReply look more (shown_by volume reserved)) looked.plain
-    (λ reserved device. look_not_made look more (shown_by volume reserved) device looked.plain) looked.is
-    (sided_made look looked.plain (subst (λ (r : Reply). IsMade r) looked.told made)))
+makes_image (LookAt volume reserve look) image more reply outside looked made = (looked_made volume reserve look image more reply looked made).0
 makes_image (ExtractFrom volume options into) image more reply outside is made = absurd (refused_not_made refusals.Folder reply is made)
 makes_image (ChangeOf volume reserve change target) image more reply outside is made = outside
 
@@ -159,11 +170,11 @@ edit_makes_image volume reserve image edit name reply is made =
     (λ reserved device told. edited_image edit name (changed_by volume reserved).files (changed_by volume reserved).edits (changed_by volume reserved).units device reply told made) is made
 
 -- so does a saving
-save_makes_image : (volume : VolumeOptions) (reserve : Option (List ℕ)) (image name : List ℕ) (given : GivenView) (reply : Reply)
-    → IsWorkTold volume reserve image (works.Save name given) reply → IsMade reply → IsMadeReply reply
-save_makes_image volume reserve image name given reply is made =
-    volume_made volume reserve image (λ (reserved : List Bool). IsChangeReply (works.Save name given) (changed_by volume reserved)) reply (IsMadeReply reply)
-    (λ reserved device told. saved_image name given (changed_by volume reserved).edits.save (changed_by volume reserved).units device reply told made) is made
+save_makes_image : (volume : VolumeOptions) (reserve : Option (List ℕ)) (image name : List ℕ) (said : SaidView) (reply : Reply)
+    → IsWorkTold volume reserve image (works.Save name said) reply → IsMade reply → IsMadeReply reply
+save_makes_image volume reserve image name said reply is made =
+    volume_made volume reserve image (λ (reserved : List Bool). IsChangeReply (works.Save name said) (changed_by volume reserved)) reply (IsMadeReply reply)
+    (λ reserved device told. said_image name said (changed_by volume reserved).edits.save (changed_by volume reserved).units device reply told made) is made
 
 ok_handed : (reply : Reply) (status : ℕ) (old new : Option (List ℕ)) → IsMadeReply reply → HandsOut reply status old new
     → Appends old new (codes "OK\n") × ((status ≡ 0) ⊎ (status ≡ 4))
@@ -178,18 +189,19 @@ hands_for : (ask : AskView) (image more : List ℕ) (reply : Reply) (status : �
 hands_for Identify image more reply status old new is made out = (reply, made, out)
 hands_for (Convert words) image more reply status old new is made out =
     ok_handed reply status old new (converted_image words.order words.to words.volume image reply is made) out
-hands_for (LookAt volume reserve look) image more reply status old new is made out = (reply, made, out)
+hands_for (LookAt volume reserve look) image more reply status old new is made out =
+    ok_handed reply status old new (looked_made volume reserve look image more reply is made).1 out
 hands_for (ExtractFrom volume options into) image more reply status old new is made out = (reply, made, out)
 hands_for (ChangeOf volume reserve (Optimize reclaim stop_after cert) target) image more reply status old new is made out = (reply, made, out)
 hands_for (ChangeOf volume reserve (EditOf name edit) target) image more reply status old new (inl (refusal, told, refuses)) made out = absurd refuses
 hands_for (ChangeOf volume reserve (EditOf name edit) target) image more reply status old new (inr (work, asks, told)) made out =
     ok_handed reply status old new
     (edit_makes_image volume reserve image edit (named_by name) reply (subst (λ (w : WorkView). IsWorkTold volume reserve image w reply) asks told) made) out
-hands_for (ChangeOf volume reserve (Save name attributes from) target) image more reply status old new (inl (refusal, told, refuses)) made out =
+hands_for (ChangeOf volume reserve (Save name attributes form from) target) image more reply status old new (inl (refusal, told, refuses)) made out =
     absurd (refused_not_made refusal reply told made)
-hands_for (ChangeOf volume reserve (Save name attributes from) target) image more reply status old new (inr (work, (given, is, asks), told)) made out =
+hands_for (ChangeOf volume reserve (Save name attributes form from) target) image more reply status old new (inr (work, (said, is, asks), told)) made out =
     ok_handed reply status old new
-    (save_makes_image volume reserve image name given reply (subst (λ (w : WorkView). IsWorkTold volume reserve image w reply) asks told) made) out
+    (save_makes_image volume reserve image name said reply (subst (λ (w : WorkView). IsWorkTold volume reserve image w reply) asks told) made) out
 
 pub image_handed : {O : Type 0} (ask : AskView) (image more : List ℕ) (reply : Reply) (status : ℕ) (text_old text_new : Option (List ℕ)) (old new : O)
     → is_in_place ask ≡ false → IsReplyToBytes ask image more reply → (new ≡ old) ⊎ (IsMade reply × HandsOut reply status text_old text_new)

@@ -28,7 +28,7 @@ answer-dos (LookAt volume None (Entries options)) image extra status old new ans
 answer-dos (LookAt volume None (Check bodies)) image extra status old new answer = tt
 answer-dos (LookAt volume None Map) image extra status old new answer = tt
 answer-dos (LookAt volume None (Compare other options)) image extra status old new answer = tt
-answer-dos (LookAt volume None (Read name whole)) image extra status old new answer = tt
+answer-dos (LookAt volume None (Read name form out)) image extra status old new answer = tt
 answer-dos (LookAt volume None (Plan reclaim in_words)) image extra status old new answer = tt
 answer-dos (LookAt volume None (Verify from reclaim)) image extra status old new answer = tt
 answer-dos (LookAt volume (Some words) look) image extra status old new answer = tt

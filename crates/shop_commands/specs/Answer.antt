@@ -1,16 +1,15 @@
 -- What the program answers to a job on an image, and to words.
-use Rattle.std.specs.Prelude.{◌≡◌, ◌⊎◌, ℕ, true, false, List, [], Option, Some, None, IfSome, IsSome, codes, string_bytes, unwrap_or}
+use Rattle.std.specs.Prelude.{◌≡◌, ◌⊎◌, ℕ, true, false, List, [], Option, Some, None, IfSome, IsSome, codes, option_map, string_bytes, unwrap_or}
 use Rattle.std.specs.Io.KnownBytes.{Appends, Keeps}
 use Rattle.a2_device.specs.declared.order.Order.{Order}
 use Rattle.a2_device.specs.declared.order.Order.TheVariants as orders
 use Rattle.file_listings.specs.DosText.{Text}
-use Rattle.shop_changes.specs.GivenFile.{GivenView}
-use Rattle.shop_changes.specs.GivenWords.{dos_head, dos_kind, pro_kind}
-use Rattle.shop_changes.specs.declared.given_file.Head.{Head}
-use Rattle.shop_changes.specs.declared.given_file.Head.TheVariants as heads
+use Rattle.file_forms.specs.declared.form.GivenForm.{GivenForm}
+use Rattle.shop_changes.specs.GivenWords.{kind_named}
+use Rattle.shop_changes.specs.SaidFile.{SaidView}
 use Rattle.pro_dates.specs.SaidDates.{IsDateOf, NamesDate}
 use Rattle.shop_jobs.specs.Job.{AskView, AttributesView, Catalog, ChangeOf, ChangeView, Compare, Convert, EditOf, ExtractFrom, Identify, JobView, LookAt, Optimize, Save}
-use Rattle.shop_jobs.specs.Paths.{from_of, is_in_place, named_order_of}
+use Rattle.shop_jobs.specs.Paths.{from_of, is_in_place, named_order_of, new_file_of}
 use Rattle.shop_jobs.specs.declared.job.FileSystem.{FileSystem}
 use Rattle.shop_jobs.specs.declared.job.FileSystem.TheVariants as systems
 use Rattle.shop_jobs.specs.declared.job.VolumeOptions.{VolumeOptions}
@@ -51,40 +50,36 @@ IsStatus status = (status ≡ 0) ⊎ (status ≡ 1) ⊎ (status ≡ 3) ⊎ (stat
 
 -- ---- what is asked of a volume
 
--- the type that the words name, in a file system
-abbrev pub kind_of : FileSystem → Option Text → Option ℕ
-kind_of systems.Dos word = dos_kind word
-kind_of systems.Prodos word = pro_kind word
+-- the type that the words name, in a file system, or that they name none
+abbrev pub kind_said : FileSystem → Option Text → Option (Option ℕ)
+kind_said file_system None = Some None
+kind_said file_system (Some word) = option_map Some (kind_named file_system word)
 
--- what a file system puts before the bytes of a file of this type
-abbrev pub head_of : FileSystem → ℕ → Head
-head_of systems.Dos kind = dos_head kind
-head_of systems.Prodos kind = heads.None
+-- such words and these bytes, given in this form, say the file, in a file system
+pub record IsSaid (file_system : FileSystem) (words : AttributesView) (form : Option GivenForm) (content : List ℕ) (said : SaidView) : Type 0 where
+  pub system : said.file_system ≡ file_system
+  pub kind : kind_said file_system words.kind ≡ Some said.kind
+  pub aux : said.aux ≡ words.aux
+  pub date : IsDateOf words.date said.date
+  pub form_is : said.form ≡ form
+  pub bytes : said.bytes ≡ content
 
--- such words and these bytes give the file, in a file system
-pub record IsGiven (file_system : FileSystem) (words : AttributesView) (content : List ℕ) (given : GivenView) : Type 0 where
-  pub kind : kind_of file_system words.kind ≡ Some given.kind
-  pub aux : given.aux ≡ words.aux
-  pub date : IsDateOf words.date given.date
-  pub head : given.head ≡ head_of file_system given.kind
-  pub bytes : given.bytes ≡ content
-
--- such words give no file: `Type` for a type that the file system does not have, first, and `Date` for a date that is none
+-- such words say no file: `Type` for a type that the file system does not have, first, and `Date` for a date that is none
 abbrev pub RefusesAttributes : FileSystem → AttributesView → Refusal → Type 0
-RefusesAttributes file_system words refusals.Type = kind_of file_system words.kind ≡ None
-RefusesAttributes file_system words refusals.Date = IsSome (kind_of file_system words.kind) × ¬ NamesDate words.date
+RefusesAttributes file_system words refusals.Type = kind_said file_system words.kind ≡ None
+RefusesAttributes file_system words refusals.Date = IsSome (kind_said file_system words.kind) × ¬ NamesDate words.date
 RefusesAttributes file_system words refusal = ⊥
 
 -- the work that a change asks of its volume, with the bytes of a file beside the image
 abbrev pub AsksFor : VolumeOptions → ChangeView → List ℕ → WorkView → Type 0
 AsksFor volume (Optimize reclaim stop_after cert) bytes work = work ≡ works.Optimize reclaim (limit_of stop_after)
 AsksFor volume (EditOf name edit) bytes work = work ≡ works.EditOf edit (named_by name)
-AsksFor volume (Save name attributes from) bytes work =
-    (given : GivenView) × IsGiven volume.file_system attributes bytes given × (work ≡ works.Save name given)
+AsksFor volume (Save name attributes form from) bytes work =
+    (said : SaidView) × IsSaid volume.file_system attributes form bytes said × (work ≡ works.Save name said)
 
 -- the words of a change are refused: those of a saving alone
 abbrev pub RefusesWords : VolumeOptions → ChangeView → Refusal → Type 0
-RefusesWords volume (Save name attributes from) refusal = RefusesAttributes volume.file_system attributes refusal
+RefusesWords volume (Save name attributes form from) refusal = RefusesAttributes volume.file_system attributes refusal
 RefusesWords volume change refusal = ⊥
 
 -- ---- what is told
@@ -139,20 +134,21 @@ abbrev pub ChangesVolume : AskView → Type 0
 ChangesVolume (ChangeOf volume reserve change target) = Unit {0}
 ChangesVolume ask = ⊥
 
--- the job makes an image, for the output file
+-- the job makes an image for the output file, or the bytes of a file for a new one
 abbrev pub MakesImage : AskView → Type 0
 MakesImage Identify = ⊥
 MakesImage (Convert words) = Unit {0}
-MakesImage (LookAt volume reserve look) = ⊥
+MakesImage (LookAt volume reserve look) = IsSome (new_file_of look)
 MakesImage (ExtractFrom volume options into) = ⊥
 MakesImage (ChangeOf volume reserve change target) = is_in_place (ChangeOf volume reserve change target) ≡ false
 
--- the image of a job is handed out, once its text is told: `OK` for a conversion, an edit or a saving, else that of the
--- optimizer's reply
+-- the image of a job is handed out, once its text is told: `OK` for a conversion, a file that is read, an edit or a saving,
+-- else that of the optimizer's reply
 abbrev pub HandsOutFor : AskView → ℕ → Option (List ℕ) → Option (List ℕ) → Type 0
 HandsOutFor (Convert words) status old new = Appends old new (codes "OK\n") × ((status ≡ 0) ⊎ (status ≡ 4))
+HandsOutFor (LookAt volume reserve look) status old new = Appends old new (codes "OK\n") × ((status ≡ 0) ⊎ (status ≡ 4))
 HandsOutFor (ChangeOf volume reserve (EditOf name edit) target) status old new = Appends old new (codes "OK\n") × ((status ≡ 0) ⊎ (status ≡ 4))
-HandsOutFor (ChangeOf volume reserve (Save name attributes from) target) status old new = Appends old new (codes "OK\n") × ((status ≡ 0) ⊎ (status ≡ 4))
+HandsOutFor (ChangeOf volume reserve (Save name attributes form from) target) status old new = Appends old new (codes "OK\n") × ((status ≡ 0) ⊎ (status ≡ 4))
 HandsOutFor ask status old new = HandsImage status old new
 
 -- what is told where bytes could not be read; a comparison says of which of its images

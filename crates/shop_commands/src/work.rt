@@ -1,20 +1,20 @@
 // The work that a change asks for.
 ghost use Rattle.std.specs.Prelude.{◌≡◌, IfErr, IfOk, option_map};
-ghost use Rattle.shop_changes.specs.GivenFile.{given_view};
+ghost use Rattle.shop_changes.specs.SaidFile.{said_view};
 ghost use Rattle.shop_jobs.specs.Job.{attributes_view, change_view};
 ghost use Rattle.shop_changes.specs.Work.{work_view};
 ghost use Rattle.shop_commands.specs.Answer.{
   AsksFor,
-  IsGiven,
+  IsSaid,
   RefusesAttributes,
   RefusesWords,
-  head_of as first_of,
-  kind_of as type_of,
+  kind_said as said_kind,
   limit_of as of_limit,
 };
 
+use file_forms::GivenForm;
 use pro_dates::date;
-use shop_changes::{GivenFile, Head, Work, dos_head, dos_kind, pro_kind};
+use shop_changes::{SaidFile, Work, kind_named};
 use shop_jobs::{Change, FileSystem, SaveAttributes, VolumeOptions};
 use shop_reads::file_name;
 use shop_replies::Refusal;
@@ -29,47 +29,39 @@ fn limit_of(stop_after: Option<u64>) -> u64
     }
 }
 
-// The type that the words name, in a file system.
-fn kind_of(file_system: FileSystem, word: Option<&str>) -> Option<u8>
-    ensures { result ≡ type_of file_system (option_map (λ s. s.now) word.entry) }
+// The type that the words name, in a file system, if they name one; `None` for one that it does not have.
+fn kind_said(file_system: FileSystem, word: Option<&str>) -> Option<Option<u8>>
+    ensures { result ≡ said_kind file_system (option_map (λ s. s.now) word.entry) }
 {
-    match file_system {
-        FileSystem::Dos => dos_kind(word),
-        FileSystem::Prodos => pro_kind(word),
+    match word {
+        Some(word) => Some(Some(kind_named(file_system, word)?)),
+        None => Some(None),
     }
 }
 
-// What a file system puts before the bytes of a file of this type.
-fn head_of(file_system: FileSystem, kind: u8) -> Head
-    ensures { result ≡ first_of file_system kind }
-{
-    match file_system {
-        FileSystem::Dos => dos_head(kind),
-        FileSystem::Prodos => Head::None,
-    }
-}
-
-// The file that the words of a saving and these bytes give.
-fn given_by<'a>(
+// The file that the words of a saving and these bytes say.
+fn said_by<'a>(
     file_system: FileSystem,
     attributes: &SaveAttributes,
+    form: Option<GivenForm>,
     bytes: &'a [u8],
-) -> Result<GivenFile<'a>, Refusal>
-    ensures given { IfOk result (λ given.
-        IsGiven file_system (attributes_view attributes.now) bytes.now (given_view given)) }
+) -> Result<SaidFile<'a>, Refusal>
+    ensures said { IfOk result (λ said.
+        IsSaid file_system (attributes_view attributes.now) form bytes.now (said_view said)) }
     ensures refused { IfErr result (RefusesAttributes file_system (attributes_view attributes.now)) }
 {
-    let Some(kind) = kind_of(file_system, attributes.kind.as_deref()) else {
+    let Some(kind) = kind_said(file_system, attributes.kind.as_deref()) else {
         return Err(Refusal::Type);
     };
     let Some(date) = date(attributes.date.as_deref()) else {
         return Err(Refusal::Date);
     };
-    Ok(GivenFile {
+    Ok(SaidFile {
+        file_system,
         kind,
         aux: attributes.aux,
         date,
-        head: head_of(file_system, kind),
+        form,
         bytes,
     })
 }
@@ -102,10 +94,11 @@ pub fn change_work<'a>(
         Change::Save {
             name,
             attributes,
+            form,
             ..
         } => Ok(Work::Save {
             path: name.as_bytes(),
-            given: given_by(volume.file_system, attributes, extra)?,
+            said: said_by(volume.file_system, attributes, *form, extra)?,
         }),
     }
 }

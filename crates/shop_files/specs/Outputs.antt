@@ -3,18 +3,26 @@ use Rattle.std.specs.Prelude.{◌≡◌, ◌⊎◌, ℕ, List, Option, Some, Non
 use Rattle.std.specs.declared.alloc.Global.{Global}
 use Rattle.shop_files.specs.declared.target.Target.{Target}
 use Rattle.shop_files.specs.declared.target.Target.TheVariants.{Nowhere}
-use Rattle.shop_jobs.specs.Job.{JobView}
-use Rattle.shop_jobs.specs.Paths.{IsOnStandardInput, certificate_of, from_of, out_of}
+use Rattle.shop_jobs.specs.Job.{AskView, JobView}
+use Rattle.shop_jobs.specs.Paths.{IsOnStandardInput, MakesNewFile, certificate_of, from_of, out_of}
 use Rattle.shop_files.specs.Written.{GoesTo, IsUntouched}
+use Rattle.shop_files.specs.declared.aside.Placing.{Placing}
+use Rattle.shop_files.specs.declared.aside.Placing.TheVariants.{Free, Over}
 use Rattle.shop_files.specs.declared.output.Output.{Output}
 use Rattle.shop_files.specs.declared.output.Output.TheVariants.{Nothing}
 use Rattle.shop_files.specs.declared.files.JobFiles.{JobFiles}
 use Rattle.shop_files.specs.declared.files.NamedFile.{NamedFile}
 
--- the file of a path that may be left out: none without a path, else a new one that goes to this target
-abbrev pub IsOutputOf : Option (List ℕ) → Target Global → Output → Type 0
-IsOutputOf None target output = output ≡ Nothing
-IsOutputOf (Some path) target output = GoesTo path target output × IsUntouched output
+-- the file of a path that may be left out: none without a path, else a new one that goes to this target, of which it may
+-- take such a place
+abbrev pub IsOutputOf : Option (List ℕ) → Target Global → Placing → Output → Type 0
+IsOutputOf None target placing output = output ≡ Nothing
+IsOutputOf (Some path) target placing output = GoesTo path target placing output × IsUntouched output
+
+-- the output file of a job that overwrites none may take a free place alone
+pub record IsPlacingOf (ask : AskView) (placing : Placing) : Type 0 where
+  pub free : MakesNewFile ask → placing ≡ Free
+  pub over : ¬ MakesNewFile ask → placing ≡ Over
 
 -- A file has this path, or none; without a path it leads nowhere.
 pub record IsNamed (path : Option (List ℕ)) (file : NamedFile) : Type 0 where
@@ -32,4 +40,5 @@ pub record NamesFiles (job : JobView) (files : JobFiles) : Type 0 where
   pub input : ¬ IsOnStandardInput job → files.input ≡ None
   pub from : IsNamed (from_of job.ask) files.from
   pub out : IsNamed (out_of job.ask) files.out
+  pub placing : IsPlacingOf job.ask files.placing
   pub certificate : IsNamed (certificate_of job.ask) files.certificate

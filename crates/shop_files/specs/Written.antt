@@ -5,6 +5,7 @@ use Rattle.std.specs.declared.alloc.Global.{Global}
 use Rattle.std.specs.declared.io.ErrorKind.{ErrorKind}
 use Rattle.shop_files.specs.declared.target.Target.{Target}
 use Rattle.shop_files.specs.declared.target.Target.TheVariants.{Straight}
+use Rattle.shop_files.specs.declared.aside.Placing.{Placing}
 use Rattle.shop_files.specs.declared.output.Output.{Output}
 use Rattle.shop_files.specs.declared.output.Output.TheVariants.{Nothing, Aside, Held}
 
@@ -37,8 +38,8 @@ abbrev pub HasPut : List ℕ → Output → Output → Type 0
 HasPut bytes old new = ((failure_of old ≡ None) × Appends (held_bytes old) (held_bytes new) bytes) ⊎ (new ≡ Nothing)
 
 -- It goes to a path that leads to such a target: held for the path itself where that is written straight, else aside,
--- for the target.
-abbrev pub GoesTo : List ℕ → Target Global → Output → Type 0
-GoesTo path target Nothing = ⊥
-GoesTo path target (Aside file) = (target ≢ Straight) × (file.target.now ≡ target)
-GoesTo path target (Held file) = (target ≡ Straight) × (file.path.now ≡ path)
+-- for the target, of which it may take such a place.
+abbrev pub GoesTo : List ℕ → Target Global → Placing → Output → Type 0
+GoesTo path target placing Nothing = ⊥
+GoesTo path target placing (Aside file) = (target ≢ Straight) × (file.target.now ≡ target) × (file.placing ≡ placing)
+GoesTo path target placing (Held file) = (target ≡ Straight) × (file.path.now ≡ path)

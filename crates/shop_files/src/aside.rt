@@ -18,12 +18,22 @@ const MOST_NAMES: u32 = 100;
 /// The access mode of a file aside, until it gets that of the file whose place it takes: nobody else may look into it.
 const OWN_MODE: u32 = 0o600;
 
+/// Which place a file may take.
+#[derive(Clone, Copy, Debug, PartialEq, Eq)]
+pub enum Placing {
+    /// Also that of a file that stands there.
+    Over,
+    /// One at which nothing stands.
+    Free,
+}
+
 /// A file that is written beside the one whose place it takes. It is made when its first bytes are written.
 #[derive(Drop)]
 pub struct AsideFile<'a, R: Files, A: Allocator> {
     rt: &'a R,
     alloc: A,
     target: &'a Target<A>,
+    placing: Placing,
     made: Option<(String<A>, R::File)>,
     failure: Option<ErrorKind>,
 }
@@ -84,18 +94,48 @@ fn keep_standing<R: Files>(
     file.set_permissions(standing.mode.clone()?)
 }
 
+// Whether a call failed since the file system knows no second name of a file.
+fn knows_no_links(kind: ErrorKind) -> bool {
+    matches!(kind, ErrorKind::Unsupported | ErrorKind::PermissionDenied)
+}
+
+// Gives a file aside its place by making an empty file there first, which fails where something stands.
+fn take_made_place<R: Files>(rt: &R, aside: &str, place: &str) -> io::Result<()> {
+    let file = options_for(None).open(rt, place)?;
+    drop(file);
+    let taken = fs::rename(rt, aside, place);
+    if taken.is_err() {
+        let _removed = fs::remove_file(rt, place);
+    }
+    taken
+}
+
+// Gives a file aside its place, at which nothing may stand: its second name there fails where something does.
+fn take_free_place<R: Files>(rt: &R, aside: &str, place: &str) -> io::Result<()> {
+    match rt.hard_link(aside, place) {
+        Ok(()) => {
+            let _removed = fs::remove_file(rt, aside);
+            Ok(())
+        }
+        Err(error) if knows_no_links(error.kind()) => take_made_place(rt, aside, place),
+        Err(error) => Err(error),
+    }
+}
+
 impl<'a, R: Files, A: Allocator + Copy> AsideFile<'a, R, A> {
     /// A file that is to take a target's place, with the access mode of the one that stands there, without set-id bits,
     /// and with its owner and group where the caller may give them. Nothing is made yet; of a target that is no place,
     /// each write will fail.
-    pub fn new(rt: &'a R, alloc: A, target: &'a Target<A>) -> AsideFile<'a, R, A>
+    pub fn new(rt: &'a R, alloc: A, target: &'a Target<A>, placing: Placing) -> AsideFile<'a, R, A>
         ensures target { result.target.now ≡ target.now }
+        ensures placing { result.placing ≡ placing }
         ensures untouched { (result.made ≡ None) × (result.failure ≡ None) }
     {
         AsideFile {
             rt,
             alloc,
             target,
+            placing,
             made: None,
             failure: None,
         }
@@ -162,6 +202,7 @@ impl<'a, R: Files, A: Allocator + Copy> AsideFile<'a, R, A> {
         let AsideFile {
             rt,
             target,
+            placing,
             made,
             ..
         } = self;
@@ -169,7 +210,10 @@ impl<'a, R: Files, A: Allocator + Copy> AsideFile<'a, R, A> {
             return Ok(());
         };
         drop(file);
-        let taken = fs::rename(rt, path.as_str(), place.path.as_str());
+        let taken = match placing {
+            Placing::Over => fs::rename(rt, path.as_str(), place.path.as_str()),
+            Placing::Free => take_free_place(rt, path.as_str(), place.path.as_str()),
+        };
         if taken.is_err() {
             let _removed = fs::remove_file(rt, path.as_str());
         }

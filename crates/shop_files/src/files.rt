@@ -1,16 +1,16 @@
 // Where the paths of a job lead.
-ghost use Rattle.std.specs.Prelude.{◌≡◌, ◌↔◌, IfErr, IfOk, IfSome, None, option_map};
+ghost use Rattle.std.specs.Prelude.{◌≡◌, ◌↔◌, IfErr, IfOk, IfSome, IsTrue, None, option_map};
 ghost use Rattle.std.specs.IoError.{error_kind};
-ghost use Rattle.shop_jobs.specs.Job.{job_view};
-ghost use Rattle.shop_files.specs.Outputs.{IsNamed, IsOutputOf, NamesFiles};
+ghost use Rattle.shop_jobs.specs.Job.{ask_view, job_view};
+ghost use Rattle.shop_files.specs.Outputs.{IsNamed, IsOutputOf, IsPlacingOf, NamesFiles};
 ghost use Rattle.shop_files.specs.Roles.{HasClash, IsUse, identity_of, identity_view, image_identity, roles_of};
 ghost use Rattle.shop_files.specs.declared.clash.Clash.{Clash as AClash};
 
 use crate::clash::{Clash, Roles};
 use crate::identity::{FileIdentity, is_same_file};
 use crate::image::ImageUse;
-use crate::{Node, Output, Target, target_of};
-use shop_jobs::{Job, certificate_path, from_path, is_on_standard_input, out_path};
+use crate::{Node, Output, Placing, Target, target_of};
+use shop_jobs::{Job, certificate_path, from_path, is_on_standard_input, makes_new_file, out_path};
 use std::alloc::Global;
 use std::io::ErrorKind;
 use std::{fs, io};
@@ -60,13 +60,21 @@ impl<'a> NamedFile<'a> {
         }
     }
 
-    // The file to be written there, if there is a path.
-    fn output<'b>(&'b self, rt: &'b HostRuntime) -> Output<'b>
-        ensures { IsOutputOf (option_map (λ s. s.now) self.now.path) self.now.target result }
+    // The file to be written there, if there is a path, which may take such a place.
+    fn output<'b>(&'b self, rt: &'b HostRuntime, placing: Placing) -> Output<'b>
+        ensures { IsOutputOf (option_map (λ s. s.now) self.now.path) self.now.target placing result }
     {
         match self.path {
-            Some(path) => Output::new(rt, path, &self.target),
+            Some(path) => Output::new(rt, path, &self.target, placing),
             None => Output::Nothing,
+        }
+    }
+
+    // Whether something stands at the path itself, a link too.
+    fn is_taken(&self, rt: &HostRuntime) -> bool {
+        match self.path {
+            Some(path) => fs::symlink_metadata(rt, path).is_ok(),
+            None => false,
         }
     }
 }
@@ -79,7 +87,19 @@ pub struct JobFiles<'a> {
     input: Option<Node>,
     from: NamedFile<'a>,
     out: NamedFile<'a>,
+    placing: Placing,
     certificate: NamedFile<'a>,
+}
+
+// Which place the output file of a job may take.
+fn placing_of(job: &Job) -> Placing
+    ensures { IsPlacingOf (ask_view job.now.ask) result }
+{
+    if makes_new_file(job) {
+        Placing::Free
+    } else {
+        Placing::Over
+    }
 }
 
 // Which file standard input is, if it is a regular one and the system shows it.
@@ -104,6 +124,7 @@ impl<'a> JobFiles<'a> {
             input: if is_input { input_node(rt) } else { None },
             from: NamedFile::of(rt, from_path(job))?,
             out: NamedFile::of(rt, out_path(job))?,
+            placing: placing_of(job),
             certificate: NamedFile::of(rt, certificate_path(job))?,
         })
     }
@@ -149,17 +170,26 @@ impl<'a> JobFiles<'a> {
         }
     }
 
-    /// The output file of a job that has one, for its image.
-    pub fn output<'b>(&'b self, rt: &'b HostRuntime) -> Output<'b>
-        ensures { IsOutputOf (option_map (λ s. s.now) self.now.out.path) self.now.out.target result }
+    /// Whether the output file is to be a new one, and something stands at its path, a link too.
+    pub fn has_no_free_place(&self, rt: &HostRuntime) -> bool
+        ensures { IsTrue result → self.now.placing ≡ Placing.Free }
     {
-        self.out.output(rt)
+        self.placing == Placing::Free && self.out.is_taken(rt)
+    }
+
+    /// The output file of a job that has one, for its image or for the bytes of a file.
+    pub fn output<'b>(&'b self, rt: &'b HostRuntime) -> Output<'b>
+        ensures { IsOutputOf
+            (option_map (λ s. s.now) self.now.out.path) self.now.out.target self.now.placing result }
+    {
+        self.out.output(rt, self.placing)
     }
 
     /// The file of the certificate of a job that writes one.
     pub fn certificate_output<'b>(&'b self, rt: &'b HostRuntime) -> Output<'b>
-        ensures { IsOutputOf (option_map (λ s. s.now) self.now.certificate.path) self.now.certificate.target result }
+        ensures { IsOutputOf
+            (option_map (λ s. s.now) self.now.certificate.path) self.now.certificate.target Placing.Over result }
     {
-        self.certificate.output(rt)
+        self.certificate.output(rt, Placing::Over)
     }
 }

@@ -36,7 +36,7 @@ mod settling;
 mod target;
 mod telling;
 
-pub use aside::AsideFile;
+pub use aside::{AsideFile, Placing};
 pub use bytes::{extra_bytes, other_bytes};
 pub use clash::{Clash, Roles};
 pub use ending::{Ending, Unwritten};

@@ -5,7 +5,7 @@ ghost use Rattle.std.specs.Io.KnownBytes.{WriteAppends};
 ghost use Rattle.std.specs.IoError.{error_kind};
 ghost use Rattle.shop_files.specs.Written.{GoesTo, HasPut, IsNoted, IsUntouched, failure_of, held_bytes};
 
-use crate::{AsideFile, Target};
+use crate::{AsideFile, Placing, Target};
 use std::alloc::Global;
 use std::fs::File;
 use std::io::{self, ErrorKind, Write};
@@ -30,9 +30,14 @@ pub enum Output<'a> {
 }
 
 impl<'a> Output<'a> {
-    /// The file of a path that leads to a target.
-    pub fn new(rt: &'a HostRuntime, path: &'a str, target: &'a Target<Global>) -> Output<'a>
-        ensures goes { GoesTo path.now target.now result }
+    /// The file of a path that leads to a target, which may take such a place.
+    pub fn new(
+        rt: &'a HostRuntime,
+        path: &'a str,
+        target: &'a Target<Global>,
+        placing: Placing,
+    ) -> Output<'a>
+        ensures goes { GoesTo path.now target.now placing result }
         ensures untouched { IsUntouched result }
     {
         match target {
@@ -42,7 +47,7 @@ impl<'a> Output<'a> {
                 bytes: Vec::new(rt.alloc()),
                 failure: None,
             }),
-            target => Output::Aside(AsideFile::new(rt, rt.alloc(), target)),
+            target => Output::Aside(AsideFile::new(rt, rt.alloc(), target, placing)),
         }
     }
 

@@ -42,6 +42,8 @@ pub fn end_by<T: Write>(
     match told.text(alloc) {
         Ok(told) => {
             if let Some(image) = image {
+                // An empty file is made too; where it can't be, the settling tells why.
+                let _ = out.open();
                 out.put(image.as_slice());
             }
             settle(out, certificate, status.number(), told.as_slice(), text)

@@ -211,7 +211,8 @@ const IN_THE_WAY_OF_A_FOLDER: &str =
 /// What may be in the way of an output file.
 const IN_THE_WAY: &str =
     "A file is first written under another name in the same folder, one that ends in `.new`. Look whether the folder \
-    is there and may be written to, whether the disk has room, and whether the name is that of a folder or too long. \
+    is there and may be written to, whether the disk has room, and whether the name is that of a folder or too long; \
+    a new file does not take the place of one that was put there in the meantime. \
     Files that end in `.new` and were left behind there may be deleted.";
 
 // The name of a file as it is shown.

@@ -4,12 +4,13 @@ use Rattle.std.specs.Prelude.{Option}
 use Rattle.a2_device.specs.Device.{DeviceState}
 use Rattle.vol_format.specs.Meaning.{Meaning}
 use Rattle.save_formats.specs.Saves.{SaveMeaning}
-use Rattle.shop_changes.specs.GivenFile.{GivenView, most_input}
+use Rattle.shop_changes.specs.GivenFile.{most_input}
+use Rattle.shop_changes.specs.SaidFile.{SaidView}
 use Rattle.shop_jobs.specs.declared.job.VolumeOptions.{VolumeOptions}
 use Rattle.shop_replies.specs.declared.reply.Reply.{Reply}
 use Rattle.shop_replies.specs.Disk.{most_bytes}
 use Rattle.shop_replies.proofs.Fronts.{OfVolume-whole, TakesBytes-take}
-use Rattle.shop_image.specs.SaveReply.{IsSaved}
+use Rattle.shop_image.specs.SaveReply.{IsSaidSaved}
 use Rattle.shop_image.specs.VolumeReply.{IsVolumeReply}
 
 pub volume-whole : (volume : VolumeOptions) (reserve : Option (List ℕ)) (image : List ℕ) (Tells : List Bool → DeviceState → Reply → Type 0) (reply : Reply)
@@ -31,13 +32,13 @@ volume-told volume reserve image Tells Others reply each is = elim is [
 ]
 
 -- the same is said of a file, of which there are other bytes
-abbrev pub with_given_bytes : GivenView → List ℕ → GivenView
-with_given_bytes given bytes = record given { bytes = bytes }
+abbrev pub with_said_bytes : SaidView → List ℕ → SaidView
+with_said_bytes said bytes = record said { bytes = bytes }
 
-pub saved-take : (path front bytes : List ℕ) (given : GivenView) (saves : SaveMeaning) (format : Meaning) (device : DeviceState) (reply : Reply) → front ≡ take (most_input + 1) bytes
-    → IsSaved path (with_given_bytes given front) saves format device reply → IsSaved path (with_given_bytes given bytes) saves format device reply
-saved-take path front bytes given saves format device reply taken is = elim is [
+pub saved-take : (path front bytes : List ℕ) (said : SaidView) (saves : SaveMeaning) (format : Meaning) (device : DeviceState) (reply : Reply) → front ≡ take (most_input + 1) bytes
+    → IsSaidSaved path (with_said_bytes said front) saves format device reply → IsSaidSaved path (with_said_bytes said bytes) saves format device reply
+saved-take path front bytes said saves format device reply taken is = elim is [
   | inl long ↦ inl (long.0, omega (arith, long.1, ap (λ (xs : List ℕ). length xs) taken, length-take (most_input + 1) bytes))
-  | inr short ↦ subst (λ (all : List ℕ). IsSaved path (with_given_bytes given all) saves format device reply)
+  | inr short ↦ subst (λ (all : List ℕ). IsSaidSaved path (with_said_bytes said all) saves format device reply)
       (taken ∙ take_all (most_input + 1) bytes (omega (arith, short.0, ap (λ (xs : List ℕ). length xs) taken, length-take (most_input + 1) bytes))) (inr short)
 ]

@@ -1,22 +1,26 @@
 -- Which replies on an image have one, and which have none.
-use Rattle.std.proofs.Common.{ℕ, Bool, List, inl, inr}
-use Rattle.std.specs.Prelude.{Option}
+use Rattle.std.proofs.Common.{◌≡◌, ℕ, Bool, List, None, Some, inl, inr, refl}
+use Rattle.std.specs.Prelude.{IsSome, Option}
 use Rattle.a2_device.specs.Device.{DeviceState}
 use Rattle.vol_format.specs.Meaning.{Meaning}
 use Rattle.file_formats.specs.FileNames.{FileNameView}
 use Rattle.file_formats.specs.Files.{FileMeaning}
 use Rattle.save_formats.specs.Saves.{SaveMeaning}
+use Rattle.file_forms.specs.declared.form.GivenForm.{GivenForm}
 use Rattle.shop_changes.specs.GivenFile.{GivenView}
+use Rattle.shop_changes.specs.SaidFile.{IsNotGivenBy, SaidView, TellsBadLine}
 use Rattle.shop_jobs.specs.Job.{EditView}
+use Rattle.shop_jobs.specs.Paths.{new_file_of}
 use Rattle.shop_jobs.specs.declared.job.VolumeOptions.{VolumeOptions}
 use Rattle.shop_replies.specs.declared.refusal.Refusal.TheVariants as refusals
 use Rattle.shop_replies.specs.declared.refusal.Failure.TheVariants as failures
 use Rattle.shop_replies.specs.declared.reply.Reply.{Reply}
+use Rattle.shop_replies.specs.declared.reply.Status.TheVariants.{Refused}
 use Rattle.shop_replies.specs.Reply.{IsMade, IsMadeReply}
-use Rattle.shop_replies.proofs.NotMade.{failed_not_made, refused_not_made}
+use Rattle.shop_replies.proofs.NotMade.{failed_not_made, refused_not_made, told_not_made}
 use Rattle.shop_changes.specs.EditRules.{EditRules}
 use Rattle.shop_image.specs.EditReply.{IsEdited}
-use Rattle.shop_image.specs.SaveReply.{IsSaved}
+use Rattle.shop_image.specs.SaveReply.{IsSaidSaved, IsSaved}
 use Rattle.shop_jobs.specs.Job.{LookView, Catalog, Entries, Check, Compare, Map, Read, Plan, Verify}
 use Rattle.shop_image.specs.LookReply.{sided}
 use Rattle.shop_image.specs.VolumeReply.{IsUntaken, IsVolumeReply}
@@ -54,7 +58,7 @@ edited_image edit name files edits format device reply is made = elim is [
 ]
 
 -- so does a saving
-pub saved_image : (path : List ℕ) (given : GivenView) (saves : SaveMeaning) (format : Meaning) (device : DeviceState) (reply : Reply)
+saved_image : (path : List ℕ) (given : GivenView) (saves : SaveMeaning) (format : Meaning) (device : DeviceState) (reply : Reply)
     → IsSaved path given saves format device reply → IsMade reply → IsMadeReply reply
 saved_image path given saves format device reply is made = elim is [
   | inl long ↦ absurd (refused_not_made refusals.InputTooLong reply long.0 made)
@@ -65,6 +69,30 @@ saved_image path given saves format device reply is made = elim is [
   | inr (_, inr (_, inr (inr (inr failed)))) ↦ absurd (failed_not_made failures.Memory reply failed made)
 ]
 
+no_text_made : (line : ℕ) (reply : Reply) → TellsBadLine line reply → ¬ IsMade reply
+no_text_made line reply is made = elim is [
+  | inl told ↦ told_not_made Refused reply told.0 made
+  | inr failed ↦ failed_not_made failures.Memory reply failed made
+]
+
+none_made : (said : SaidView) (form : Option GivenForm) (reply : Reply) → IsNotGivenBy said form reply → ¬ IsMade reply
+none_made said None reply is made = is
+none_made said (Some form) reply is made = elim is [
+  | inl bad ↦ no_text_made bad.line reply bad.told made
+  | inr (inl single) ↦ refused_not_made refusals.Single reply single.0 made
+  | inr (inr (inl type)) ↦ refused_not_made refusals.Type reply type.0 made
+  | inr (inr (inr failed)) ↦ failed_not_made failures.Memory reply failed made
+]
+
+-- also of a file as words and bytes say it
+pub said_image : (path : List ℕ) (said : SaidView) (saves : SaveMeaning) (format : Meaning) (device : DeviceState) (reply : Reply)
+    → IsSaidSaved path said saves format device reply → IsMade reply → IsMadeReply reply
+said_image path said saves format device reply is made = elim is [
+  | inl long ↦ absurd (refused_not_made refusals.InputTooLong reply long.0 made)
+  | inr (_, inl none) ↦ absurd (none_made said said.form reply none made)
+  | inr (_, inr given) ↦ saved_image path given.0 saves format device reply given.2 made
+]
+
 -- a look that says of which image it refuses has an image where it has one without that
 pub sided_made : (look : LookView) (reply : Reply) → IsMade (sided look reply) → IsMade reply
 sided_made Catalog reply made = made
@@ -72,6 +100,17 @@ sided_made (Entries options) reply made = made
 sided_made (Check bodies) reply made = made
 sided_made Map reply made = made
 sided_made (Compare other options) reply made = made
-sided_made (Read name whole) reply made = made
+sided_made (Read name form out) reply made = made
 sided_made (Plan reclaim in_words) reply made = made
 sided_made (Verify from reclaim) reply made = made
+
+-- one whose bytes go to a new file says it of none
+pub sided_same : (look : LookView) (reply : Reply) → IsSome (new_file_of look) → sided look reply ≡ reply
+sided_same Catalog reply out = refl
+sided_same (Entries options) reply out = refl
+sided_same (Check bodies) reply out = refl
+sided_same Map reply out = refl
+sided_same (Compare other options) reply out = cc
+sided_same (Read name form out') reply out = refl
+sided_same (Plan reclaim in_words) reply out = refl
+sided_same (Verify from reclaim) reply out = refl

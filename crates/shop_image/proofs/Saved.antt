@@ -18,12 +18,13 @@ use Rattle.shop_replies.specs.Volume.{LacksUnit}
 use Rattle.shop_replies.proofs.Lacking.{unit_lacks}
 use Rattle.shop_changes.specs.EditOutcome.{TellsEdit}
 use Rattle.shop_changes.specs.Refusals.{refusal_of_edit, reply_to_edit_refusal}
+use Rattle.shop_changes.specs.SaidFile.{GivesNone, IsSaidOutcome, SaidView}
 use Rattle.shop_changes.specs.SaveOutcome.{IsSaveOutcome, IsSaveTriedOutcome}
 use Rattle.shop_changes.specs.Saves.{AreSaveWrites, HasGivenSaved, IsSaveCause}
 use Rattle.shop_changes.specs.declared.outcome.Outcome.{Outcome}
 use Rattle.shop_image.specs.ChangeReply.{TellsOutcome}
 use Rattle.shop_image.specs.ImageBytes.{AreBytesOf}
-use Rattle.shop_image.specs.SaveReply.{IsSaveTried, IsSaved}
+use Rattle.shop_image.specs.SaveReply.{IsSaidSaved, IsSaveTried, IsSaved}
 use Rattle.shop_image.proofs.Edited.{stops_lack}
 use Rattle.shop_image.proofs.Fresh.{IsFresh}
 use Rattle.shop_image.proofs.Optimized.{keeps_bytes}
@@ -90,4 +91,18 @@ module _ (old new : DeviceState) (fresh : IsFresh old) (path : List ℕ) (given 
     | inr (inl long) ↦ inr (long.1, inl (subst (λ (o : Outcome). TellsOutcome new o reply) long.0 tells, long.2))
     | inr (inr (inl memory)) ↦ inr (memory.1, inr (memory.2, inr (inr (inr (subst (λ (o : Outcome). TellsOutcome new o reply) memory.0 tells)))))
     | inr (inr (inr saving)) ↦ inr (saving.0, inr (saving.1, tried outcome reply tells saving.2))
+  ]
+
+-- on such a device, of a file as words and bytes say it
+module _ (old new : DeviceState) (fresh : IsFresh old) (path : List ℕ) (said : SaidView) (saves : SaveMeaning) (format : Meaning) where
+  pub said_told : (outcome : Outcome) (reply : Reply) → IsSaidOutcome path said saves format old new outcome → TellsOutcome new outcome reply
+      → IsSaidSaved path said saves format old reply
+  said_told outcome reply is tells = elim is [
+    | inl long ↦ inl (subst (λ (o : Outcome). TellsOutcome new o reply) long.0 tells, long.1)
+    | inr (inl none) ↦ inr (
+      none.0,
+      inl (subst (λ (r : Reply). GivesNone said r)
+          (sym (subst (λ (o : Outcome). TellsOutcome new o reply) none.1.1 tells)) none.1.2),
+    )
+    | inr (inr given) ↦ inr (given.0, inr (given.1.0, given.1.1, saved_told old new fresh path given.1.0 saves format outcome reply given.1.2 tells))
   ]

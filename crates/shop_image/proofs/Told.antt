@@ -17,7 +17,7 @@ use Rattle.shop_image.specs.VolumeReply.{IsVolumeIn, IsVolumeReply}
 use Rattle.shop_image.proofs.Edited.{edited_told}
 use Rattle.shop_image.proofs.Fresh.{IsFresh, failed_for_lack, image_fresh}
 use Rattle.shop_image.proofs.Optimized.{optimized}
-use Rattle.shop_image.proofs.Saved.{saved_told}
+use Rattle.shop_image.proofs.Saved.{said_told}
 
 module _ (volume : VolumeOptions) (reserve : Option (List ℕ)) (image : List ℕ) (device : DeviceState) (reserved : List Bool)
     (of : IsVolumeIn volume reserve image device reserved) (reply : Reply) where
@@ -44,7 +44,7 @@ module _ (volume : VolumeOptions) (reserve : Option (List ℕ)) (image : List �
       → TellsOutcome new outcome reply → IsChangeReply work format device reply
   work_told (Optimize reclaim limit) format new outcome is tells = optimized reclaim limit format.units device new fresh reply outcome is tells
   work_told (EditOf edit name) format new outcome is tells = edited_told device new fresh edit name format.files format.edits format.units outcome reply is tells
-  work_told (Save path given) format new outcome is tells = saved_told device new fresh path given format.edits.save format.units outcome reply is tells
+  work_told (Save path said) format new outcome is tells = said_told device new fresh path said format.edits.save format.units outcome reply is tells
 
   -- and of a change
   pub changed : (work : WorkView) (new : DeviceState) (outcome : Outcome)

@@ -13,13 +13,13 @@ use Rattle.shop_changes.specs.declared.outcome.Outcome.TheVariants.{Optimized, C
 use Rattle.shop_image.specs.EditReply.{IsEdited}
 use Rattle.shop_image.specs.ImageBytes.{AreBytesOf}
 use Rattle.shop_image.specs.OptimizeReply.{IsOptimized}
-use Rattle.shop_image.specs.SaveReply.{IsSaved}
+use Rattle.shop_image.specs.SaveReply.{IsSaidSaved}
 
 -- what is told of each change of the volume of an image, by the device of its units
 abbrev pub IsChangeReply : WorkView → ChangedMeaning → DeviceState → Reply → Type 0
 IsChangeReply (Optimize reclaim limit) format device reply = IsOptimized reclaim limit format.units device reply
 IsChangeReply (EditOf edit name) format device reply = IsEdited edit name format.files format.edits format.units device reply
-IsChangeReply (Save path given) format device reply = IsSaved path given format.edits.save format.units device reply
+IsChangeReply (Save path said) format device reply = IsSaidSaved path said format.edits.save format.units device reply
 
 -- What is told of what became of the work, with the image that is now under the device: the report, or want of memory for
 -- it; `OK`; that the device failed, with the image as it stands. Of work that is not done the reply, and no image.

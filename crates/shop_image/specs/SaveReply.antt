@@ -12,6 +12,7 @@ use Rattle.shop_replies.specs.declared.refusal.Failure.TheVariants as failures
 use Rattle.shop_replies.specs.declared.reply.Reply.{Reply}
 use Rattle.shop_replies.specs.Reply.{IsMadeReply, failed, made_of, refused}
 use Rattle.shop_replies.specs.Volume.{LacksUnit}
+use Rattle.shop_changes.specs.SaidFile.{Gives, GivesNone, SaidView}
 use Rattle.shop_changes.specs.Saves.{AreSaveWrites, HasGivenSaved, IsSaveCause}
 use Rattle.shop_image.specs.ImageBytes.{AreBytesOf, KeepsBytes}
 
@@ -40,3 +41,11 @@ IsSaved path given saves format device reply =
     ((reply ≡ refused refusals.InputTooLong) × (most_input < length given.bytes))
     ⊎ ((length given.bytes ≤ most_input) × (((reply ≡ refused refusals.TooLong) × IsTooLongForHead given)
     ⊎ (¬ IsTooLongForHead given × IsSaveTried path given saves format device reply)))
+
+-- The reply to the saving of a file as words and bytes say it: more bytes than are read of a file, before that they give
+-- none, before the saving of the one that they give.
+abbrev pub IsSaidSaved : List ℕ → SaidView → SaveMeaning → Meaning → DeviceState → Reply → Type 0
+IsSaidSaved path said saves format device reply =
+    ((reply ≡ refused refusals.InputTooLong) × (most_input < length said.bytes))
+    ⊎ ((length said.bytes ≤ most_input) × (GivesNone said reply
+    ⊎ ((given : GivenView) × Gives said given × IsSaved path given saves format device reply)))

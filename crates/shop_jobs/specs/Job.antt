@@ -1,6 +1,7 @@
 -- What the workshop is asked for, as contracts see it: with texts for its words.
 use Rattle.std.specs.Prelude.{ℕ, Bool, List, Option, string_bytes, option_map}
 use Rattle.a2_device.specs.declared.order.Order.{Order}
+use Rattle.file_forms.specs.declared.form.GivenForm.{GivenForm}
 use Rattle.shop_jobs.specs.declared.job.VolumeOptions.{VolumeOptions}
 use Rattle.shop_jobs.specs.declared.job.ListOptions.{ListOptions}
 use Rattle.shop_jobs.specs.declared.job.CompareOptions.{CompareOptions}
@@ -9,6 +10,7 @@ use Rattle.shop_jobs.specs.declared.job.FileName.{FileName}
 use Rattle.shop_jobs.specs.declared.job.FileName.TheVariants as names
 use Rattle.shop_jobs.specs.declared.job.Edit.{Edit}
 use Rattle.shop_jobs.specs.declared.job.Edit.TheVariants as edits
+use Rattle.shop_jobs.specs.declared.job.ReadForm.{ReadForm}
 use Rattle.shop_jobs.specs.declared.job.SaveAttributes.{SaveAttributes}
 use Rattle.shop_jobs.specs.declared.job.Target.{Target}
 use Rattle.shop_jobs.specs.declared.job.Target.TheVariants as targets
@@ -57,23 +59,23 @@ edit_view (edits.Rename new) = Rename (string_bytes new)
 -- what is said of a new file
 pub record AttributesView : Type 0 where
   pub kind : Option Text
-  pub aux : ℕ
+  pub aux : Option ℕ
   pub date : Option Text
 
 abbrev pub attributes_view : SaveAttributes → AttributesView
 attributes_view a = record { kind = option_map string_bytes a.kind; aux = a.aux; date = option_map string_bytes a.date }
 
 -- what is asked of a volume that is only read: of its entries how they are told; of a check whether the units of bodies
--- are read too; of a comparison the path of the other image's file, and how it is made; of a file its name, and whether it
--- is read whole; of a plan whether it reclaims, and whether it is told in words; of a certificate the path of its file, and
--- whether it reclaims
+-- are read too; of a comparison the path of the other image's file, and how it is made; of a file its name, as what it is
+-- read, and the path of the new file that it goes to, if there is one; of a plan whether it reclaims, and whether it is told
+-- in words; of a certificate the path of its file, and whether it reclaims
 pub data LookView : Type 0 where
   Catalog : LookView
   Entries : ListOptions → LookView
   Check : Bool → LookView
   Map : LookView
   Compare : Text → CompareOptions → LookView
-  Read : FileNameView → Bool → LookView
+  Read : FileNameView → ReadForm → Option Text → LookView
   Plan : Bool → Bool → LookView
   Verify : Text → Bool → LookView
 
@@ -83,22 +85,23 @@ look_view (looks.Entries options) = Entries options
 look_view (looks.Check bodies) = Check bodies
 look_view looks.Map = Map
 look_view (looks.Compare other options) = Compare (string_bytes other) options
-look_view (looks.Read name whole) = Read (file_name_view name) whole
+look_view (looks.Read name form out) = Read (file_name_view name) form (option_map string_bytes out)
 look_view (looks.Plan reclaim in_words) = Plan reclaim in_words
 look_view (looks.Verify from reclaim) = Verify (string_bytes from) reclaim
 
 -- what is changed of a volume: of its order whether lost places are reclaimed, after how many writes to stop, and the
--- path of the certificate's file; of a file its name and its edit; of a new file its name, what is said of it, and the
--- path of the file whose bytes are saved
+-- path of the certificate's file; of a file its name and its edit; of a new file its name, what is said of it, the form in
+-- which it is given, and the path of the file that gives it
 pub data ChangeView : Type 0 where
   Optimize : Bool → Option ℕ → Option Text → ChangeView
   EditOf : FileNameView → EditView → ChangeView
-  Save : Text → AttributesView → Text → ChangeView
+  Save : Text → AttributesView → Option GivenForm → Text → ChangeView
 
 abbrev pub change_view : Change → ChangeView
 change_view (changes.Optimize reclaim stop_after cert) = Optimize reclaim stop_after (option_map string_bytes cert)
 change_view (changes.Edit name edit) = EditOf (file_name_view name) (edit_view edit)
-change_view (changes.Save name attributes from) = Save (string_bytes name) (attributes_view attributes) (string_bytes from)
+change_view (changes.Save name attributes form from) =
+    Save (string_bytes name) (attributes_view attributes) form (string_bytes from)
 
 -- a conversion
 pub record ConversionView : Type 0 where

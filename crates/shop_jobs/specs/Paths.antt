@@ -1,5 +1,5 @@
 -- The files that a job names, and how it reads its image.
-use Rattle.std.specs.Prelude.{◌≡◌, Bool, true, false, Option, Some, None, codes}
+use Rattle.std.specs.Prelude.{◌≡◌, Bool, true, false, Option, Some, None, IsSome, codes}
 use Rattle.a2_device.specs.declared.order.Order.{Order}
 use Rattle.shop_jobs.specs.declared.job.VolumeOptions.{VolumeOptions}
 use Rattle.shop_jobs.specs.Job.{
@@ -12,7 +12,9 @@ use Rattle.shop_jobs.specs.Job.{
   InPlace,
   JobView,
   LookAt,
+  LookView,
   Optimize,
+  Read,
   Save,
   TargetView,
   Text,
@@ -24,20 +26,30 @@ use Rattle.shop_jobs.specs.Job.{
 abbrev pub from_of : AskView → Option Text
 from_of (LookAt volume reserve (Verify from reclaim)) = Some from
 from_of (LookAt volume reserve (Compare other options)) = Some other
-from_of (ChangeOf volume reserve (Save name attributes from) target) = Some from
+from_of (ChangeOf volume reserve (Save name attributes form from) target) = Some from
 from_of ask = None
 
 abbrev pub file_of : TargetView → Option Text
 file_of (ToFile path) = Some path
 file_of InPlace = None
 
+-- the path of the new file that the bytes of a file go to that is read
+abbrev pub new_file_of : LookView → Option Text
+new_file_of (Read name form out) = out
+new_file_of look = None
+
 -- the path of the file that a job writes
 abbrev pub out_of : AskView → Option Text
 out_of (Convert words) = Some words.out
 out_of (ChangeOf volume reserve change target) = file_of target
-out_of (LookAt volume reserve look) = None
+out_of (LookAt volume reserve look) = new_file_of look
 out_of (ExtractFrom volume options into) = None
 out_of Identify = None
+
+-- the file that a job writes is to be a new one: a job that reads a file of its volume overwrites none
+abbrev pub MakesNewFile : AskView → Type 0
+MakesNewFile (LookAt volume reserve look) = IsSome (new_file_of look)
+MakesNewFile ask = ⊥
 
 -- the path of the folder that a job makes
 abbrev pub into_of : AskView → Option Text

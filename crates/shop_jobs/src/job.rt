@@ -1,5 +1,6 @@
 // What the workshop is asked for.
 use a2_device::Order;
+use file_forms::{FileForm, GivenForm};
 use host_folders::Naming;
 
 /// The file system of a volume, `--fs`.
@@ -47,8 +48,8 @@ pub enum Edit {
 pub struct SaveAttributes {
     /// The type, as it is said: a letter in DOS 3.3, two hexadecimal digits in ProDOS.
     pub kind: Option<String>,
-    /// The auxiliary type; in DOS 3.3 the address of a binary file. 0 if left out.
-    pub aux: u16,
+    /// The auxiliary type; in DOS 3.3 the address of a binary file.
+    pub aux: Option<u16>,
     /// The date and time of its creation, as they are said.
     pub date: Option<String>,
 }
@@ -106,6 +107,19 @@ pub struct ExtractOptions {
     pub most: u64,
 }
 
+/// As what a file is read.
+#[derive(Clone, Copy, Debug, PartialEq, Eq)]
+pub enum ReadForm {
+    /// Its body.
+    Body,
+    /// All bytes of its units.
+    Whole,
+    /// A form of it.
+    As(FileForm),
+    /// The form that files of its type have.
+    Shown,
+}
+
 /// What is asked of a volume that is only read.
 #[derive(Debug, PartialEq, Eq, Drop)]
 pub enum Look {
@@ -130,8 +144,9 @@ pub enum Look {
     Read {
         /// The name of the file in the volume.
         name: FileName,
-        /// Whether all bytes of the file's units are wanted, and not its body alone.
-        whole: bool,
+        form: ReadForm,
+        /// The path of the new file that they go to.
+        out: Option<String>,
     },
     /// The fewest moves that bring its files into order.
     Plan {
@@ -172,7 +187,9 @@ pub enum Change {
         /// The name of the file in the volume.
         name: String,
         attributes: SaveAttributes,
-        /// The path of the file whose bytes are saved.
+        /// The form in which it is given; `None` is its bytes as they are.
+        form: Option<GivenForm>,
+        /// The path of the file that gives it.
         from: String,
     },
 }

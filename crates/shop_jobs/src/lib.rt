@@ -10,9 +10,9 @@ mod paths;
 
 pub use job::{
     Ask, Change, CompareOptions, Edit, ExtractOptions, FileName, FileSystem, Job, ListForm,
-    ListOptions, Look, SaveAttributes, Target, VolumeOptions,
+    ListOptions, Look, ReadForm, SaveAttributes, Target, VolumeOptions,
 };
 pub use paths::{
     certificate_path, from_path, image_order, into_path, is_in_place, is_on_standard_input,
-    other_is_on_standard_input, out_path, reserve_of, volume_of,
+    makes_new_file, other_is_on_standard_input, out_path, reserve_of, volume_of,
 };

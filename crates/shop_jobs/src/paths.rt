@@ -3,6 +3,7 @@ ghost use Rattle.std.specs.Prelude.{◌≡◌, ◌↔◌, IsTrue, option_map};
 ghost use Rattle.shop_jobs.specs.Job.{ask_view, job_view, target_view};
 ghost use Rattle.shop_jobs.specs.Paths.{
   IsOnStandardInput,
+  MakesNewFile,
   OtherIsOnStandardInput,
   certificate_of,
   file_of,
@@ -84,9 +85,26 @@ pub fn out_path(job: &Job) -> Option<&str>
 {
     match &job.ask {
         Ask::Convert { out, .. } => Some(out.as_str()),
+        Ask::Look {
+            look: Look::Read { out, .. },
+            ..
+        } => out.as_deref(),
         Ask::Change { target, .. } => file_of(target),
         Ask::Identify | Ask::Look { .. } | Ask::Extract { .. } => None,
     }
+}
+
+/// Whether the file that a job writes is to be a new one: a job that reads a file of its volume overwrites none.
+pub fn makes_new_file(job: &Job) -> bool
+    ensures { IsTrue result ↔ MakesNewFile (ask_view job.now.ask) }
+{
+    matches!(
+        &job.ask,
+        Ask::Look {
+            look: Look::Read { out: Some(_), .. },
+            ..
+        }
+    )
 }
 
 /// The path of the folder that a job makes.

@@ -27,7 +27,7 @@ look-take (Check true) front bytes format device reply taken is = is
 look-take Map front bytes format device reply taken is = is
 look-take (Compare other options) front bytes format device reply taken is =
     compared-take options front bytes format.form format.files format.units device reply taken is
-look-take (Read name whole) front bytes format device reply taken is = is
+look-take (Read name form out) front bytes format device reply taken is = is
 look-take (Plan reclaim false) front bytes format device reply taken is = is
 look-take (Plan reclaim true) front bytes format device reply taken is = is
 look-take (Verify from reclaim) front bytes format device reply taken is = verified-take reclaim front bytes format.units device reply taken is

@@ -1,5 +1,6 @@
--- No look makes an image.
-use Rattle.std.proofs.Common.{ℕ, Bool, true, false, List, [], ◌∷◌, inl, inr}
+-- Which looks make something for a file.
+use Rattle.std.proofs.Common.{ℕ, Bool, true, false, List, [], ◌∷◌, None, Some, inl, inr, refl}
+use Rattle.std.specs.Prelude.{IsSome}
 use Rattle.a2_device.specs.Device.{DeviceState}
 use Rattle.a2_device.specs.declared.part.Part.{Part}
 use Rattle.reserved_places.specs.declared.form.PlaceForm.{PlaceForm}
@@ -13,11 +14,13 @@ use Rattle.file_formats.specs.FileNames.{FileNameView}
 use Rattle.shop_reads.specs.FileNames.{named_by}
 use Rattle.file_formats.specs.Files.{FileMeaning}
 use Rattle.shop_jobs.specs.Job.{LookView, Catalog, Entries, Check, Compare, Map, Read, Plan, Verify}
+use Rattle.shop_jobs.specs.Paths.{new_file_of}
+use Rattle.shop_jobs.specs.declared.job.ReadForm.{ReadForm}
 use Rattle.shop_replies.specs.declared.refusal.Refusal.TheVariants as refusals
 use Rattle.shop_replies.specs.declared.refusal.Failure.TheVariants as failures
 use Rattle.shop_replies.specs.declared.reply.Reply.{Reply}
 use Rattle.shop_replies.specs.declared.reply.Status.TheVariants.{Done, Refused, Wrong}
-use Rattle.shop_replies.specs.Reply.{IsMade}
+use Rattle.shop_replies.specs.Reply.{IsMade, IsMadeReply}
 use Rattle.shop_replies.proofs.NotMade.{failed_not_made, refused_not_made, told_not_made}
 use Rattle.shop_jobs.specs.declared.job.ListOptions.{ListOptions}
 use Rattle.shop_reads.specs.BodiesReply.{IsCheckedWhole, TellsBodies, unread_parts}
@@ -142,23 +145,44 @@ entries_not_made options form files format device reply is made = elim is [
   | inr (inr (inr (inr failed))) ↦ failed_not_made failures.Memory reply failed made
 ]
 
-read_not_made : (name : FileNameView) (whole : Bool) (files : FileMeaning) (format : Meaning) (device : DeviceState) (reply : Reply) → IsRead name whole files format device reply → ¬ IsMade reply
-read_not_made name whole files format device reply is made = elim is [
+read_not_made : (name : FileNameView) (form : ReadForm) (place : PlaceForm) (files : FileMeaning) (format : Meaning) (device : DeviceState) (reply : Reply)
+    → IsRead name form None place files format device reply → ¬ IsMade reply
+read_not_made name form place files format device reply is made = elim is [
   | inl content ↦ told_not_made Done reply content.0 made
-  | inr (inl refused) ↦ refused_not_made refusals.Check reply refused.0 made
-  | inr (inr (inl refused)) ↦ refused_not_made refusals.NotFound reply refused.0 made
-  | inr (inr (inr (inl failed))) ↦ failed_not_made failures.Device reply failed.0 made
-  | inr (inr (inr (inr failed))) ↦ failed_not_made failures.Memory reply failed made
+  | inr (inl refused) ↦ refused_not_made refusals.Form reply refused.0 made
+  | inr (inr (inl refused)) ↦ refused_not_made refusals.Check reply refused.0 made
+  | inr (inr (inr (inl refused))) ↦ refused_not_made refusals.NotFound reply refused.0 made
+  | inr (inr (inr (inr (inl failed)))) ↦ failed_not_made failures.Device reply failed.0 made
+  | inr (inr (inr (inr (inr failed)))) ↦ failed_not_made failures.Memory reply failed made
 ]
 
-pub look_not_made : (look : LookView) (bytes : List ℕ) (format : ShownMeaning) (device : DeviceState) (reply : Reply) → IsLookReply look bytes format device reply → ¬ IsMade reply
-look_not_made Catalog bytes format device reply is = listed_not_made format.form format.units device reply is
-look_not_made (Entries options) bytes format device reply is = entries_not_made options format.form format.files format.units device reply is
-look_not_made (Check false) bytes format device reply is = checked_not_made format.form format.units device reply is
-look_not_made (Check true) bytes format device reply is = bodies_not_made format.form format.files format.units device reply is
-look_not_made Map bytes format device reply is = mapped_not_made format.form format.units format.unreserved device reply is
-look_not_made (Compare other options) bytes format device reply is = compared_not_made options bytes format.form format.files format.units device reply is
-look_not_made (Read name whole) bytes format device reply is = read_not_made (named_by name) whole format.files format.units device reply is
-look_not_made (Plan reclaim false) bytes format device reply is = planned_not_made reclaim format.units device reply is
-look_not_made (Plan reclaim true) bytes format device reply is = planned_in_words_not_made format.form format.files reclaim format.units device reply is
-look_not_made (Verify from reclaim) bytes format device reply is = verified_not_made reclaim bytes format.units device reply is
+-- a read whose bytes go to a new file answers with them
+read_made : (name : FileNameView) (form : ReadForm) (path : List ℕ) (place : PlaceForm) (files : FileMeaning) (format : Meaning) (device : DeviceState) (reply : Reply)
+    → IsRead name form (Some path) place files format device reply → IsMade reply → IsMadeReply reply
+read_made name form path place files format device reply is made = elim is [
+  | inl content ↦ content.0
+  | inr (inl refused) ↦ absurd (refused_not_made refusals.Form reply refused.0 made)
+  | inr (inr (inl refused)) ↦ absurd (refused_not_made refusals.Check reply refused.0 made)
+  | inr (inr (inr (inl refused))) ↦ absurd (refused_not_made refusals.NotFound reply refused.0 made)
+  | inr (inr (inr (inr (inl failed)))) ↦ absurd (failed_not_made failures.Device reply failed.0 made)
+  | inr (inr (inr (inr (inr failed)))) ↦ absurd (failed_not_made failures.Memory reply failed made)
+]
+
+-- a look that makes something has a new file for it, and answers with `OK`
+pub look_made : (look : LookView) (bytes : List ℕ) (format : ShownMeaning) (device : DeviceState) (reply : Reply) → IsLookReply look bytes format device reply
+    → IsMade reply → IsSome (new_file_of look) × IsMadeReply reply
+look_made Catalog bytes format device reply is made = absurd (listed_not_made format.form format.units device reply is made)
+look_made (Entries options) bytes format device reply is made = absurd (entries_not_made options format.form format.files format.units device reply is made)
+look_made (Check false) bytes format device reply is made = absurd (checked_not_made format.form format.units device reply is made)
+look_made (Check true) bytes format device reply is made = absurd (bodies_not_made format.form format.files format.units device reply is made)
+look_made Map bytes format device reply is made = absurd (mapped_not_made format.form format.units format.unreserved device reply is made)
+look_made (Compare other options) bytes format device reply is made =
+    absurd (compared_not_made options bytes format.form format.files format.units device reply is made)
+look_made (Read name form None) bytes format device reply is made =
+    absurd (read_not_made (named_by name) form format.form format.files format.units device reply is made)
+look_made (Read name form (Some path)) bytes format device reply is made =
+    (refl, read_made (named_by name) form path format.form format.files format.units device reply is made)
+look_made (Plan reclaim false) bytes format device reply is made = absurd (planned_not_made reclaim format.units device reply is made)
+look_made (Plan reclaim true) bytes format device reply is made =
+    absurd (planned_in_words_not_made format.form format.files reclaim format.units device reply is made)
+look_made (Verify from reclaim) bytes format device reply is made = absurd (verified_not_made reclaim bytes format.units device reply is made)

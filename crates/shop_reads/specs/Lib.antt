@@ -11,6 +11,7 @@ pub mod Steps
 pub mod PlanWords
 pub mod VerifyReply
 pub mod FileNames
+pub mod FileForms
 pub mod ReadReply
 pub mod Reserving
 pub mod GoingOn

@@ -40,6 +40,7 @@ mod reading;
 mod reserving;
 mod steps;
 mod verify;
+mod wanted_forms;
 mod wants;
 
 pub use bodies::bodies_reply;

@@ -59,7 +59,10 @@ pub fn look_reply<D: Device, F: ShownFormat>(
         Look::Check { bodies: false } => check_reply(alloc, device, format, format.form()),
         Look::Check { bodies: true } => bodies_reply(alloc, device, format),
         Look::Map => map_reply(alloc, device, format),
-        Look::Read { name, whole } => read_reply(alloc, device, format, file_name(name), *whole),
+        Look::Read { name, form, out } => {
+            let name = file_name(name);
+            read_reply(alloc, device, format, name, *form, out.as_deref())
+        }
         Look::Plan {
             reclaim,
             words: false,

@@ -35,7 +35,9 @@ refusal_line refusals.NoFreePlace = codes "REFUSED NoFreePlace\n"
 refusal_line refusals.Folder = codes "REFUSED Folder\n"
 refusal_line refusals.TooDeep = codes "REFUSED TooDeep\n"
 refusal_line refusals.TooLarge = codes "REFUSED TooLarge\n"
+refusal_line refusals.Form = codes "REFUSED Form\n"
 refusal_line refusals.InputTooLong = codes "REFUSED InputTooLong\n"
+refusal_line refusals.Single = codes "REFUSED Single\n"
 refusal_line refusals.NoSector = codes "REFUSED NoSector\n"
 
 abbrev pub failure_line : Failure → List ℕ

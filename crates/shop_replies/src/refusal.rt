@@ -21,7 +21,7 @@ pub enum Refusal {
     NotFound,
     /// No file may get the new name.
     Name,
-    /// An entry of the directory has the new name.
+    /// An entry of the directory has the new name, or something stands at the path of a new file.
     Exists,
     /// The file is locked.
     Locked,
@@ -39,8 +39,12 @@ pub enum Refusal {
     TooDeep,
     /// The files that are read or written have too many bytes in all.
     TooLarge,
+    /// The file that is read has no such form.
+    Form,
     /// The file that is read beside the image is too long.
     InputTooLong,
+    /// The file that is given is no AppleSingle file that can be taken.
+    Single,
     /// A track of the image lacks a sector.
     NoSector,
 }
@@ -97,7 +101,9 @@ impl Refusal {
             Refusal::Folder => b"REFUSED Folder\n",
             Refusal::TooDeep => b"REFUSED TooDeep\n",
             Refusal::TooLarge => b"REFUSED TooLarge\n",
+            Refusal::Form => b"REFUSED Form\n",
             Refusal::InputTooLong => b"REFUSED InputTooLong\n",
+            Refusal::Single => b"REFUSED Single\n",
             Refusal::NoSector => b"REFUSED NoSector\n",
         }
     }

@@ -77,7 +77,7 @@ pub struct Reply {
     pub status: Status,
     /// What is told of it.
     pub told: Told,
-    /// The image that it hands out, for the output file.
+    /// The image that it hands out, or the bytes of a file, for the output file.
     pub image: Option<Vec<u8>>,
 }
 
@@ -249,7 +249,7 @@ impl Reply {
         }
     }
 
-    /// The image that a job has made: it tells `OK`.
+    /// The image that a job has made, or the bytes that go to a new file: it tells `OK`.
     pub fn made(image: Vec<u8>) -> Reply
         ensures { result ≡ record { status = Status.Done; told = Told.Ok; image = Some image } }
     {

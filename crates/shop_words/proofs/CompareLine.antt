@@ -7,8 +7,8 @@ use Rattle.clap.proofs.OnLiterals.{clap_on_literals}
 use Rattle.a2_device.specs.declared.order.Order.{Order}
 use Rattle.shop_jobs.specs.declared.job.CompareOptions.{CompareOptions}
 use Rattle.shop_words.specs.Table.{Text, compare_form, file_system, order, other_order, all_files, most, data_disk, greatest_number}
-use Rattle.shop_words.specs.Plain.{Use, IsPlainLine, hyphen, is_number, is_plain_word}
-use Rattle.shop_words.specs.Job.{compare_by, compare_of, line_job, line_said, most_bytes, options_of, order_named, other_named, value_of, volume_by}
+use Rattle.shop_words.specs.Plain.{Use, IsPlainLine, hyphen, is_number, is_plain_word, value_of}
+use Rattle.shop_words.specs.Job.{compare_by, compare_of, line_job, line_said, most_bytes, options_of, order_named, other_named, volume_by}
 use Rattle.shop_words.specs.Job as jobs
 use Rattle.shop_words.proofs.PlainForms.{IsKnown, Knows, shape_named}
 use Rattle.shop_words.proofs.PlainJobs.{HasPlainDefaults, HasVolume, look_there, names_order, volume_by-line}

@@ -3,8 +3,8 @@ use Rattle.std.proofs.Common.{◌≡◌, ℕ, refl, true, List, [], ◌∷◌, O
 use Rattle.std.specs.List.{list_all}
 use Rattle.clap.proofs.OnLiterals.{clap_on_literals}
 use Rattle.shop_words.specs.Table.{Text, convert_form, order, to, out, volume, data_disk}
-use Rattle.shop_words.specs.Plain.{Use, IsPlainLine, is_number}
-use Rattle.shop_words.specs.Job.{conversion_of, job_of, line_job, order_named, value_of, volume_number}
+use Rattle.shop_words.specs.Plain.{Use, IsPlainLine, is_number, value_of}
+use Rattle.shop_words.specs.Job.{conversion_of, job_of, line_job, order_named, volume_number}
 use Rattle.a2_device.specs.declared.order.Order.{Order}
 use Rattle.shop_words.proofs.PlainForms.{IsKnown, Knows, shape_named}
 use Rattle.shop_words.proofs.PlainJobs.{HasPlainDefaults, names_order}

@@ -5,8 +5,8 @@ use Rattle.host_folders.specs.declared.entry.Naming.{Naming}
 use Rattle.shop_jobs.specs.declared.job.ExtractOptions.{ExtractOptions}
 use Rattle.shop_jobs.specs.declared.job.VolumeOptions.{VolumeOptions}
 use Rattle.shop_words.specs.Table.{Text, extract_form, file_system, order, into, names, most, data_disk, greatest_number}
-use Rattle.shop_words.specs.Plain.{Use, IsPlainLine, is_number}
-use Rattle.shop_words.specs.Job.{extract_of, extraction_by, extraction_of, job_of, line_job, line_said, most_bytes, naming_named, naming_said, value_of, volume_by}
+use Rattle.shop_words.specs.Plain.{Use, IsPlainLine, is_number, value_of}
+use Rattle.shop_words.specs.Job.{extract_of, extraction_by, extraction_of, job_of, line_job, line_said, most_bytes, naming_named, naming_said, volume_by}
 use Rattle.shop_words.proofs.PlainForms.{IsKnown, Knows, shape_named}
 use Rattle.shop_words.proofs.PlainJobs.{HasPlainDefaults, HasVolume, volume_by-line}
 use Rattle.shop_words.proofs.PlainUsed.{needed_said, number_ensures, takes_number, takes_words, value_passes, words_ensure}

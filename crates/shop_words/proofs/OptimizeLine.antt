@@ -2,8 +2,8 @@
 use Rattle.std.proofs.Common.{◌≡◌, refl, true, List, [], ◌∷◌, Option, Some, None, codes, is_some, arith}
 use Rattle.clap.proofs.OnLiterals.{clap_on_literals}
 use Rattle.shop_words.specs.Table.{Text, optimize_form, file_system, order, out_file, in_place, data_disk, reserve, reclaim, stop_after, cert, most_writes}
-use Rattle.shop_words.specs.Plain.{Use, IsPlainLine, is_number}
-use Rattle.shop_words.specs.Job.{limit_named, line_job, line_said, optimize_by, target_by, value_of, volume_by}
+use Rattle.shop_words.specs.Plain.{Use, IsPlainLine, is_number, value_of}
+use Rattle.shop_words.specs.Job.{limit_named, line_job, line_said, optimize_by, target_by, volume_by}
 use Rattle.shop_words.proofs.PlainForms.{IsKnown, Knows, shape_named}
 use Rattle.shop_words.proofs.PlainJobs.{HasPlainDefaults, HasVolume, change_there, mapped_there, volume_by-line}
 use Rattle.shop_words.proofs.PlainTarget.{HasTarget, target_by-line}

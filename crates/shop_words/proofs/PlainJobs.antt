@@ -6,9 +6,9 @@ use Rattle.std.specs.List.{list_all, list_any}
 use Rattle.std.specs.Str.{bytes_eq}
 use Rattle.clap.specs.Walk.{first_of}
 use Rattle.shop_words.specs.Table.{Text, FormView, file_system, order}
-use Rattle.shop_words.specs.Plain.{Use, IsPlainLine, positional_names}
+use Rattle.shop_words.specs.Plain.{Use, IsPlainLine, positional_names, value_of}
 use Rattle.shop_jobs.specs.Job.{ChangeView, LookView, TargetView}
-use Rattle.shop_words.specs.Job.{Said, change_of, file_system_named, order_named, is_on, job_by, job_of, line_job, line_said, look_of, value_of, volume_by}
+use Rattle.shop_words.specs.Job.{Said, change_of, file_system_named, order_named, is_on, job_by, job_of, line_job, line_said, look_of, volume_by}
 use Rattle.shop_jobs.specs.declared.job.FileSystem.{FileSystem}
 use Rattle.a2_device.specs.declared.order.Order.{Order}
 use Rattle.shop_jobs.specs.declared.job.VolumeOptions.{VolumeOptions}
@@ -21,7 +21,7 @@ use Rattle.shop_words.proofs.PlainValues.{Test, flag_same, leaves_off, option_sa
 
 -- the names by which a job is said, and those of its flags
 abbrev pub option_names : List Text
-option_names = codes "image" ∷ codes "fs" ∷ codes "order" ∷ codes "to" ∷ codes "out" ∷ codes "volume" ∷ codes "reserve" ∷ codes "name" ∷ codes "new" ∷ codes "stop-after" ∷ codes "cert" ∷ codes "from" ∷ codes "type" ∷ codes "aux" ∷ codes "date" ∷ codes "format" ∷ codes "most" ∷ codes "other" ∷ codes "other-order" ∷ codes "into" ∷ codes "names" ∷ []
+option_names = codes "image" ∷ codes "fs" ∷ codes "order" ∷ codes "to" ∷ codes "out" ∷ codes "volume" ∷ codes "reserve" ∷ codes "name" ∷ codes "new" ∷ codes "stop-after" ∷ codes "cert" ∷ codes "from" ∷ codes "type" ∷ codes "aux" ∷ codes "date" ∷ codes "format" ∷ codes "most" ∷ codes "other" ∷ codes "other-order" ∷ codes "into" ∷ codes "names" ∷ codes "as" ∷ codes "high" ∷ []
 
 abbrev pub flag_names : List Text
 flag_names = codes "data-disk" ∷ codes "whole" ∷ codes "reclaim" ∷ codes "words" ∷ codes "in-place" ∷ codes "digests" ∷ codes "bodies" ∷ codes "stored" ∷ codes "places" ∷ codes "all" ∷ []
@@ -63,6 +63,8 @@ job_by-same command s t options flags =
       options (codes "other-order") refl,
       options (codes "into") refl,
       options (codes "names") refl,
+      options (codes "as") refl,
+      options (codes "high") refl,
       flags (codes "data-disk") refl,
       flags (codes "whole") refl,
       flags (codes "reclaim") refl,
@@ -129,6 +131,13 @@ pub record HasVolume (f : FormView) : Type 0 where
   pub order : HasNeeded f order
   pub fs_values : list_all (named_only (codes "fs") (takes_words names_file_system)) f.parameters ≡ true
   pub order_values : list_all (named_only (codes "order") (takes_words names_order)) f.parameters ≡ true
+
+pub file_system_by-line : (f : FormView) (positionals : List Text) (uses : List Use) (said : Said) → HasVolume f → IsPlainLine f positionals uses
+    → said (codes "fs") ≡ value_of (codes "fs") uses → is_some (option_and_then file_system_named (said (codes "fs"))) ≡ true
+file_system_by-line f positionals uses said has plain fs_said =
+    let fs = needed_said f positionals uses file_system has.fs plain in
+    let fs_named = value_passes f.parameters (codes "fs") (takes_words names_file_system) names_file_system uses refl (words_ensure names_file_system) has.fs_values plain.known fs.0 fs.1 in
+    rw (fs_said ∙ fs.1) fs_named
 
 pub volume_by-line : (f : FormView) (positionals : List Text) (uses : List Use) (said : Said) → HasVolume f → IsPlainLine f positionals uses
     → said (codes "fs") ≡ value_of (codes "fs") uses → said (codes "order") ≡ value_of (codes "order") uses → is_some (volume_by said) ≡ true

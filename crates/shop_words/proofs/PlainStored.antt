@@ -4,8 +4,8 @@ use Rattle.std.specs.Prelude.{IsSome}
 use Rattle.shop_jobs.specs.Job.{ByStored}
 use Rattle.shop_words.specs.Table.{Text}
 use Rattle.shop_words.specs.Hexadecimal.{bytes_named}
-use Rattle.shop_words.specs.Plain.{Use, use_name}
-use Rattle.shop_words.specs.Job.{Said, file_named, is_on, name_by, value_of}
+use Rattle.shop_words.specs.Plain.{Use, use_name, value_of}
+use Rattle.shop_words.specs.Job.{Said, file_named, is_on, name_by}
 use Rattle.shop_words.proofs.PlainJobs.{mapped_there}
 use Rattle.shop_words.proofs.PlainUsed.{use_said}
 

@@ -1,13 +1,13 @@
 -- What a plain list says under the name of an option that it has.
-use Rattle.std.proofs.Common.{◌≡◌, ◌∙◌, ℕ, ◌<◌, sym, ap, subst, refl, Bool, true, false, List, [], ◌∷◌, Some, None, codes, cond, ◌||◌, ◌==◌, map, not, length, find, All, Contains, arith, eqb-true, option_map, slice_index_or, zero, suc}
+use Rattle.std.proofs.Common.{◌≡◌, ◌∙◌, ℕ, ◌<◌, sym, ap, subst, refl, Bool, true, false, List, [], ◌∷◌, Some, None, codes, cond, ◌||◌, ◌==◌, map, not, length, find, All, Contains, arith, eqb-true, is_some, option_map, slice_index_or, zero, suc}
 use Rattle.std.proofs.lemmas.List.Elements.{All-contains, All-head, All-tail}
 use Rattle.std.proofs.lemmas.List.Sums.{AllPass-from_list_all}
 use Rattle.std.proofs.lemmas.Slice.Eq.{bytes_eq-Decides}
 use Rattle.std.specs.List.{list_all}
 use Rattle.std.specs.Str.{bytes_eq}
-use Rattle.shop_words.specs.Table.{Text, any, one_of, number, KindView, positional, needed, optional, flag, parameter, ParameterView, FormView}
-use Rattle.shop_words.specs.Plain.{Use, alone, valued, use_name, is_needed, is_number, IsPlainLine, IsUseOf, TakesValue}
-use Rattle.shop_words.specs.Job.{is_on, use_value, value_of}
+use Rattle.shop_words.specs.Table.{Text, address, any, one_of, number, KindView, positional, needed, optional, flag, parameter, ParameterView, FormView}
+use Rattle.shop_words.specs.Plain.{Use, address_named, alone, valued, use_name, is_needed, is_number, IsPlainLine, IsUseOf, TakesValue, use_value, value_of}
+use Rattle.shop_words.specs.Job.{is_on}
 
 -- a test of an option's kind
 abbrev pub KindTest : Type 0
@@ -28,6 +28,11 @@ takes_number greatest (needed (number n)) = n == greatest
 takes_number greatest (optional (number n)) = n == greatest
 takes_number greatest _ = false
 
+abbrev pub takes_address : KindTest
+takes_address (needed address) = true
+takes_address (optional address) = true
+takes_address _ = false
+
 -- what has the name is an option whose kind passes the test
 abbrev pub named_only : Text → KindTest → ParameterView → Bool
 named_only name only p = not (bytes_eq p.name name) || only p.kind
@@ -42,10 +47,12 @@ words_ensure test (needed any) value only takes = cc
 words_ensure test (needed (one_of words)) value only takes =
     All-contains (λ w. test w ≡ true) words value (AllPass-from_list_all test words only) takes
 words_ensure test (needed (number n)) value only takes = cc
+words_ensure test (needed address) value only takes = cc
 words_ensure test (optional any) value only takes = cc
 words_ensure test (optional (one_of words)) value only takes =
     All-contains (λ w. test w ≡ true) words value (AllPass-from_list_all test words only) takes
 words_ensure test (optional (number n)) value only takes = cc
+words_ensure test (optional address) value only takes = cc
 words_ensure test flag value only takes = absurd takes
 
 pub number_ensures : (greatest : ℕ) → Ensures (takes_number greatest) (is_number greatest)
@@ -53,10 +60,27 @@ number_ensures greatest positional value only takes = absurd takes
 number_ensures greatest (needed any) value only takes = cc
 number_ensures greatest (needed (one_of words)) value only takes = cc
 number_ensures greatest (needed (number n)) value only takes = subst (λ m. is_number m value ≡ true) (eqb-true n greatest only) takes
+number_ensures greatest (needed address) value only takes = cc
 number_ensures greatest (optional any) value only takes = cc
 number_ensures greatest (optional (one_of words)) value only takes = cc
 number_ensures greatest (optional (number n)) value only takes = subst (λ m. is_number m value ≡ true) (eqb-true n greatest only) takes
+number_ensures greatest (optional address) value only takes = cc
 number_ensures greatest flag value only takes = absurd takes
+
+abbrev pub names_address : Text → Bool
+names_address word = is_some (address_named word)
+
+pub address_ensures : Ensures takes_address names_address
+address_ensures positional value only takes = absurd takes
+address_ensures (needed any) value only takes = cc
+address_ensures (needed (one_of words)) value only takes = cc
+address_ensures (needed (number n)) value only takes = cc
+address_ensures (needed address) value only takes = takes
+address_ensures (optional any) value only takes = cc
+address_ensures (optional (one_of words)) value only takes = cc
+address_ensures (optional (number n)) value only takes = cc
+address_ensures (optional address) value only takes = takes
+address_ensures flag value only takes = absurd takes
 
 where_named : (b c : Bool) → (not b || c) ≡ true → b ≡ true → c ≡ true
 where_named true c passes is = passes

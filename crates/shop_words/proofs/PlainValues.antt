@@ -5,11 +5,11 @@ use Rattle.std.specs.Str.{bytes_eq}
 use Rattle.std.specs.List.{list_all}
 use Rattle.clap.specs.Walk.{Row, Rule, Text, first_of, has_row, with_default, default_rows, more_values, reading_by}
 use Rattle.clap.specs.declared.parser.matches.ValueSource.TheVariants.{DefaultValue}
-use Rattle.shop_words.specs.Plain.{Use, alone, valued, use_name}
+use Rattle.shop_words.specs.Plain.{Use, alone, valued, use_name, use_value, value_of}
 use Rattle.shop_words.proofs.PlainUses.{use_row, use_rows, text_row, at_row-missing}
 use Rattle.shop_words.proofs.PlainGiven.{find_some-append, defaults_add}
 use Rattle.shop_words.proofs.PlainLine.{positional_rows}
-use Rattle.shop_words.specs.Job.{is_on, positional_said, use_value, value_of}
+use Rattle.shop_words.specs.Job.{is_on, positional_said}
 
 -- the rows say v of the name, and the defaults leave it
 pub record Says (id : Text) (rows : List Row) (v : Text) : Type 0 where

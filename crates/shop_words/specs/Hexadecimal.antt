@@ -1,4 +1,4 @@
--- Words of hexadecimal digits, two a byte.
+-- Words of hexadecimal digits.
 use Rattle.std.specs.Prelude.{◌+◌, ◌-◌, ◌*◌, ℕ, List, [], ◌∷◌, Option, Some, None, if◌then◌else◌}
 use Rattle.std.specs.Int.{is_in_range}
 
@@ -26,3 +26,16 @@ abbrev pub bytes_named : List ℕ → Option (List ℕ)
 bytes_named [] = Some []
 bytes_named (digit ∷ []) = None
 bytes_named (high ∷ low ∷ digits) = byte_before (hex_byte high low) (bytes_named digits)
+
+-- a number of two bytes, the high one first
+abbrev pub two_bytes_of : Option ℕ → Option ℕ → Option ℕ
+two_bytes_of (Some high) (Some low) = Some (256 * high + low)
+two_bytes_of _ _ = None
+
+-- the number that one to four digits write
+abbrev pub hex_number : List ℕ → Option ℕ
+hex_number (d ∷ []) = hex_value d
+hex_number (c ∷ d ∷ []) = hex_byte c d
+hex_number (b ∷ c ∷ d ∷ []) = two_bytes_of (hex_value b) (hex_byte c d)
+hex_number (a ∷ b ∷ c ∷ d ∷ []) = two_bytes_of (hex_byte a b) (hex_byte c d)
+hex_number digits = None

@@ -5,6 +5,7 @@ use Rattle.std.specs.Prelude.{
   Bool,
   true,
   false,
+  ◌==◌,
   ◌&&◌,
   ◌||◌,
   not,
@@ -18,7 +19,6 @@ use Rattle.std.specs.Prelude.{
   codes,
   option_map,
   option_and_then,
-  find,
   if◌then◌else◌,
 }
 use Rattle.std.specs.Str.{bytes_eq}
@@ -31,7 +31,14 @@ use Rattle.a2_device.specs.declared.order.Order.TheVariants as orders
 use Rattle.shop_words.specs.Grammar.{shop}
 use Rattle.shop_words.specs.Hexadecimal.{bytes_named}
 use Rattle.shop_words.specs.Table.{Text, FormView, greatest_number, most_writes}
-use Rattle.shop_words.specs.Plain.{Use, alone, valued, use_name, positional_names, is_number}
+use Rattle.shop_words.specs.Plain.{Use, address_named, is_number, positional_names, value_of}
+use Rattle.apple_text.specs.declared.form.HighBit.{HighBit}
+use Rattle.apple_text.specs.declared.form.HighBit.TheVariants as high_bits
+use Rattle.file_forms.specs.declared.form.FileForm.TheVariants as file_forms
+use Rattle.file_forms.specs.declared.form.GivenForm.{GivenForm}
+use Rattle.file_forms.specs.declared.form.GivenForm.TheVariants as given_forms
+use Rattle.shop_jobs.specs.declared.job.ReadForm.{ReadForm}
+use Rattle.shop_jobs.specs.declared.job.ReadForm.TheVariants as read_forms
 use Rattle.shop_jobs.specs.declared.job.ListForm.{ListForm}
 use Rattle.shop_jobs.specs.declared.job.ListForm.TheVariants as list_forms
 use Rattle.shop_jobs.specs.declared.job.ListOptions.{ListOptions}
@@ -71,10 +78,10 @@ abbrev pub limit_named : Option Text → Option (Option ℕ)
 limit_named None = Some None
 limit_named (Some word) = option_map Some (number_named most_writes word)
 
--- the auxiliary type that is said, 0 where none is
-abbrev pub aux_named : Option Text → Option ℕ
-aux_named None = Some 0
-aux_named (Some word) = number_named 65535 word
+-- the auxiliary type that is said, or that none is
+abbrev pub aux_named : Option Text → Option (Option ℕ)
+aux_named None = Some None
+aux_named (Some word) = option_map Some (address_named word)
 
 -- the form of a list that is said, the names where none is
 abbrev pub form_named : Text → Option ListForm
@@ -192,9 +199,28 @@ compare_by said = compare_of (other_named (said (codes "image")) (said (codes "o
 abbrev pub check_by : Said → LookView
 check_by said = Check (is_on (said (codes "bodies")))
 
--- the whole of a file is read where a flag says so
+-- as what a file is read: its body, the whole of it where a flag says so, or the form that is said
+abbrev pub read_form_named : Text → Option ReadForm
+read_form_named word =
+    if bytes_eq word (codes "text") then Some (read_forms.As file_forms.Text) else
+    if bytes_eq word (codes "applesoft") then Some (read_forms.As file_forms.Applesoft) else
+    if bytes_eq word (codes "integer") then Some (read_forms.As file_forms.Integer) else
+    if bytes_eq word (codes "single") then Some (read_forms.As file_forms.Single) else
+    if bytes_eq word (codes "shown") then Some read_forms.Shown else None
+
+abbrev pub read_form_said : Bool → Option Text → Option ReadForm
+read_form_said false None = Some read_forms.Body
+read_form_said true None = Some read_forms.Whole
+read_form_said false (Some word) = read_form_named word
+read_form_said true (Some word) = None
+
+-- a file, as what it is read, and the new file that it goes to, if one is said
+abbrev pub read_of : Option FileNameView → Option ReadForm → Option Text → Option LookView
+read_of (Some name) (Some form) out = Some (Read name form out)
+read_of _ _ out = None
+
 abbrev pub read_by : Said → Option LookView
-read_by said = option_map (λ name. Read name (is_on (said (codes "whole")))) (name_by said)
+read_by said = read_of (name_by said) (read_form_said (is_on (said (codes "whole"))) (said (codes "as"))) (said (codes "out"))
 
 -- a plan is told as a certificate, or in words where a flag says so
 abbrev pub plan_by : Said → LookView
@@ -216,18 +242,60 @@ edit_by edit said = option_map (λ name. EditOf name edit) (name_by said)
 abbrev pub rename_by : Said → Option ChangeView
 rename_by said = option_and_then (λ new. edit_by (Rename new) said) (said (codes "new"))
 
+-- the highest bit of the bytes of a text that is said, or where none is, on in DOS 3.3 and off in ProDOS
+abbrev pub usual_high : FileSystem → HighBit
+usual_high file_systems.Dos = high_bits.On
+usual_high file_systems.Prodos = high_bits.Off
+
+abbrev pub high_named : Text → Option HighBit
+high_named word =
+    if bytes_eq word (codes "on") then Some high_bits.On else
+    if bytes_eq word (codes "off") then Some high_bits.Off else None
+
+abbrev pub high_said : FileSystem → Option Text → Option HighBit
+high_said file_system None = Some (usual_high file_system)
+high_said file_system (Some word) = high_named word
+
+-- the form in which a new file is given; of a text alone the highest bit is said
+abbrev pub text_given : Option HighBit → Option (Option GivenForm)
+text_given high = option_map (λ h. Some (given_forms.Text h)) high
+
+abbrev pub without_high : Option Text → Option GivenForm → Option (Option GivenForm)
+without_high None form = Some form
+without_high (Some high) form = None
+
+abbrev pub given_form_named : Text → Option Text → FileSystem → Option (Option GivenForm)
+given_form_named word high file_system =
+    if bytes_eq word (codes "text") then text_given (high_said file_system high) else
+    if bytes_eq word (codes "applesoft") then without_high high (Some given_forms.Applesoft) else
+    if bytes_eq word (codes "single") then without_high high (Some given_forms.Single) else None
+
+abbrev pub given_form_said : Option Text → Option Text → FileSystem → Option (Option GivenForm)
+given_form_said None high file_system = without_high high None
+given_form_said (Some word) high file_system = given_form_named word high file_system
+
+abbrev pub given_form_by : Said → Option (Option GivenForm)
+given_form_by said = option_and_then (given_form_said (said (codes "as")) (said (codes "high")))
+    (option_and_then file_system_named (said (codes "fs")))
+
+-- a program whose listing is given is loaded at $0801, so no other auxiliary type is said of it
+abbrev pub is_loadable : Option GivenForm → Option ℕ → Bool
+is_loadable (Some given_forms.Applesoft) (Some aux) = aux == 0x0801
+is_loadable form aux = true
+
 -- the type and the date of a new file are said or not
-abbrev pub attributes_by : ℕ → Said → AttributesView
+abbrev pub attributes_by : Option ℕ → Said → AttributesView
 attributes_by aux said = record { kind = said (codes "type"); aux = aux; date = said (codes "date") }
 
 -- a new file, where each part of it is there
-abbrev pub save_of : Option Text → Option AttributesView → Option Text → Option ChangeView
-save_of (Some name) (Some attributes) (Some from) = Some (Save name attributes from)
-save_of _ _ _ = None
+abbrev pub save_of : Option Text → Option AttributesView → Option (Option GivenForm) → Option Text → Option ChangeView
+save_of (Some name) (Some attributes) (Some form) (Some from) =
+    if is_loadable form attributes.aux then Some (Save name attributes form from) else None
+save_of _ _ _ _ = None
 
 abbrev pub save_by : Said → Option ChangeView
-save_by said = save_of (said (codes "name"))
-    (option_map (λ aux. attributes_by aux said) (aux_named (said (codes "aux")))) (said (codes "from"))
+save_by said = save_of (said (codes "name")) (option_map (λ aux. attributes_by aux said) (aux_named (said (codes "aux"))))
+    (given_form_by said) (said (codes "from"))
 
 -- ---- what is asked, where each part of it is there
 
@@ -327,13 +395,6 @@ abbrev pub IsTaken : List Text → Type 0
 IsTaken words = (takes shop (meant_words words) ≡ true) × IsSome (asked_job words)
 
 -- ---- what a plain list says under each name: the value of its use, or its positional word
-
-abbrev pub use_value : Use → Text
-use_value (alone name) = codes "true"
-use_value (valued name value) = value
-
-abbrev pub value_of : Text → List Use → Option Text
-value_of name uses = option_map use_value (find (λ u. bytes_eq (use_name u) name) uses)
 
 abbrev pub positional_said : List Text → List Text → Said → Said
 positional_said (n ∷ ns) (w ∷ ws) uses name = if bytes_eq n name then Some w else positional_said ns ws uses name

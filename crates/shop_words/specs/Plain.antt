@@ -1,12 +1,12 @@
 -- The plain lists of words: no word at all, or printed from a command's form, its positional words
 -- and its uses of flags and options.
-use Rattle.std.specs.Prelude.{◌≡◌, ◌⊎◌, ◌==◌, All, Any, Contains, IsSome, Some, ℕ, Bool, true, false, not, ◌&&◌, nat_le, List, [], ◌∷◌, ◌++◌, codes, length, filter, find, map}
+use Rattle.std.specs.Prelude.{◌≡◌, ◌⊎◌, ◌==◌, All, Any, Contains, IsSome, Option, None, Some, option_map, if◌then◌else◌, ℕ, Bool, true, false, not, ◌&&◌, nat_le, List, [], ◌∷◌, ◌++◌, codes, length, filter, find, map}
 use Rattle.std.specs.List.{AllPass, AllZip, IsDistinct, list_all}
 use Rattle.std.specs.Char.{is_ascii_digit}
 use Rattle.std.specs.Str.{bytes_eq}
 use Rattle.std.specs.Str.Parse.{digits_value}
-use Rattle.shop_words.specs.Table.{Text, ValuesView, any, one_of, number, KindView, positional, needed, optional, flag, ParameterView, FormView, format, forms, in_place, name_of_file, out_file, parameter, places, stored}
-use Rattle.shop_words.specs.Hexadecimal.{bytes_named}
+use Rattle.shop_words.specs.Table.{Text, ValuesView, address, any, one_of, number, KindView, positional, needed, optional, flag, ParameterView, FormView, aux, format, forms, high, in_place, name_of_file, out_file, parameter, places, read_as, save_as, stored, whole}
+use Rattle.shop_words.specs.Hexadecimal.{bytes_named, hex_number}
 
 -- `-`
 abbrev pub hyphen : ℕ
@@ -37,6 +37,14 @@ abbrev pub use_name : Use → Text
 use_name (alone name) = name
 use_name (valued name value) = name
 
+-- what it says; a flag says `true`
+abbrev pub use_value : Use → Text
+use_value (alone name) = codes "true"
+use_value (valued name value) = value
+
+abbrev pub value_of : Text → List Use → Option Text
+value_of name uses = option_map use_value (find (λ u. bytes_eq (use_name u) name) uses)
+
 abbrev pub dashed : Text → Text
 dashed name = hyphen ∷ hyphen ∷ name
 
@@ -53,10 +61,24 @@ abbrev pub is_number : ℕ → Text → Bool
 is_number greatest [] = false
 is_number greatest (x ∷ xs) = list_all is_ascii_digit (x ∷ xs) && nat_le (digits_value 10 (x ∷ xs)) greatest
 
+-- the number of two bytes that a word writes: in hexadecimal digits behind `$` or `0x`, else in decimal ones
+abbrev pub decimal_address : Text → Option ℕ
+decimal_address word = if is_number 65535 word then Some (digits_value 10 word) else None
+
+abbrev pub address_behind : ℕ → Text → Option ℕ
+address_behind first [] = decimal_address (first ∷ [])
+address_behind first (x ∷ xs) =
+    if first == 48 && x == 120 then hex_number xs else decimal_address (first ∷ x ∷ xs)
+
+abbrev pub address_named : Text → Option ℕ
+address_named [] = None
+address_named (x ∷ xs) = if x == 36 then hex_number xs else address_behind x xs
+
 abbrev pub IsOfValues : ValuesView → Text → Type 0
 IsOfValues any value = Unit {0}
 IsOfValues (one_of words) value = Contains words value
 IsOfValues (number greatest) value = is_number greatest value ≡ true
+IsOfValues address value = IsSome (address_named value)
 
 -- it is an option, which takes the value
 abbrev pub TakesValue : KindView → Text → Type 0
@@ -86,7 +108,8 @@ abbrev pub UsesJson : List Use → Type 0
 UsesJson uses = find (λ u. bytes_eq (use_name u) format.name) uses ≡ Some (valued format.name (codes "json"))
 
 -- the positional words and uses are those of a plain list of the form; where the image may be changed in place, exactly one of `--out` and `--in-place` is used;
--- with `--stored` the name of the file is in hexadecimal digits, and with `--places` the form is JSON
+-- with `--stored` the name of the file is in hexadecimal digits, and with `--places` the form is JSON; `--as` and `--whole` do not go together,
+-- `--high` goes with `--as text` alone, and with `--as applesoft` the auxiliary type is $0801
 pub record IsPlainLine (f : FormView) (positionals : List Text) (uses : List Use) : Type 0 where
   pub as_many : length positionals ≡ length (positional_names f)
   pub plain : AllPass is_plain_word positionals
@@ -97,6 +120,10 @@ pub record IsPlainLine (f : FormView) (positionals : List Text) (uses : List Use
   pub targeted : Contains f.parameters in_place → UsesOneOf out_file.name in_place.name uses
   pub stored : Contains (map use_name uses) stored.name → WritesBytes (positional_names f) positionals
   pub placed : Contains (map use_name uses) places.name → UsesJson uses
+  pub formed : IsSome (value_of whole.name uses) → value_of read_as.name uses ≡ None
+  pub high_of_text : IsSome (value_of high.name uses) → value_of save_as.name uses ≡ Some (codes "text")
+  pub loaded : value_of save_as.name uses ≡ Some (codes "applesoft") → (word : Text) → value_of aux.name uses ≡ Some word
+      → address_named word ≡ Some 0x0801
 
 -- the list that is printed from them
 abbrev pub line_words : FormView → List Text → List Use → List Text

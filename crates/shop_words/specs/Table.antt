@@ -16,6 +16,7 @@ pub data ValuesView : Type 0 where
   any : ValuesView
   one_of : List Text → ValuesView
   number : ℕ → ValuesView
+  address : ValuesView
 
 pub data KindView : Type 0 where
   positional : KindView
@@ -35,6 +36,7 @@ abbrev pub values_view : Values → ValuesView
 values_view values.Any = any
 values_view (values.OneOf words) = one_of (map (λ w. w.now) words.now)
 values_view (values.Number greatest) = number greatest
+values_view values.Address = address
 
 abbrev pub kind_view : Kind → KindView
 kind_view kinds.Positional = positional
@@ -147,10 +149,19 @@ whole = parameter (codes "whole") flag
 abbrev pub stored : ParameterView
 stored = parameter (codes "stored") flag
 
+-- `--out FILE`, of a command that need not write one
+abbrev pub out_file : ParameterView
+out_file = parameter (codes "out") (optional any)
+
+-- `--as FORM` of what is read
+abbrev pub read_as : ParameterView
+read_as = parameter (codes "as") (optional (one_of
+    (codes "text" ∷ codes "applesoft" ∷ codes "integer" ∷ codes "single" ∷ codes "shown" ∷ [])))
+
 abbrev pub read_form : FormView
 read_form = record {
   name = codes "read";
-  parameters = image ∷ name_of_file ∷ file_system ∷ order ∷ whole ∷ data_disk ∷ stored ∷ [];
+  parameters = image ∷ name_of_file ∷ file_system ∷ order ∷ whole ∷ read_as ∷ out_file ∷ data_disk ∷ stored ∷ [];
 }
 
 -- `--into FOLDER` and `--names NAMES`
@@ -177,10 +188,7 @@ to = parameter (codes "to") (needed (one_of order_words))
 abbrev pub out : ParameterView
 out = parameter (codes "out") (needed any)
 
--- `--out FILE` or `--in-place`, of a command that may change its image in place
-abbrev pub out_file : ParameterView
-out_file = parameter (codes "out") (optional any)
-
+-- `--in-place`, where it is not `--out FILE`
 abbrev pub in_place : ParameterView
 in_place = parameter (codes "in-place") flag
 
@@ -248,15 +256,23 @@ abbrev pub type_of_file : ParameterView
 type_of_file = parameter (codes "type") (optional any)
 
 abbrev pub aux : ParameterView
-aux = parameter (codes "aux") (optional (number 65535))
+aux = parameter (codes "aux") (optional address)
 
 abbrev pub date : ParameterView
 date = parameter (codes "date") (optional any)
 
+-- `--as FORM` and `--high on|off` of what is given
+abbrev pub save_as : ParameterView
+save_as = parameter (codes "as") (optional (one_of (codes "text" ∷ codes "applesoft" ∷ codes "single" ∷ [])))
+
+abbrev pub high : ParameterView
+high = parameter (codes "high") (optional (one_of (codes "on" ∷ codes "off" ∷ [])))
+
 abbrev pub save_form : FormView
 save_form = record {
   name = codes "save";
-  parameters = image ∷ name_of_file ∷ file_system ∷ order ∷ from ∷ out_file ∷ in_place ∷ type_of_file ∷ aux ∷ date ∷ data_disk ∷ reserve ∷ [];
+  parameters = image ∷ name_of_file ∷ file_system ∷ order ∷ from ∷ save_as ∷ high ∷ out_file ∷ in_place ∷ type_of_file ∷ aux ∷ date
+      ∷ data_disk ∷ reserve ∷ [];
 }
 
 abbrev pub verify_form : FormView

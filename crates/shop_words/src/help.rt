@@ -37,6 +37,10 @@ pub enum Help {
     Into,
     Names,
     MostWritten,
+    ReadAs,
+    NewFile,
+    SaveAs,
+    High,
 }
 
 impl Help {
@@ -63,12 +67,13 @@ impl Help {
             Help::Cert => "File that the certificate is written to, for verify --from",
             Help::Words => "Tell the moves in words, and not as a certificate",
             Help::Certificate => "File of the certificate, as optimize --cert and plan write it",
-            Help::Content => "File whose bytes are saved",
+            Help::Content => "File that is saved: its bytes, or what --as makes of them",
             Help::Type =>
                 "Type of the file: a letter T I A B S R for DOS 3.3, T if left out; two hexadecimal digits for \
-                    ProDOS, 06 if left out",
+                    ProDOS, 06 if left out; with --as that of the form if left out",
             Help::Aux =>
-                "Auxiliary type, 0 to 65535; for DOS 3.3 the address of a binary file; 0 if left out",
+                "Auxiliary type, 0 to 65535, or 0x and hexadecimal digits; for DOS 3.3 the address of a binary file; \
+                    0 if left out",
             Help::Date =>
                 "Date and time of its creation, for ProDOS, as 1986-05-01T12:30; none if left out",
             Help::Format => "What a line tells: names, json or csv; names if left out",
@@ -86,6 +91,15 @@ impl Help {
                 "What the names tell: naps for the type and the aux type behind each, or plain; naps if left out",
             Help::MostWritten =>
                 "How many bytes the files that are written may have in all; 1073741824 if left out",
+            Help::ReadAs =>
+                "Form that the file is told in: text, applesoft or integer for the listing of a program, single for an \
+                    AppleSingle file, shown for text or a listing by the file's type",
+            Help::NewFile => "New file that they are written to, whole or not at all",
+            Help::SaveAs =>
+                "Form that the file of --from has: text, applesoft for the listing of a program, single for an \
+                    AppleSingle file",
+            Help::High =>
+                "Highest bit of each byte of a text, on or off; on for DOS 3.3 and off for ProDOS if left out",
             Help::Bodies => "Read the sectors of each file too, and tell those that can't be read",
             Help::Whole => "Take all bytes of the file's sectors, and not its content alone",
             Help::Stored =>
@@ -103,7 +117,8 @@ pub fn of(command: &str) -> &'static str {
         "compare" => "Tell which files of two volumes differ, or that none does",
         "map" => "Show where the files of a volume stand, a character for each sector or block",
         "check" => "Tell whether a volume is sound, or what is wrong with it",
-        "read" => "Write the bytes of a file of a volume to standard output",
+        "read" =>
+            "Write the bytes of a file of a volume, or its text, to standard output or to a new file",
         "extract" => "Put the files of a volume into a new folder, whole or not at all",
         "convert" =>
             "Write the sectors of an image in another order; tracks that it makes are of volume 254 without --volume",

@@ -1,6 +1,6 @@
-//! Words of hexadecimal digits, two a byte.
+//! Words of hexadecimal digits.
 ghost use Rattle.std.specs.Prelude.{◌≡◌, IfOk, option_map};
-ghost use Rattle.shop_words.specs.Hexadecimal.{bytes_named, hex_byte, hex_value};
+ghost use Rattle.shop_words.specs.Hexadecimal.{bytes_named, hex_byte, hex_number, hex_value};
 
 use std::alloc::{AllocError, Global};
 
@@ -39,4 +39,25 @@ pub fn bytes_named(alloc: Global, word: &str) -> Result<Option<Vec<u8>>, AllocEr
         return Ok(None);
     }
     Ok(Some(bytes))
+}
+
+/// The number that one to four digits write.
+pub fn hex_number(digits: &[u8]) -> Option<u16>
+    ensures { result ≡ hex_number digits.now }
+{
+    match digits {
+        [d] => Some(u16::from(hex_value(*d)?)),
+        [c, d] => Some(u16::from(hex_byte(*c, *d)?)),
+        [b, c, d] => {
+            let high = hex_value(*b)?;
+            let low = hex_byte(*c, *d)?;
+            Some(u16::from_be_bytes([high, low]))
+        }
+        [a, b, c, d] => {
+            let high = hex_byte(*a, *b)?;
+            let low = hex_byte(*c, *d)?;
+            Some(u16::from_be_bytes([high, low]))
+        }
+        _ => None,
+    }
 }

@@ -13,13 +13,17 @@ ghost use Rattle.shop_words.specs.Job.{
   options_by,
   other_named as names_other,
   other_order as order_of_other,
+  read_by,
+  read_form_named,
+  read_form_said,
   rows_say,
 };
 
 use crate::reading::{has_flag, name_in, number_named, order_in, said, text_said, volume_in};
 use a2_device::Order;
 use clap::ArgMatches;
-use shop_jobs::{Ask, CompareOptions, ListForm, ListOptions, Look};
+use file_forms::FileForm;
+use shop_jobs::{Ask, CompareOptions, ListForm, ListOptions, Look, ReadForm};
 use std::alloc::{AllocError, Global};
 
 /// How many bytes files may have in all that are read or written, where the words say nothing.
@@ -178,21 +182,58 @@ pub fn check_in(alloc: Global, matches: &ArgMatches<'_>) -> Result<Option<Ask>, 
     look_in(alloc, matches, Look::Check { bodies })
 }
 
+// The form of a file that a word names.
+fn read_form_named(word: &str) -> Option<ReadForm>
+    ensures { result ≡ read_form_named word.now }
+{
+    match word {
+        "text" => Some(ReadForm::As(FileForm::Text)),
+        "applesoft" => Some(ReadForm::As(FileForm::Applesoft)),
+        "integer" => Some(ReadForm::As(FileForm::Integer)),
+        "single" => Some(ReadForm::As(FileForm::Single)),
+        "shown" => Some(ReadForm::Shown),
+        _ => None,
+    }
+}
+
+// As what a file is read: its body, the whole of it or a form of it.
+fn read_form_said(whole: bool, word: Option<&str>) -> Option<ReadForm>
+    ensures { result ≡ read_form_said whole (option_map (λ s. s.now) word.entry) }
+{
+    match (whole, word) {
+        (false, None) => Some(ReadForm::Body),
+        (true, None) => Some(ReadForm::Whole),
+        (false, Some(word)) => read_form_named(word),
+        (true, Some(_)) => None,
+    }
+}
+
+// The file that is read, and where its bytes go.
+fn reading_in(alloc: Global, matches: &ArgMatches<'_>) -> Result<Option<Look>, AllocError>
+    ensures { IfOk result (λ look. option_map look_view look
+        ≡ read_by (rows_say (rows_of (found_of matches.now)))) }
+{
+    let Some(name) = name_in(alloc, matches)? else {
+        return Ok(None);
+    };
+    let Some(form) = read_form_said(has_flag(matches, "whole"), said(matches, "as")) else {
+        return Ok(None);
+    };
+    Ok(Some(Look::Read {
+        name,
+        form,
+        out: text_said(alloc, matches, "out")?,
+    }))
+}
+
 pub fn read_in(alloc: Global, matches: &ArgMatches<'_>) -> Result<Option<Ask>, AllocError>
     ensures { IfOk result (λ ask. option_map ask_view ask
         ≡ ask_by (codes "read") (rows_say (rows_of (found_of matches.now)))) }
 {
-    let (Some(name), Some(volume)) = (name_in(alloc, matches)?, volume_in(matches)) else {
-        return Ok(None);
-    };
-    Ok(Some(Ask::Look {
-        volume,
-        reserve: None,
-        look: Look::Read {
-            name,
-            whole: has_flag(matches, "whole"),
-        },
-    }))
+    match reading_in(alloc, matches)? {
+        Some(look) => Ok(listing_in(matches, look)),
+        None => Ok(None),
+    }
 }
 
 pub fn plan_in(alloc: Global, matches: &ArgMatches<'_>) -> Result<Option<Ask>, AllocError>

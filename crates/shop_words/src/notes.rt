@@ -102,13 +102,19 @@ Status:
 const READ: &str = "\
 Examples:
   a2shop read disk.dsk HELLO --auto
+  a2shop read disk.dsk LETTER --auto --as shown
+  a2shop read disk.dsk PICTURE --auto --as single --out picture.as
   a2shop read disk.dsk C8C5CCCCCF --stored --auto
+
+What is told as a text or a listing is UTF-8, and a control character is told as its picture, as ␄.
 
 Status:
   0  the bytes of the file are written
-  3  REFUSED Length    the image has another length than one in its order
+  3  REFUSED Exists    something stands at the path of --out
+     REFUSED Length    the image has another length than one in its order
      REFUSED Check     the header, the directory, the map's pointer or the file has a fault
      REFUSED NotFound  no file has the name
+     REFUSED Form      the file has no such form
   4  FAILED Input, Device or Memory: the file, a sector of the image or memory failed";
 
 const EXTRACT: &str = "\
@@ -254,19 +260,25 @@ const SAVE: &str = "\
 Examples:
   a2shop save disk.dsk PICTURE --auto --from picture.bin --out saved.dsk --type B --aux 768
   a2shop save disk.dsk NOTE --auto --from note.txt --in-place
+  a2shop save disk.dsk LETTER --auto --from letter.txt --as text --in-place
+  a2shop save disk.dsk GAME --auto --from game.bas --as applesoft --in-place
   a2shop save disk.po NOTE --auto --from note.txt --out saved.po --type 04 --date 1986-05-01T12:30:00
 
+With --as the file of --from is a text in UTF-8, the listing of a program in Applesoft BASIC, or an
+AppleSingle file; its type is then T or 04, A or fc, or the one that the AppleSingle file has.
 DOS 3.3 files of the types A, I and B get their head before the bytes: the address for B, and the length.
 With --in-place the image's own file is changed, unit by unit, and no new image is written.
 
 Status:
   0  the image is written, with the new file
   3  REFUSED InPlace       it is neither DOS 3.3 in DOS order nor ProDOS in ProDOS order, in a file
-     REFUSED Type          the word of --type is no type in the file system
+     REFUSED Type          the word of --type, or the AppleSingle file, has no type of the file system
      REFUSED Date          the word of --date is no date and time of 1940 to 2039
      REFUSED Reserve       the word of --reserve is no list of places
      REFUSED Length        the image has another length than one in its order
      REFUSED InputTooLong  the file of --from has more than 16,777,216 bytes
+     REFUSED Text N        line N of the file of --from can't be taken as --as says
+     REFUSED Single        the file of --from is no AppleSingle file, or has a resource fork
      REFUSED TooLong       the file is longer than the file system allows
      REFUSED Check         the volume has a fault; check tells which
      REFUSED NotFound      a directory of the path is not there

@@ -29,12 +29,20 @@ ghost use Rattle.shop_words.specs.Job.{
   target_by,
   volume_by,
 };
+ghost use Rattle.shop_words.specs.Plain.{address_named};
 
-use crate::hexadecimal::bytes_named;
+use crate::hexadecimal::{bytes_named, hex_number};
 use a2_device::Order;
 use clap::ArgMatches;
 use shop_jobs::{FileName, FileSystem, Target, VolumeOptions};
 use std::alloc::{AllocError, Global};
+
+/// What the words say of the file system.
+pub fn file_system_in(matches: &ArgMatches<'_>) -> Option<FileSystem>
+    ensures { result ≡ option_and_then file_system_named (first_of (codes "fs") (rows_of (found_of matches.now))) }
+{
+    file_system_named(said(matches, "fs")?)
+}
 
 /// What the words say under a parameter's name.
 pub fn said<'a>(matches: &ArgMatches<'a>, name: &str) -> Option<&'a str>
@@ -127,11 +135,22 @@ fn up_to(number: u64, greatest: u64) -> Option<u64>
     }
 }
 
+/// The number of two bytes that a word writes: in hexadecimal digits behind `$` or `0x`, else in decimal ones.
+pub fn address_named(word: &str) -> Option<u16>
+    ensures { result ≡ address_named word.now }
+{
+    match word.as_bytes() {
+        [b'$', digits @ ..] => hex_number(digits),
+        [b'0', b'x', digits @ ..] => hex_number(digits),
+        _ => Some(number_named(word, 65535)? as u16),
+    }
+}
+
 /// What the image is read as.
 pub fn volume_in(matches: &ArgMatches<'_>) -> Option<VolumeOptions>
     ensures { result ≡ volume_by (rows_say (rows_of (found_of matches.now))) }
 {
-    let file_system = file_system_named(said(matches, "fs")?)?;
+    let file_system = file_system_in(matches)?;
     let order = order_in(matches, "order")?;
     Some(VolumeOptions {
         file_system,

@@ -6,7 +6,8 @@ ghost use Rattle.shop_words.specs.Fault.{IsFaultBy};
 use crate::fault::WordsFault;
 use crate::grammar::{full_command, program};
 use crate::hexadecimal::hex_value;
-use crate::reading::{has_flag, number_named, said};
+use crate::reading::{address_named, has_flag, number_named, said};
+use crate::saving::PROGRAM_START;
 use crate::table::{Form, Kind, Parameter, Values, table};
 use crate::{all_escaped, escaped};
 use clap::error::ErrorKind;
@@ -107,6 +108,12 @@ enum Misfit<'a> {
     },
     /// Places are to be told in another form than JSON.
     PlacesWithoutJson,
+    /// A file is to be read whole and in a form.
+    WholeAndForm,
+    /// The highest bit is said of what is no text.
+    HighWithoutText,
+    /// A program whose listing is given is to be loaded elsewhere than it is made for.
+    LoadedElsewhere,
     /// Both images are to be read from standard input.
     TwoInputs,
     /// The image is to go to a file and to be changed in place.
@@ -121,6 +128,7 @@ fn takes(values: Values, word: &str) -> bool {
         Values::Any => true,
         Values::OneOf(words) => words.iter().any(|one| *one == word),
         Values::Number { greatest } => number_named(word, greatest).is_some(),
+        Values::Address => address_named(word).is_some(),
     }
 }
 
@@ -183,6 +191,22 @@ fn places_misfit<'a>(matches: &ArgMatches<'a>) -> Option<Misfit<'a>> {
     }
 }
 
+/// What is wrong with the form of a file that is read or given.
+fn form_misfit<'a>(matches: &ArgMatches<'a>) -> Option<Misfit<'a>> {
+    let form = said(matches, "as");
+    if form.is_some() && has_flag(matches, "whole") {
+        return Some(Misfit::WholeAndForm);
+    }
+    if form != Some("text") && said(matches, "high").is_some() {
+        return Some(Misfit::HighWithoutText);
+    }
+    let aux = said(matches, "aux").and_then(|word| address_named(word))?;
+    if form == Some("applesoft") && aux != PROGRAM_START {
+        return Some(Misfit::LoadedElsewhere);
+    }
+    None
+}
+
 /// Whether both images of a comparison are to be read from standard input.
 fn inputs_misfit<'a>(matches: &ArgMatches<'a>) -> Option<Misfit<'a>> {
     match (said(matches, "image"), said(matches, "other")) {
@@ -199,6 +223,7 @@ fn misfit_of<'a>(form: &Form, matches: &ArgMatches<'a>) -> Option<Misfit<'a>> {
         .find_map(|parameter| value_misfit(parameter, matches))
         .or_else(|| name_misfit(matches))
         .or_else(|| places_misfit(matches))
+        .or_else(|| form_misfit(matches))
         .or_else(|| inputs_misfit(matches))
         .or_else(|| target_misfit(form, matches))
 }
@@ -218,6 +243,7 @@ fn wanted(alloc: Global, name: &str, values: Values) -> Result<String, AllocErro
             format!(in alloc; "[possible values: {auto}{words}]")
         }
         Values::Number { greatest } => format!(in alloc; "[a number from 0 to {greatest}]"),
+        Values::Address => "[a number from 0 to 65535, or from 0x0 to 0xFFFF]".to_string(alloc),
     }
 }
 
@@ -235,9 +261,12 @@ impl Misfit<'_> {
     fn kind(self) -> ErrorKind {
         match self {
             Misfit::Value { .. } | Misfit::NoStoredName { .. } => ErrorKind::InvalidValue,
-            Misfit::PlacesWithoutJson | Misfit::TwoInputs | Misfit::TwoTargets => {
-                ErrorKind::ArgumentConflict
-            }
+            Misfit::PlacesWithoutJson
+            | Misfit::WholeAndForm
+            | Misfit::HighWithoutText
+            | Misfit::LoadedElsewhere
+            | Misfit::TwoInputs
+            | Misfit::TwoTargets => ErrorKind::ArgumentConflict,
             Misfit::NoTarget => ErrorKind::MissingRequiredArgument,
         }
     }
@@ -261,6 +290,17 @@ impl Misfit<'_> {
             }
             Misfit::PlacesWithoutJson => {
                 "the argument '--places' can only be used with '--format json'".to_string(alloc)
+            }
+            Misfit::WholeAndForm => {
+                "the argument '--as <as>' cannot be used with '--whole'".to_string(alloc)
+            }
+            Misfit::HighWithoutText => {
+                "the argument '--high <high>' can only be used with '--as text'".to_string(alloc)
+            }
+            Misfit::LoadedElsewhere => {
+                "the argument '--as applesoft' can only be used with '--aux 0x0801'".to_string(
+                    alloc,
+                )
             }
             Misfit::TwoInputs => {
                 "the arguments '<image>' and '<other>' cannot both be '-'".to_string(alloc)

@@ -13,6 +13,8 @@ pub enum Values {
     OneOf(&'static [&'static str]),
     /// Decimal digits, of a number up to the greatest.
     Number { greatest: u64 },
+    /// A number of two bytes, in decimal digits or, behind `0x` or `$`, in hexadecimal ones.
+    Address,
 }
 
 /// How a parameter stands among the words of a command.
@@ -161,7 +163,7 @@ const TYPE: Parameter = Parameter {
 
 const AUX: Parameter = Parameter {
     name: "aux",
-    kind: Kind::Optional(Values::Number { greatest: 65535 }),
+    kind: Kind::Optional(Values::Address),
     help: Help::Aux,
 };
 
@@ -175,6 +177,30 @@ const WHOLE: Parameter = Parameter {
     name: "whole",
     kind: Kind::Flag,
     help: Help::Whole,
+};
+
+const READ_AS: Parameter = Parameter {
+    name: "as",
+    kind: Kind::Optional(Values::OneOf(&["text", "applesoft", "integer", "single", "shown"])),
+    help: Help::ReadAs,
+};
+
+const NEW_FILE: Parameter = Parameter {
+    name: "out",
+    kind: Kind::Optional(Values::Any),
+    help: Help::NewFile,
+};
+
+const SAVE_AS: Parameter = Parameter {
+    name: "as",
+    kind: Kind::Optional(Values::OneOf(&["text", "applesoft", "single"])),
+    help: Help::SaveAs,
+};
+
+const HIGH: Parameter = Parameter {
+    name: "high",
+    kind: Kind::Optional(Values::OneOf(&["on", "off"])),
+    help: Help::High,
 };
 
 const STORED: Parameter = Parameter {
@@ -303,7 +329,17 @@ const FORMS: &[Form] = &[
     },
     Form {
         name: "read",
-        parameters: &[IMAGE, NAME, FILE_SYSTEM, ORDER, WHOLE, DATA_DISK, STORED],
+        parameters: &[
+            IMAGE,
+            NAME,
+            FILE_SYSTEM,
+            ORDER,
+            WHOLE,
+            READ_AS,
+            NEW_FILE,
+            DATA_DISK,
+            STORED,
+        ],
     },
     Form {
         name: "extract",
@@ -383,6 +419,8 @@ const FORMS: &[Form] = &[
             FILE_SYSTEM,
             ORDER,
             CONTENT,
+            SAVE_AS,
+            HIGH,
             OUT_FILE,
             IN_PLACE,
             TYPE,

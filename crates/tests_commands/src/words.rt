@@ -14,6 +14,7 @@ mod extractions;
 mod moves;
 mod reads;
 mod refusals;
+mod savings;
 
 fn parse(alloc: Global, line: &str) -> Result<Job, WordsFault> {
     parse_words(alloc, words_of(alloc, line)?.as_slice())

@@ -1,7 +1,7 @@
 //! A file that is replaced as a whole, in a folder in memory.
 
 use crate::folder::{Folder, Kind, Mounted};
-use shop_files::{AsideFile, Place, Standing, Target, target_of};
+use shop_files::{AsideFile, Place, Placing, Standing, Target, target_of};
 use std::alloc::{AllocError, Allocator, Global};
 use std::io::{self, ErrorKind, Write};
 use std::os::unix::fs::PermissionsExt;
@@ -24,10 +24,15 @@ fn write_aside<R: Files, A: Allocator + Copy>(out: &mut AsideFile<'_, R, A>) -> 
     out.flush_to_disk()
 }
 
-/// Replaces the file that a path leads to.
-fn replace<R: Files, A: Allocator + Copy>(rt: &R, alloc: A, path: &str) -> io::Result<()> {
+/// Gives a file the place that a path leads to, if it may take it.
+fn place<R: Files, A: Allocator + Copy>(
+    rt: &R,
+    alloc: A,
+    path: &str,
+    placing: Placing,
+) -> io::Result<()> {
     let target = target_of(rt, alloc, path)?;
-    let mut out = AsideFile::new(rt, alloc, &target);
+    let mut out = AsideFile::new(rt, alloc, &target, placing);
     match write_aside(&mut out) {
         Ok(()) => out.take_place(),
         Err(error) => {
@@ -39,7 +44,15 @@ fn replace<R: Files, A: Allocator + Copy>(rt: &R, alloc: A, path: &str) -> io::R
 
 /// Why the file that a path leads to is not replaced.
 fn error_of<A: Allocator + Copy>(folder: &Folder, alloc: A, path: &str) -> Option<ErrorKind> {
-    match replace(&Mounted(folder), alloc, path) {
+    match place(&Mounted(folder), alloc, path, Placing::Over) {
+        Ok(()) => None,
+        Err(error) => Some(error.kind()),
+    }
+}
+
+/// Why no new file takes the place that a path leads to.
+fn new_error_of<A: Allocator + Copy>(folder: &Folder, alloc: A, path: &str) -> Option<ErrorKind> {
+    match place(&Mounted(folder), alloc, path, Placing::Free) {
         Ok(()) => None,
         Err(error) => Some(error.kind()),
     }
@@ -163,7 +176,7 @@ fn place_of_image(alloc: Global) -> Result<Target<Global>, AllocError> {
 /// Whether a file aside is written and not empty. It does not take its place.
 fn is_written(folder: &Folder, target: &Target<Global>) -> bool {
     let files = Mounted(folder);
-    let mut out = AsideFile::new(&files, folder.alloc(), target);
+    let mut out = AsideFile::new(&files, folder.alloc(), target, Placing::Over);
     write_aside(&mut out).is_ok() && !out.is_empty()
 }
 
@@ -179,7 +192,7 @@ fn what_stood_there_stands_until_the_end(rt: HostRuntime) -> Result<(), Fail> {
 /// Whether a file aside to which nothing is written is empty to its end, and its end is good.
 fn ends_empty(folder: &Folder, target: &Target<Global>) -> bool {
     let files = Mounted(folder);
-    let mut out = AsideFile::new(&files, folder.alloc(), target);
+    let mut out = AsideFile::new(&files, folder.alloc(), target, Placing::Over);
     out.flush_to_disk().is_ok() && out.is_empty() && out.take_place().is_ok()
 }
 
@@ -194,7 +207,7 @@ fn nothing_is_made_where_nothing_is_written(rt: HostRuntime) -> Result<(), Fail>
 /// Whether a file aside of which a write failed is not empty, cannot be put onto the disk, and does not take the place.
 fn remembers_a_failure(folder: &Folder, target: &Target<Global>) -> bool {
     let files = Mounted(folder);
-    let mut out = AsideFile::new(&files, folder.alloc(), target);
+    let mut out = AsideFile::new(&files, folder.alloc(), target, Placing::Over);
     write_aside(&mut out).is_err()
         && !out.is_empty()
         && out.flush_to_disk().is_err()
@@ -306,5 +319,37 @@ fn each_block_of_a_path_refused(rt: HostRuntime) -> Result<(), Fail> {
         assert!(rt; leads_over(rt.alloc(), before, "other", refused)?);
     }
     assert!(rt; leads_over(rt.alloc(), 3, "other", Lead::Place("./other", None))?);
+    Ok(())
+}
+
+/// A folder that knows no second names of files: a new file takes a place at which nothing stands, and no other.
+#[test]
+fn a_new_file_takes_a_free_place_alone(rt: HostRuntime) -> Result<(), Fail> {
+    let folder = Folder::holding(rt.alloc(), &FILE_AND_LINK, None)?;
+    assert!(rt; new_error_of(&folder, rt.alloc(), "image") == Some(ErrorKind::AlreadyExists));
+    assert!(rt; new_error_of(&folder, rt.alloc(), "link") == Some(ErrorKind::AlreadyExists));
+    assert!(rt; folder.holds(&OLD));
+    assert!(rt; new_error_of(&folder, rt.alloc(), "other").is_none());
+    let [image, link] = OLD;
+    assert!(rt; folder.holds(&[image, link, ("other", 0o600, "newer")]));
+    Ok(())
+}
+
+/// Why no new file takes the place, where the call after so many others fails, and whether what stood there stands then
+/// and nothing else does.
+fn new_failing(alloc: Global, failing: u32) -> io::Result<(Option<ErrorKind>, bool)> {
+    let folder = Folder::holding(alloc, &FILE_AND_LINK, Some(failing))?;
+    let error = new_error_of(&folder, alloc, "other");
+    Ok((error, folder.holds(&OLD)))
+}
+
+/// The calls: asked three times where the path leads; made, written twice, put onto the disk; its place made, and taken.
+#[test]
+fn each_call_of_a_new_file_failing(rt: HostRuntime) -> Result<(), Fail> {
+    for failing in 0..9u32 {
+        let (error, is_old) = new_failing(rt.alloc(), failing)?;
+        assert!(rt; error.is_some() && is_old, "call {failing}");
+    }
+    assert!(rt; new_failing(rt.alloc(), 9)? == (None, false));
     Ok(())
 }

@@ -1,14 +1,34 @@
 // The words of reads.
-use super::asks;
+use super::{asks, refuses};
 use a2_device::Order;
-use shop_jobs::{Ask, FileName, FileSystem, Look, VolumeOptions};
+use file_forms::FileForm;
+use shop_jobs::{Ask, FileName, FileSystem, Look, ReadForm, VolumeOptions};
 use shop_words::WordsFault;
 use std::alloc::{AllocError, Global};
 use std::process::Abort;
 use std::test::Fail;
 
-/// The words of a line are those of a read of a file in the DOS volume of a.dsk, in nibble order; its two flags are
-/// both given or none is.
+/// The words of a line ask to look at the DOS volume of a.dsk, in nibble order.
+fn looks(
+    rt: &impl Abort,
+    alloc: Global,
+    line: &str,
+    data_disk: bool,
+    look: Look,
+) -> Result<(), WordsFault> {
+    let read = Ask::Look {
+        volume: VolumeOptions {
+            file_system: FileSystem::Dos,
+            order: Order::Nibble,
+            data_disk,
+        },
+        reserve: None,
+        look,
+    };
+    asks(rt, alloc, line, "a.dsk", read)
+}
+
+/// The words of a line are those of a read of a file; its two flags are both given or none is.
 fn reads(
     rt: &impl Abort,
     alloc: Global,
@@ -16,16 +36,17 @@ fn reads(
     name: FileName,
     flags: bool,
 ) -> Result<(), WordsFault> {
-    let read = Ask::Look {
-        volume: VolumeOptions {
-            file_system: FileSystem::Dos,
-            order: Order::Nibble,
-            data_disk: flags,
-        },
-        reserve: None,
-        look: Look::Read { name, whole: flags },
+    let form = if flags {
+        ReadForm::Whole
+    } else {
+        ReadForm::Body
     };
-    asks(rt, alloc, line, "a.dsk", read)
+    let look = Look::Read {
+        name,
+        form,
+        out: None,
+    };
+    looks(rt, alloc, line, flags, look)
 }
 
 /// The path HELLO.
@@ -58,4 +79,56 @@ fn a_read_may_name_a_file_by_its_stored_bytes(rt: HostRuntime) -> Result<(), Fai
         reads(&rt, rt.alloc(), line, name, false)?;
     }
     Ok(())
+}
+
+#[test]
+fn a_read_may_name_a_form(rt: HostRuntime) -> Result<(), Fail> {
+    for (word, form) in [
+        ("text", ReadForm::As(FileForm::Text)),
+        ("applesoft", ReadForm::As(FileForm::Applesoft)),
+        ("integer", ReadForm::As(FileForm::Integer)),
+        ("single", ReadForm::As(FileForm::Single)),
+        ("shown", ReadForm::Shown),
+    ] {
+        let line = format!(in rt.alloc(); "read a.dsk HELLO --fs dos --as {word} --order nibble")?;
+        let look = Look::Read {
+            name: hello(rt.alloc())?,
+            form,
+            out: None,
+        };
+        looks(&rt, rt.alloc(), line.as_str(), false, look)?;
+    }
+    Ok(())
+}
+
+#[test]
+fn a_read_may_name_a_new_file(rt: HostRuntime) -> Result<(), Fail> {
+    let look = Look::Read {
+        name: hello(rt.alloc())?,
+        form: ReadForm::Body,
+        out: Some("b.bin".to_string(rt.alloc())?),
+    };
+    let line = "read a.dsk HELLO --out b.bin --fs dos --order nibble";
+    looks(&rt, rt.alloc(), line, false, look)?;
+    Ok(())
+}
+
+#[test]
+fn words_that_read_nothing_are_refused(rt: HostRuntime) {
+    for (line, wrong) in [
+        (
+            "read a.dsk HELLO --fs dos --order dos --as basic",
+            "text, applesoft, integer, single, shown",
+        ),
+        (
+            "read a.dsk HELLO --fs dos --order dos --as text --whole",
+            "'--as <as>' cannot be used with '--whole'",
+        ),
+        (
+            "read a.dsk HELLO --fs dos --order dos --in-place",
+            "--in-place",
+        ),
+    ] {
+        refuses(&rt, rt.alloc(), line, wrong, "Usage: a2shop read");
+    }
 }

@@ -1,0 +1,11 @@
+pub mod WorkedFiles
+pub mod Fronts
+pub mod Tables
+pub mod Finding
+pub mod Judging
+pub mod Headers
+pub mod Parts
+pub mod Readings
+pub mod Again
+pub mod Exits
+pub mod Infos

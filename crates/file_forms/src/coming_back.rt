@@ -1,0 +1,143 @@
+// The form of a file that can be read, where it gives the bytes of the file back.
+ghost use Rattle.std.specs.Prelude.{◌≡◌, ◌≤◌, ◌↔◌, true, All, IfNone, IfOk, IfSome, IsTrue, List, length, ℕ};
+ghost use Rattle.apple_text.specs.Taken.{IsAllowed};
+ghost use Rattle.applesoft.specs.Program.{IsListed};
+ghost use Rattle.applesoft.specs.Tokens.{IsTokenized};
+ghost use Rattle.file_forms.specs.Found.{file_view, text_bytes};
+ghost use Rattle.file_forms.specs.Readable.{AreZerosBehind, IsReadable, IsTextTakenBack, high_of};
+ghost use Rattle.file_forms.specs.Shown.{IsInForm, form_of};
+
+use crate::form::FileForm;
+use crate::found::FoundFile;
+use apple_text::{HighBit, text_of, what_was_shown_is_taken_back};
+use applesoft::{
+    ListError, TokenError, a_program_has_one_listing, a_text_is_one_program, list, tokens,
+};
+use reserved_places::PlaceForm;
+use std::alloc::{AllocError, Allocator};
+
+// The highest bit of the first byte of a text.
+fn high_of(text: &[u8]) -> HighBit
+    ensures { result ≡ high_of text.now }
+{
+    match text {
+        [first, ..] if *first >= 0x80 => HighBit::On,
+        _ => HighBit::Off,
+    }
+}
+
+// Whether a byte has this highest bit.
+fn has_high(byte: u8, high: HighBit) -> bool
+    ensures { IsTrue result ↔ IsAllowed (record { high = high; zeros = true }) byte }
+{
+    match high {
+        HighBit::On => byte >= 0x80,
+        HighBit::Off => byte < 0x80,
+    }
+}
+
+// Whether each byte has this highest bit.
+fn have_high(bytes: &[u8], high: HighBit) -> bool
+    ensures { IsTrue result ↔ All (IsAllowed (record { high = high; zeros = true })) bytes.now }
+{
+    bytes.iter().all(|byte| has_high(*byte, high))
+}
+
+// Whether all bytes are $00.
+fn are_zeros(bytes: &[u8]) -> bool
+    ensures { IsTrue result ↔ All (λ byte. byte ≡ 0) bytes.now }
+{
+    bytes.iter().all(|byte| *byte == 0)
+}
+
+// Whether nothing but $00 stands behind the text of a file in its units.
+fn are_zeros_behind(file: &FoundFile<'_>, text: &[u8]) -> bool
+    requires { file.now.system ≡ PlaceForm.Sector → length text.now ≤ length file.now.whole.now }
+    ensures { IsTrue result ↔ AreZerosBehind file.now.system text.now file.now.whole.now }
+{
+    match file.system {
+        PlaceForm::Sector => are_zeros(&file.whole[text.len()..]),
+        PlaceForm::Block => true,
+    }
+}
+
+// A text, where it is taken for the bytes of the file.
+fn readable_text<A: Allocator>(
+    alloc: A,
+    file: &FoundFile<'_>,
+) -> Result<Option<Vec<u8, A>>, AllocError>
+    ensures some { IfOk result (λ text. IfSome text (λ some.
+        IsInForm FileForm.Text (file_view file.now) some.items
+        × IsTextTakenBack (file_view file.now) some.items)) }
+    ensures none { IfOk result (λ text. IfNone text ((other : List ℕ)
+        → IsInForm FileForm.Text (file_view file.now) other
+        → ¬ IsTextTakenBack (file_view file.now) other)) }
+{
+    what_was_shown_is_taken_back();
+    let bytes = file.text();
+    if !have_high(bytes, high_of(bytes)) || !are_zeros_behind(file, bytes) {
+        return Ok(None);
+    }
+    let text = text_of(alloc, bytes)?;
+    Ok(Some(text))
+}
+
+// Whether a text is a program.
+fn is_program<A: Allocator + Copy>(
+    alloc: A,
+    text: &[u8],
+    program: &[u8],
+) -> Result<bool, AllocError>
+    ensures { IfOk result (λ is. IsTrue is ↔ IsTokenized text.now program.now) }
+{
+    a_text_is_one_program();
+    match tokens(alloc, text) {
+        Ok(taken) => Ok(taken.as_slice() == program),
+        Err(TokenError::BadLine(_)) => Ok(false),
+        Err(TokenError::Memory) => Err(AllocError),
+    }
+}
+
+// The listing of a program, where it is taken for the bytes of the file.
+fn readable_program<A: Allocator + Copy>(
+    alloc: A,
+    body: &[u8],
+) -> Result<Option<Vec<u8, A>>, AllocError>
+    ensures some { IfOk result (λ text. IfSome text (λ some.
+        IsListed body.now some.items × IsTokenized some.items body.now)) }
+    ensures none { IfOk result (λ text. IfNone text ((other : List ℕ)
+        → IsListed body.now other → ¬ IsTokenized other body.now)) }
+{
+    a_program_has_one_listing();
+    match list(alloc, body) {
+        Ok(text) => {
+            if is_program(alloc, text.as_slice(), body)? {
+                Ok(Some(text))
+            } else {
+                Ok(None)
+            }
+        }
+        Err(ListError::Form) => Ok(None),
+        Err(ListError::Memory) => Err(AllocError),
+    }
+}
+
+/// A file as the form of its type shows it, where just the bytes of the file are taken from that: a text, or a program
+/// in Applesoft BASIC.
+///
+/// # Errors
+/// Want of memory alone.
+pub fn readable<A: Allocator + Copy>(
+    alloc: A,
+    file: &FoundFile<'_>,
+) -> Result<Option<Vec<u8, A>>, AllocError>
+    ensures some { IfOk result (λ text. IfSome text (λ some. IsReadable (file_view file.now) some.items)) }
+    ensures none { IfOk result (λ text. IfNone text ((other : List ℕ)
+        → ¬ IsReadable (file_view file.now) other)) }
+{
+    match FileForm::of_type(file.info.file_type) {
+        Some(FileForm::Text) => readable_text(alloc, file),
+        Some(FileForm::Applesoft) => readable_program(alloc, file.body),
+        Some(FileForm::Integer | FileForm::Single) | None => Ok(None),
+    }
+}

@@ -1,0 +1,9 @@
+use Rattle.std.proofs.Common.{length}
+use Rattle.integer_basic.proofs.Showing.{SoFar}
+use Rattle.integer_basic.proofs.items.push_body.Given as goal
+
+abbrev pub invariant-loop-rest : goal.invariant-loop-rest
+invariant-loop-rest g l = SoFar l.initial.text.items l.body l.text.items l.rest
+
+abbrev pub decreases-loop-rest : goal.decreases-loop-rest
+decreases-loop-rest g l = length l.rest

@@ -1,0 +1,122 @@
+// The words of savings.
+use super::{asks, refuses};
+use a2_device::Order;
+use apple_text::HighBit;
+use file_forms::GivenForm;
+use shop_jobs::{Ask, Change, FileSystem, SaveAttributes, Target, VolumeOptions};
+use shop_words::WordsFault;
+use std::alloc::Global;
+use std::process::Abort;
+use std::test::Fail;
+
+/// The words behind `save a.dsk NOTE --order dos --from b --out c.dsk` are those of a saving with this aux type, in this
+/// form.
+fn saves(
+    rt: &impl Abort,
+    alloc: Global,
+    words: &str,
+    file_system: FileSystem,
+    aux: Option<u16>,
+    form: Option<GivenForm>,
+) -> Result<(), WordsFault> {
+    let line = format!(in alloc; "save a.dsk NOTE --order dos --from b --out c.dsk {words}")?;
+    let change = Change::Save {
+        name: "NOTE".to_string(alloc)?,
+        attributes: SaveAttributes {
+            kind: None,
+            aux,
+            date: None,
+        },
+        form,
+        from: "b".to_string(alloc)?,
+    };
+    let save = Ask::Change {
+        volume: VolumeOptions {
+            file_system,
+            order: Order::Dos,
+            data_disk: false,
+        },
+        reserve: None,
+        change,
+        target: Target::File("c.dsk".to_string(alloc)?),
+    };
+    asks(rt, alloc, line.as_str(), "a.dsk", save)
+}
+
+#[test]
+fn a_saving_names_a_form(rt: HostRuntime) -> Result<(), Fail> {
+    let dos = FileSystem::Dos;
+    let high = GivenForm::Text(HighBit::On);
+    let low = GivenForm::Text(HighBit::Off);
+    for (words, file_system, form) in [
+        ("--fs dos", dos, None),
+        ("--fs dos --as text", dos, Some(high)),
+        ("--fs dos --as text --high on", dos, Some(high)),
+        ("--high off --fs dos --as text", dos, Some(low)),
+        ("--fs prodos --as text", FileSystem::Prodos, Some(low)),
+        (
+            "--fs prodos --as text --high on",
+            FileSystem::Prodos,
+            Some(high),
+        ),
+        ("--fs dos --as applesoft", dos, Some(GivenForm::Applesoft)),
+        ("--fs dos --as single", dos, Some(GivenForm::Single)),
+    ] {
+        saves(&rt, rt.alloc(), words, file_system, None, form)?;
+    }
+    Ok(())
+}
+
+#[test]
+fn an_aux_type_is_a_number_of_either_kind(rt: HostRuntime) -> Result<(), Fail> {
+    for (word, aux) in [
+        ("0", 0),
+        ("65535", 65_535),
+        ("0x0", 0),
+        ("0xf", 15),
+        ("0x2fF", 0x2ff),
+        ("0x2000", 0x2000),
+        ("$2000", 0x2000),
+        ("$fFfF", 0xffff),
+    ] {
+        let words = format!(in rt.alloc(); "--fs dos --aux {word}")?;
+        let aux = Some(aux);
+        saves(&rt, rt.alloc(), words.as_str(), FileSystem::Dos, aux, None)?;
+    }
+    let program = Some(GivenForm::Applesoft);
+    let words = "--fs dos --aux 0x801 --as applesoft";
+    saves(&rt, rt.alloc(), words, FileSystem::Dos, Some(2049), program)?;
+    Ok(())
+}
+
+#[test]
+fn words_that_save_nothing_are_refused(rt: HostRuntime) {
+    let usage = "Usage: a2shop save";
+    let front = "save a.dsk NOTE --fs dos --order dos --from b --out c.dsk";
+    for (words, wrong) in [
+        ("--as integer", "text, applesoft, single"),
+        (
+            "--high on",
+            "'--high <high>' can only be used with '--as text'",
+        ),
+        (
+            "--high on --as single",
+            "'--high <high>' can only be used with '--as text'",
+        ),
+        ("--as text --high yes", "on, off"),
+        (
+            "--as applesoft --aux 768",
+            "'--as applesoft' can only be used with '--aux 0x0801'",
+        ),
+        ("--aux 65536", "from 0 to 65535"),
+        ("--aux 0x", "from 0x0 to 0xFFFF"),
+        ("--aux 0x10000", "from 0x0 to 0xFFFF"),
+        ("--aux 0xg", "from 0x0 to 0xFFFF"),
+        ("--aux $", "from 0x0 to 0xFFFF"),
+    ] {
+        match format!(in rt.alloc(); "{front} {words}") {
+            Ok(line) => refuses(&rt, rt.alloc(), line.as_str(), wrong, usage),
+            Err(_) => assert!(rt; false, "no memory"),
+        }
+    }
+}
