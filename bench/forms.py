@@ -30,7 +30,8 @@ def in_turn(name, ours, plain):
 
 def measure(name, form, given, volume, folder):
     """A file of these bytes in a form is saved, and read again; beside it the file's own bytes."""
-    empty, source, image, body, made = (f"{folder}/{file}" for file in ("empty", "source", "image", "body", "made"))
+    empty, source, image, made = (f"{folder}/{file}" for file in ("empty", "source", "image", "made"))
+    body = f"{folder}/body.{form}"
     for path, data in [(empty, volume), (source, given)]:
         with open(path, "wb") as file:
             file.write(data)

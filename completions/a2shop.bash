@@ -25,6 +25,8 @@ _a2shop() {
     'check --reserve') return ;;
     'read --fs') mapfile -t COMPREPLY < <(compgen -W "auto dos prodos" -- "$word"); return ;;
     'read --order') mapfile -t COMPREPLY < <(compgen -W "auto dos prodos nibble" -- "$word"); return ;;
+    'read --as') return ;;
+    'read --out') return ;;
     'extract --fs') mapfile -t COMPREPLY < <(compgen -W "auto dos prodos" -- "$word"); return ;;
     'extract --order') mapfile -t COMPREPLY < <(compgen -W "auto dos prodos nibble" -- "$word"); return ;;
     'extract --into') return ;;
@@ -62,6 +64,8 @@ _a2shop() {
     'save --fs') mapfile -t COMPREPLY < <(compgen -W "auto dos prodos" -- "$word"); return ;;
     'save --order') mapfile -t COMPREPLY < <(compgen -W "auto dos prodos nibble" -- "$word"); return ;;
     'save --from') mapfile -t COMPREPLY < <(compgen -f -- "$word"); return ;;
+    'save --as') return ;;
+    'save --high') return ;;
     'save --out') mapfile -t COMPREPLY < <(compgen -f -- "$word"); return ;;
     'save --type') return ;;
     'save --aux') return ;;
@@ -82,7 +86,7 @@ _a2shop() {
     compare) mapfile -t COMPREPLY < <(compgen -W "--fs --order --other-order --all --most --data-disk --auto --explain --help" -- "$word") ;;
     map) mapfile -t COMPREPLY < <(compgen -W "--fs --order --data-disk --reserve --auto --explain --help" -- "$word") ;;
     check) mapfile -t COMPREPLY < <(compgen -W "--fs --order --bodies --data-disk --reserve --auto --explain --help" -- "$word") ;;
-    read) mapfile -t COMPREPLY < <(compgen -W "--fs --order --whole --data-disk --stored --auto --explain --help" -- "$word") ;;
+    read) mapfile -t COMPREPLY < <(compgen -W "--fs --order --whole --as --out --data-disk --stored --auto --explain --help" -- "$word") ;;
     extract) mapfile -t COMPREPLY < <(compgen -W "--fs --order --into --names --most --data-disk --auto --explain --help" -- "$word") ;;
     convert) mapfile -t COMPREPLY < <(compgen -W "--order --to --out --volume --data-disk --auto --explain --help" -- "$word") ;;
     plan) mapfile -t COMPREPLY < <(compgen -W "--fs --order --data-disk --reserve --reclaim --words --auto --explain --help" -- "$word") ;;
@@ -91,7 +95,7 @@ _a2shop() {
     unlock) mapfile -t COMPREPLY < <(compgen -W "--fs --order --out --in-place --data-disk --reserve --stored --auto --explain --help" -- "$word") ;;
     delete) mapfile -t COMPREPLY < <(compgen -W "--fs --order --out --in-place --data-disk --reserve --stored --auto --explain --help" -- "$word") ;;
     rename) mapfile -t COMPREPLY < <(compgen -W "--fs --order --out --in-place --data-disk --reserve --stored --auto --explain --help" -- "$word") ;;
-    save) mapfile -t COMPREPLY < <(compgen -W "--fs --order --from --out --in-place --type --aux --date --data-disk --reserve --auto --explain --help" -- "$word") ;;
+    save) mapfile -t COMPREPLY < <(compgen -W "--fs --order --from --as --high --out --in-place --type --aux --date --data-disk --reserve --auto --explain --help" -- "$word") ;;
     verify) mapfile -t COMPREPLY < <(compgen -W "--fs --order --from --data-disk --reserve --reclaim --auto --explain --help" -- "$word") ;;
     identify) mapfile -t COMPREPLY < <(compgen -W " --auto --explain --help" -- "$word") ;;
   esac
