@@ -8,15 +8,15 @@ use Rattle.apple_text.specs.Shown.{low, shown_code, shown_text}
 use Rattle.apple_text.proofs.Taking.{low_small}
 
 -- a test of all numbers below another
-all_below : (ℕ → Bool) → ℕ → Bool
+unfoldable pub all_below : (ℕ → Bool) → ℕ → Bool
 all_below p zero = true
 all_below p (suc n) = p n && all_below p n
 
-both : (a b : Bool) → (a && b) ≡ true → (a ≡ true) × (b ≡ true)
+pub both : (a b : Bool) → (a && b) ≡ true → (a ≡ true) × (b ≡ true)
 both true b e = (refl, e)
 both false b e = absurd (let no' : false ≡ true = e in cc)
 
-below : (p : ℕ → Bool) (n c : ℕ) → all_below p n ≡ true → c < n → p c ≡ true
+pub below : (p : ℕ → Bool) (n c : ℕ) → all_below p n ≡ true → c < n → p c ≡ true
 unfolding all_below
 below p zero c e less = absurd (omega (arith, less))
 below p (suc n) c e less = elim (cases_eq c n) [

@@ -1,7 +1,9 @@
 -- What a text begins with, as the readers of texts answer it.
-use Rattle.std.specs.Prelude.{◌≡◌, ◌<◌, ◌⊎◌, ℕ, ◌∷◌, ◌++◌}
+use Rattle.std.specs.Prelude.{◌≡◌, ◌<◌, ◌⊎◌, ℕ, ◌∷◌, ◌++◌, Bool, ◌&&◌, nat_le, nat_lt, List, drop, map, take_while}
+use Rattle.std.specs.List.{prefix_len}
+use Rattle.apple_text.specs.declared.form.HighBit.{HighBit}
 use Rattle.apple_text.specs.declared.form.TextForm.{TextForm}
-use Rattle.apple_text.specs.Shown.{Text, character, low, shown_code}
+use Rattle.apple_text.specs.Shown.{Text, character, low, shown_code, with_high}
 use Rattle.apple_text.specs.Taken.{IsAllowed}
 
 -- the rest stands behind the character of a code
@@ -30,3 +32,25 @@ pub record IsFirstByte (form : TextForm) (text : Text) (byte : ℕ) (rest : Text
 -- the text begins with no byte that may be there
 abbrev pub IsStuck : TextForm → Text → Type 0
 IsStuck form text = (byte : ℕ) (rest : Text) → ¬ IsFirstByte form text byte rest
+
+-- a code that is its own character
+abbrev pub is_plain : ℕ → Bool
+is_plain code = nat_le 0x20 code && nat_lt code 0x7f
+
+-- the bytes of the plain characters that the text begins with, and the text behind those characters
+abbrev pub plain_bytes : HighBit → Text → List ℕ
+plain_bytes high text = map (λ c. with_high high (low c)) (take_while is_plain text)
+
+abbrev pub behind_plain : Text → Text
+behind_plain text = drop (prefix_len is_plain text) text
+
+-- a byte that is shown as a plain character
+abbrev pub shows_plain : ℕ → Bool
+shows_plain byte = is_plain (low byte)
+
+-- what the first bytes are shown as, as long as that is plain, and the bytes behind those
+abbrev pub plainly_shown : List ℕ → Text
+plainly_shown bytes = map low (take_while shows_plain bytes)
+
+abbrev pub behind_shown : List ℕ → List ℕ
+behind_shown bytes = drop (prefix_len shows_plain bytes) bytes

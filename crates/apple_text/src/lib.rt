@@ -14,6 +14,7 @@
 mod character;
 mod form;
 mod law;
+mod plain;
 mod shown;
 mod taken;
 

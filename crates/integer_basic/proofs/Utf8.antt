@@ -1,43 +1,23 @@
 -- What is listed is UTF-8.
-use Rattle.std.proofs.Common.{◌≡◌, ℕ, zero, suc, ◌-◌, ◌+◌, ◌*◌, ◌/◌, ◌%◌, ◌<◌, ◌==◌, ◌&&◌, Bool, true, false, cond, List, [], ◌∷◌, ◌++◌, Option, Some, None, All, map, length, take, slice_index_or, arith, refl, sym, subst, inl, inr}
+use Rattle.std.proofs.Common.{◌≡◌, ℕ, zero, suc, ◌-◌, ◌+◌, ◌*◌, ◌/◌, ◌%◌, ◌==◌, ◌&&◌, Bool, true, false, cond, List, [], ◌∷◌, ◌++◌, Option, Some, None, All, map, length, take, slice_index_or, arith, refl, sym, subst}
 use Rattle.std.specs.Prelude.{decimal, replicate}
 use Rattle.std.specs.Str.{IsUtf8, chars, is_utf8}
 use Rattle.std.specs.Fmt.{digit_glyph, digits, digits_onto}
-use Rattle.std.proofs.lemmas.Bool.{cases_eq}
 use Rattle.std.proofs.lemmas.List.Elements.{All-head, All-tail}
 use Rattle.std.proofs.lemmas.Str.{IsUtf8-append, IsUtf8-from_is_utf8, IsUtf8-nil}
 use lib.Utf8.{encode}
 use Rattle.apple_text.specs.Shown.{Text, character, low}
+use Rattle.apple_text.proofs.Taking.{low_small}
+use Rattle.apple_text.proofs.Utf8.{all_below, below, both}
 use Rattle.integer_basic.specs.Words.{spaced, word_text, words}
 use Rattle.integer_basic.specs.Items.{IsShown, Item, characters, end_of_string, first_item, is_digit, is_letter, item, length_of_name, name_item, nothing, number_item, remark_text, string_item, word_item}
 use Rattle.integer_basic.specs.Program.{IsLine, IsListed, Line, line_text, listing, right_in}
-
--- ---- a test of all numbers below another
-
-all_below : (ℕ → Bool) → ℕ → Bool
-all_below p zero = true
-all_below p (suc n) = p n && all_below p n
-
-both : (a b : Bool) → (a && b) ≡ true → (a ≡ true) × (b ≡ true)
-both true b e = (refl, e)
-both false b e = absurd (let no' : false ≡ true = e in cc)
-
-below : (p : ℕ → Bool) (n c : ℕ) → all_below p n ≡ true → c < n → p c ≡ true
-unfolding all_below
-below p zero c e less = absurd (omega (arith, less))
-below p (suc n) c e less = elim (cases_eq c n) [
-  | inl is ↦ subst (λ m. p m ≡ true) (sym is) (both (p n) (all_below p n) e).0
-  | inr other ↦ below p n c (both (p n) (all_below p n) e).1 (omega (arith, less, other))
-]
 
 -- ---- characters
 
 all_characters : all_below (λ c. is_utf8 (character c)) 128 ≡ true
 unfolding all_below is_utf8 chars encode
 all_characters = refl
-
-low_small : (byte : ℕ) → low byte < 128
-low_small byte = omega arith
 
 characters_utf8 : (bytes : List ℕ) → IsUtf8 (characters bytes)
 characters_utf8 [] = IsUtf8-nil

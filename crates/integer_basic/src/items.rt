@@ -1,5 +1,5 @@
 // How the body of a line is shown, one item after another.
-ghost use Rattle.std.specs.Prelude.{◌≡◌, ◌<◌, ◌≤◌, ◌+◌, ◌*◌, ◌++◌, IfNone, IfSome, OnOk, None, Some, decimal, length};
+ghost use Rattle.std.specs.Prelude.{◌≡◌, ◌<◌, ◌+◌, ◌*◌, ◌++◌, IfNone, IfSome, OnOk, None, Some, decimal};
 ghost use Rattle.integer_basic.specs.Items.{CanBeShown, characters, end_of_string, first_item, is_letter_or_digit};
 ghost use Rattle.integer_basic.specs.Items.{length_of_name, name_item, number_item, string_item, word_item};
 ghost use Rattle.integer_basic.specs.Reading.{IsPut, item_text, item_view};

@@ -1,6 +1,9 @@
-use Rattle.std.proofs.Common.{◌≡◌, take}
-use Rattle.apple_text.specs.Shown.{shown_text}
+use Rattle.std.proofs.Common.{length}
+use Rattle.apple_text.proofs.Runs.{IsShownSoFar}
 use Rattle.apple_text.proofs.shown.text_of.Given as goal
 
-abbrev pub invariant-loop-byte : goal.invariant-loop-byte
-invariant-loop-byte g l = l.text.items ≡ shown_text (take l.byte-index l.bytes)
+abbrev pub invariant-loop-rest : goal.invariant-loop-rest
+invariant-loop-rest g l = IsShownSoFar l.bytes l.text.items l.rest
+
+abbrev pub decreases-loop-rest : goal.decreases-loop-rest
+decreases-loop-rest g l = length l.rest
