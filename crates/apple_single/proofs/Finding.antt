@@ -1,7 +1,7 @@
 -- The first entry of an ID, as a table is read on.
 use Rattle.std.proofs.Common.{◌≡◌, ◌≢◌, ℕ, ◌<◌, List, [], ◌∷◌, ◌++◌, Contains, length, arith, refl, sym, ap, ◌∙◌}
 use Rattle.std.proofs.Common.{subst, append_assoc, append-nil}
-use Rattle.std.proofs.lemmas.List.Elements.{All-nil, All-push, Contains-append_right}
+use Rattle.std.proofs.lemmas.List.Elements.{All-push, Contains-append_right}
 use Rattle.apple_single.specs.declared.entries.Entry.{Entry}
 use Rattle.apple_single.specs.Format.{entry_bytes}
 use Rattle.apple_single.specs.Reading.{HasNone, IsListed, IsTable}

@@ -1,13 +1,13 @@
 -- The parts of a file: each ID has one at most.
-use Rattle.std.proofs.Common.{◌≡◌, ◌≢◌, ℕ, ◌+◌, ◌<◌, List, AllPairs, Contains, length, get_or, arith, sym, ap, ◌∙◌}
+use Rattle.std.proofs.Common.{◌≡◌, ◌≢◌, ℕ, ◌<◌, List, AllPairs, Contains, length, get_or, arith, sym, ap, ◌∙◌}
 use Rattle.std.proofs.Common.{inl, inr}
 use Rattle.std.proofs.lemmas.Bool.{cases_eq, cases_lt}
 use Rattle.std.proofs.lemmas.List.{get_or_default}
 use Rattle.std.proofs.lemmas.List.Elements.{All-contains}
 use Rattle.apple_single.specs.declared.entries.Entry.{Entry}
 use Rattle.apple_single.specs.Format.{part}
-use Rattle.apple_single.specs.Reading.{HasNone, IsListed}
-use Rattle.apple_single.specs.Single.{AreSound, IsPart, IsSound}
+use Rattle.apple_single.specs.Reading.{HasNone}
+use Rattle.apple_single.specs.Single.{AreSound, IsPart}
 
 -- an ID that stands before another is another
 apart : (entries : List Entry) (e f : Entry) → AllPairs (λ entry later. entry.id ≢ later.id) entries

@@ -1,5 +1,5 @@
 -- A word that begins with another letter than some characters does not stand there.
-use Rattle.std.proofs.Common.{◌≡◌, ◌∙◌, ℕ, ◌==◌, Bool, true, false, List, [], ◌∷◌, None, refl, sym, ap, if◌then◌else◌}
+use Rattle.std.proofs.Common.{◌≡◌, ◌∙◌, ℕ, ◌==◌, Bool, true, false, List, [], ◌∷◌, None, refl, sym, ap}
 use Rattle.std.specs.Char.{to_ascii_uppercase}
 use Rattle.applesoft.specs.Reading.{begins_with, first_letter}
 use Rattle.applesoft.specs.Scan.{behind_letter, behind_word, standing}

@@ -1,10 +1,9 @@
 -- The form of a file that can be read, where it gives the bytes of the file back.
-use Rattle.std.specs.Prelude.{◌≡◌, ℕ, ◌<◌, nat_lt, if◌then◌else◌, true, List, [], ◌∷◌, All, drop, length, Some}
+use Rattle.std.specs.Prelude.{◌≡◌, ℕ, nat_lt, if◌then◌else◌, true, List, [], ◌∷◌, All, drop, length, Some}
 use Rattle.apple_text.specs.Shown.{Text as Readable}
 use Rattle.apple_text.specs.Taken.{IsTaken}
 use Rattle.apple_text.specs.declared.form.HighBit.{HighBit}
 use Rattle.apple_text.specs.declared.form.HighBit.TheVariants.{On, Off}
-use Rattle.apple_text.specs.declared.form.TextForm.{TextForm}
 use Rattle.applesoft.specs.Tokens.{IsTokenized}
 use Rattle.reserved_places.specs.declared.form.PlaceForm.{PlaceForm}
 use Rattle.reserved_places.specs.declared.form.PlaceForm.TheVariants.{Sector, Block}

@@ -3,9 +3,9 @@ ghost use Rattle.std.specs.Prelude.{◌≡◌, ◌≤◌, ◌↔◌, true, All, 
 ghost use Rattle.apple_text.specs.Taken.{IsAllowed};
 ghost use Rattle.applesoft.specs.Program.{IsListed};
 ghost use Rattle.applesoft.specs.Tokens.{IsTokenized};
-ghost use Rattle.file_forms.specs.Found.{file_view, text_bytes};
+ghost use Rattle.file_forms.specs.Found.{file_view};
 ghost use Rattle.file_forms.specs.Readable.{AreZerosBehind, IsReadable, IsTextTakenBack, high_of};
-ghost use Rattle.file_forms.specs.Shown.{IsInForm, form_of};
+ghost use Rattle.file_forms.specs.Shown.{IsInForm};
 
 use crate::form::FileForm;
 use crate::found::FoundFile;

@@ -1,3 +1,4 @@
 mod Kept
 mod Lines
 mod Telling
+mod Types

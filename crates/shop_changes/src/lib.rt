@@ -11,11 +11,11 @@
 //! promise, and `specs/Changing.antt` of all of them.
 //!
 //! A new file is said in words and bytes, and these give a file (`specs/SaidFile.antt`): the bytes as they are, or what
-//! is taken of a text, the listing of a program or an AppleSingle file. The bytes that are saved are the head that DOS 3.3 puts before the bytes of
-//! some files, and the bytes that are given (`specs/GivenFile.antt`, `content`); they stand in units of one size, the
-//! last filled with zeros. A word says the type of the file (`specs/GivenWords.antt`): a letter in DOS 3.3, two
-//! hexadecimal digits in ProDOS. The date of its creation is one of `pro_dates`. A file with a head is never longer than
-//! the two bytes of its length say: a longer one is refused before memory is taken.
+//! is taken of a text, the listing of a program or an AppleSingle file. The bytes that are saved are the head that DOS
+//! 3.3 puts before the bytes of some files, and the bytes that are given (`specs/GivenFile.antt`, `content`); they
+//! stand in units of one size, the last filled with zeros. A word says the type of the file (`specs/GivenWords.antt`):
+//! a letter in DOS 3.3, two hexadecimal digits in ProDOS. The date of its creation is one of `pro_dates`. A file with a
+//! head is never longer than the two bytes of its length say: a longer one is refused before memory is taken.
 //!
 //! What always holds: all memory is taken before the first write; after a failure of the device nothing of it is called
 //! again; and where no failure of the device is told and the work is not done, the device is as it was.
@@ -26,6 +26,7 @@ mod editing;
 mod given_error;
 mod given_file;
 mod given_words;
+mod law;
 mod optimizing;
 mod outcome;
 mod report_line;
@@ -37,6 +38,7 @@ pub use changing::{change_in_place, change_volume};
 pub use given_error::GivenError;
 pub use given_file::{FileUnits, GivenFile, Head, MOST_INPUT, file_units};
 pub use given_words::{head_of, kind_for, kind_named, usual_kind};
+pub use law::a_kind_is_got_back_from_its_type;
 pub use outcome::Outcome;
 pub use report_line::line_text;
 pub use said_file::SaidFile;

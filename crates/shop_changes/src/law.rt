@@ -1,0 +1,16 @@
+// What always holds of the types of files.
+ghost use Rattle.std.specs.Prelude.{◌≡◌, ℕ, List, Some};
+ghost use Rattle.host_folders.specs.HostNames.{type_in};
+ghost use Rattle.reserved_places.specs.declared.form.PlaceForm.TheVariants.{Sector};
+ghost use Rattle.shop_changes.specs.GivenWords.{kind_for, kind_named};
+ghost use Rattle.shop_jobs.specs.declared.job.FileSystem.TheVariants.{Dos};
+
+/// Each type of DOS 3.3 that a letter names, and so a new file may have, is got back from the type of ProDOS that
+/// stands for it; and that of ProDOS from the one of DOS 3.3. So a file that is read as an AppleSingle file and saved
+/// from it keeps its type.
+pub fn a_kind_is_got_back_from_its_type()
+    ensures kind { (letter : List ℕ) (kind : ℕ) → kind_named Dos letter ≡ Some kind
+        → kind_for Dos (type_in Sector kind) ≡ Some kind }
+    ensures file_type { (file_type kind : ℕ) → kind_for Dos file_type ≡ Some kind
+        → type_in Sector kind ≡ file_type }
+{}
