@@ -1,5 +1,5 @@
 -- A name on the host is safe.
-use Rattle.std.proofs.Common.{◌≡◌, ◌≢◌, ℕ, suc, ◌+◌, ◌-◌, ◌*◌, ◌%◌, ◌/◌, ◌^◌, ◌<◌, ◌≤◌, true, false, List, [], ◌∷◌, ◌++◌, arith, refl, sym, ap, ◌∙◌, subst, inl, inr, length, get_or, codes, length-append}
+use Rattle.std.proofs.Common.{◌≡◌, ◌≢◌, ℕ, suc, ◌+◌, ◌-◌, ◌*◌, ◌%◌, ◌/◌, ◌^◌, ◌<◌, ◌≤◌, Bool, true, false, List, [], ◌∷◌, ◌++◌, arith, refl, sym, ap, ◌∙◌, subst, inl, inr, length, get_or, codes, length-append}
 use Rattle.std.specs.Prelude.{◌==◌, IsUtf8}
 use Rattle.std.specs.List.{AllByRecursion}
 use Rattle.std.specs.Char.{digit_char}
@@ -11,12 +11,12 @@ use Rattle.std.proofs.lemmas.Str.{IsUtf8-from_ascii}
 use Rattle.std.proofs.lemmas.Str.Ascii.{IsAscii-from_all}
 use Rattle.reserved_places.specs.declared.form.PlaceForm.{PlaceForm}
 use Rattle.reserved_places.specs.declared.form.PlaceForm.TheVariants.{Sector, Block}
-use Rattle.host_folders.specs.HostNames.{Entry, IsSafe, digits, ending, escape, escaped_first, has_tail, host_name, is_bad_first, is_bad_last, is_device, is_one_of, is_printed, name_bytes, no_device, safe_first, safe_last, stem, tail, told_number}
+use Rattle.host_folders.specs.HostNames.{Entry, IsSafe, digits, ending, escape, escaped_first, has_tail, host_name, is_bad_first, is_bad_last, is_device, is_one_of, is_printed, name_bytes, no_device, safe_first, safe_last, stem, tail, text_tail, told_number}
 use Rattle.host_folders.specs.Laws.{IsEntry, IsNumber}
 use Rattle.host_folders.specs.declared.entry.Naming.{Naming}
+use Rattle.host_folders.specs.declared.entry.Naming.TheVariants.{Naps, Plain}
 use Rattle.host_folders.proofs.Device.{device_escaped, escaped_no_device, other_stays}
-use Rattle.host_folders.proofs.Ends.{all_append, all_map, all_take, by_place, by_recursion, end_ending, ending_last, is_ending, number_more, number_one, settled, tail_none, tail_some}
-use Rattle.host_folders.proofs.Last.{safe_last_good}
+use Rattle.host_folders.proofs.Ends.{all_append, all_map, all_take, by_place, by_recursion, end_ending, good_end, is_ending, number_more, number_one, settled, tail_none, tail_some}
 use Rattle.host_folders.proofs.Spelled.{Spells, none, stands, escaped, marked, printed_range}
 use Rattle.host_folders.proofs.Stems.{BeginsAsStem, IsStem, digit_last, empty, first_bad, first_good, is_in_stem, some, stem_characters, stem_is, three_rules, spelled_some}
 
@@ -38,8 +38,7 @@ fewer_bytes Block name = omega arith
 pub host_begins : (naming : Naming) (e : Entry) (number : ℕ) → IsEntry e → IsNumber number
     → BeginsAsStem e.form (name_bytes e.form e.name) (ending naming e number) (host_name naming e number)
 host_begins naming e number h k =
-    let ends = end_ending naming e number h k in
-    let good = safe_last_good _ (all_map _ _ ending_last _ ends) in
+    let good = good_end naming e number h k in
     three_rules e.form (name_bytes e.form e.name) (stem e.form e.name) (ending naming e number) good
     (stem_is e.form (name_bytes e.form e.name) (entry_bytes e h))
 
@@ -103,27 +102,32 @@ number_length n h = elim (cases_Bool (n == 1)) [
       subst (λ (t : List ℕ). length t ≤ 11) (sym (number_more n more)) (omega arith)
 ]
 
+text_length : (naming : Naming) (text : Bool) → length (text_tail naming text) ≤ 7
+text_length Naps text = omega arith
+text_length Plain true = omega arith
+text_length Plain false = omega arith
+
 tail_length : (naming : Naming) (e : Entry) → length (tail naming e) ≤ 7
 tail_length naming e = elim (cases_Bool (has_tail naming e.directory)) [
   | inl has ↦ subst (λ (t : List ℕ). length t ≤ 7) (sym (tail_some naming e has)) (omega arith)
-  | inr has_none ↦ subst (λ (t : List ℕ). length t ≤ 7) (sym (tail_none naming e has_none)) (omega arith)
+  | inr has_none ↦ subst (λ (t : List ℕ). length t ≤ 7) (sym (tail_none naming e has_none)) (text_length naming e.text)
 ]
 
-host_short : (naming : Naming) (e : Entry) (number : ℕ) → IsEntry e → length e.name ≤ 30 → IsNumber number
-    → length (host_name naming e number) ≤ 255
+pub host_short : (naming : Naming) (e : Entry) (number : ℕ) → IsEntry e → length e.name ≤ 30 → IsNumber number
+    → length (host_name naming e number) ≤ 199
 host_short naming e number h short k =
     let begins = host_begins naming e number h k in
     let text = stem_length e.form _ _ begins.stem in
     let bytes = fewer_bytes e.form e.name in
     let number_part = number_length number k.fits in
     let tail_part = tail_length naming e in
-    let sum : length (begins.text ++ ending naming e number) ≤ 255 =
+    let sum : length (begins.text ++ ending naming e number) ≤ 199 =
     rw (length-append) (rw (length-append) (omega arith)) in
-    subst (λ (t : List ℕ). length t ≤ 255) (sym begins.is) sum
+    subst (λ (t : List ℕ). length t ≤ 199) (sym begins.is) sum
 
 -- ---- the first character
 
-abbrev HasGoodFirst : List ℕ → Type 0
+abbrev pub HasGoodFirst : List ℕ → Type 0
 HasGoodFirst text = is_bad_first (get_or text 0 0) ≡ false
 
 good_first : (text : List ℕ) → text ≢ [] → HasGoodFirst (safe_first text)
@@ -159,13 +163,13 @@ good_first_device text h = elim (cases_Bool (is_device text)) [
 
 -- ---- the last character
 
-abbrev last_of : List ℕ → ℕ
+abbrev pub last_of : List ℕ → ℕ
 last_of text = get_or text (length text - 1) 0
 
-abbrev HasGoodLast : List ℕ → Type 0
+abbrev pub HasGoodLast : List ℕ → Type 0
 HasGoodLast text = is_bad_last (last_of text) ≡ false
 
-last_more : (c : ℕ) (text : List ℕ) → text ≢ [] → last_of (c ∷ text) ≡ last_of text
+pub last_more : (c : ℕ) (text : List ℕ) → text ≢ [] → last_of (c ∷ text) ≡ last_of text
 last_more c [] h = absurd (h refl)
 last_more c (d ∷ ds) h =
     let one : length (c ∷ d ∷ ds) - 1 ≡ suc (length ds) = omega arith in
@@ -222,7 +226,7 @@ pub stem_some : (form : PlaceForm) (bytes text : List ℕ) → IsStem form bytes
 stem_some form _ _ empty e = cc
 stem_some form _ _ (some b bytes text s) e = spelled_some form _ _ s (λ f. cc) e
 
-append_some : (xs ys : List ℕ) → xs ≢ [] → xs ++ ys ≢ []
+pub append_some : (xs ys : List ℕ) → xs ≢ [] → xs ++ ys ≢ []
 append_some [] ys h e = h refl
 append_some (x ∷ xs) ys h e = cc
 
@@ -250,7 +254,7 @@ host_is_safe naming e number h most k =
     let whole : host_name naming e number ≡ begins.text ++ ending naming e number = begins.is in
     record {
       some = λ none_left. append_some begins.text _ (stem_some e.form bytes _ begins.stem) (sym whole ∙ none_left);
-      short = host_short naming e number h most k;
+      short = let few = host_short naming e number h most k in omega (arith, few);
       printed = by_place (λ c. is_printed c ≡ true) _ (all_map IsAllowed (λ c. is_printed c ≡ true) (λ c a. a.0) _ all);
       allowed = by_place (λ c. is_one_of (codes "/\\:*?\"<>|") c ≡ false) _
           (all_map IsAllowed (λ c. is_one_of (codes "/\\:*?\"<>|") c ≡ false) (λ c a. a.1) _ all);

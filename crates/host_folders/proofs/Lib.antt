@@ -7,6 +7,7 @@ pub mod Ends
 pub mod IsSafe
 pub mod Says
 pub mod Apart
+pub mod Beside
 mod WorkedNames
 pub mod Slashes
 pub mod Splits

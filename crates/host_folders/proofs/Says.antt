@@ -11,7 +11,7 @@ use Rattle.std.proofs.lemmas.List.Sums.{take_while-cons}
 use Rattle.std.proofs.lemmas.Str.{digit_value-digit_char}
 use Rattle.reserved_places.specs.declared.form.PlaceForm.{PlaceForm}
 use Rattle.reserved_places.specs.declared.form.PlaceForm.TheVariants.{Sector, Block}
-use Rattle.host_folders.specs.HostNames.{Entry, Said, aux_in, aux_of, before_number, digits, dos_aux, dos_kind, dos_type, ending, entry_named, has_tail, kind_of, name_bytes, name_read, read_with_tail, told_number, told_tail, type_in, type_of}
+use Rattle.host_folders.specs.HostNames.{Entry, Said, aux_in, aux_of, before_number, digits, dos_aux, dos_kind, dos_type, ending, entry_named, has_tail, kind_of, name_bytes, name_read, read_with_tail, text_tail, told_number, told_tail, type_in, type_of}
 use Rattle.host_folders.specs.Laws.{IsEntry, IsNumber, SaysEntry, SaysKind}
 use Rattle.host_folders.specs.declared.entry.Naming.{Naming}
 use Rattle.host_folders.proofs.Ends.{aux_fits, number_more, number_one, tail_none, tail_some, type_fits}
@@ -21,10 +21,10 @@ use Rattle.host_folders.proofs.Stems.{AreInStem, IsStem, empty, is_in_stem, some
 
 -- ---- the name
 
-before_more : (p : ℕ → Bool) (c : ℕ) (text : List ℕ) → p c ≡ false → before_first p (c ∷ text) ≡ c ∷ before_first p text
+pub before_more : (p : ℕ → Bool) (c : ℕ) (text : List ℕ) → p c ≡ false → before_first p (c ∷ text) ≡ c ∷ before_first p text
 before_more p c text h = take_while-cons (λ x. not (p x)) c text ∙ rw (h) refl
 
-before_end : (p : ℕ → Bool) (c : ℕ) (text : List ℕ) → p c ≡ true → before_first p (c ∷ text) ≡ []
+pub before_end : (p : ℕ → Bool) (c : ℕ) (text : List ℕ) → p c ≡ true → before_first p (c ∷ text) ≡ []
 before_end p c text h = take_while-cons (λ x. not (p x)) c text ∙ rw (h) refl
 
 no_number : (c : ℕ) → is_in_stem c ≡ true → (c == 126) ≡ false
@@ -115,7 +115,7 @@ tail_read form bytes text n type aux s k l =
 
 -- what the name of an entry with a tail says, and of one without
 abbrev Says : Naming → Entry → List ℕ → Type 0
-Says naming e text = entry_named e.form naming e.directory text
+Says naming e text = entry_named e.form naming e.directory e.text text
     ≡ said (name_bytes e.form e.name) (if has_tail naming e.directory then told (type_of e) (aux_of e) else None)
 
 with_tail : (naming : Naming) (e : Entry) (n : ℕ) (text : List ℕ) → IsEntry e
@@ -128,11 +128,18 @@ with_tail naming e n text fits s h =
     ∙ tail_read e.form (name_bytes e.form e.name) text n (type_of e) (aux_of e) s (type_fits e fits) (aux_fits e fits)
     ∙ ap (said (name_bytes e.form e.name)) (sym (chosen (has_tail naming e.directory) _ _ h)))
 
+without_end : (front end : List ℕ) → take (length (front ++ end) - length end) (front ++ end) ≡ front
+without_end front end =
+    let place : length (front ++ end) - length end ≡ length front = rw (length-append) (omega arith) in
+    ap (λ (k : ℕ). take k (front ++ end)) place ∙ take-append_seam front end
+
 without_tail : (naming : Naming) (e : Entry) (n : ℕ) (text : List ℕ) → IsStem e.form (name_bytes e.form e.name) text
-    → has_tail naming e.directory ≡ false → Says naming e (text ++ (told_number n ++ []))
+    → has_tail naming e.directory ≡ false → Says naming e (text ++ (told_number n ++ text_tail naming e.text))
 without_tail naming e n text s h =
-    subst (λ (t : List ℕ). Says naming e (text ++ t)) (sym (append-nil (told_number n)))
+    subst (Says naming e) (append_assoc text (told_number n) (text_tail naming e.text))
     (other (has_tail naming e.directory) _ _ h
+    ∙ ap (λ (t : List ℕ). said (name_read e.form (before_number t)) None)
+    (without_end (text ++ told_number n) (text_tail naming e.text))
     ∙ ap (λ (t : List ℕ). said t None) (name_before e.form (name_bytes e.form e.name) text n s)
     ∙ ap (said (name_bytes e.form e.name)) (sym (other (has_tail naming e.directory) _ _ h)))
 

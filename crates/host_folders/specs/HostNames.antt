@@ -1,5 +1,5 @@
 -- Names of the files of a volume on the host: which name an entry gets, when a name is safe, and what a name says.
-use Rattle.std.specs.Prelude.{◌≢◌, ℕ, ◌+◌, ◌-◌, ◌*◌, ◌/◌, ◌%◌, ◌≤◌, ◌==◌, ◌&&◌, not, nat_le, nat_lt, Bool, false, if◌then◌else◌, IsTrue, IsFalse, Option, Some, None, List, [], ◌∷◌, ◌++◌, map, flat_map, length, take, drop, slice_index, slice_range, All, codes, decimal, bytes_eq}
+use Rattle.std.specs.Prelude.{◌≢◌, ℕ, ◌+◌, ◌-◌, ◌*◌, ◌/◌, ◌%◌, ◌≤◌, ◌==◌, ◌&&◌, not, nat_le, nat_lt, Bool, true, false, if◌then◌else◌, IsTrue, IsFalse, Option, Some, None, List, [], ◌∷◌, ◌++◌, map, flat_map, length, take, drop, slice_index, slice_range, All, codes, decimal, bytes_eq}
 use Rattle.std.specs.List.{before_first, list_any, suffix_len}
 use Rattle.std.specs.Char.{digit_char, digit_value, to_ascii_lowercase}
 use Rattle.std.specs.Str.Parse.{digits_value}
@@ -81,16 +81,25 @@ stem form name = or_percent (flat_map (piece form) (name_bytes form name))
 
 -- ---- type, aux type and tail
 
--- an entry of a volume: its stored name, the kind byte of its format, and the aux type of ProDOS or the address of DOS
+-- an entry of a volume: its stored name, the kind byte of its format, the aux type of ProDOS or the address of DOS, and
+-- whether its readable form stands there in its place
 pub record Entry : Type 0 where
   pub form : PlaceForm
   pub name : List ℕ
   pub kind : ℕ
   pub aux : ℕ
   pub directory : Bool
+  pub text : Bool
 
 abbrev pub entry_view : Stored → Entry
-entry_view s = record { form = s.form; name = s.name.now; kind = s.kind; aux = s.aux; directory = s.directory }
+entry_view s = record {
+  form = s.form;
+  name = s.name.now;
+  kind = s.kind;
+  aux = s.aux;
+  directory = s.directory;
+  text = s.text;
+}
 
 -- the type of ProDOS for a kind of DOS 3.3 (T, I, A, B, S, R, and two more), or 0 where it has none
 abbrev pub dos_type : ℕ → ℕ
@@ -136,8 +145,14 @@ has_tail Plain directory = false
 abbrev pub told_tail : ℕ → ℕ → Text
 told_tail type aux = 35 ∷ digits type ++ digits (aux / 256) ++ digits (aux % 256)
 
+-- what stands in the place of that: `.txt` behind a readable form, where types are not told
+abbrev pub text_tail : Naming → Bool → Text
+text_tail Plain true = codes ".txt"
+text_tail Plain false = []
+text_tail Naps text = []
+
 abbrev pub tail : Naming → Entry → Text
-tail naming e = if has_tail naming e.directory then told_tail (type_of e) (aux_of e) else []
+tail naming e = if has_tail naming e.directory then told_tail (type_of e) (aux_of e) else text_tail naming e.text
 
 -- ---- the name
 
@@ -185,7 +200,7 @@ abbrev pub safe_first : Text → Text
 safe_first [] = []
 safe_first (c ∷ cs) = if is_bad_first c then escape c ++ cs else c ∷ cs
 
--- (a number and a tail end with a digit, so this changes a name only where it has neither)
+-- (a number and a tail end with a digit or a letter, so this changes a name only where it has neither)
 abbrev pub safe_last : Text → Text
 safe_last [] = []
 safe_last (c ∷ []) = if is_bad_last c then escape c else c ∷ []
@@ -199,6 +214,10 @@ no_device text = if is_device text then escaped_first text else text
 abbrev pub host_name : Naming → Entry → ℕ → Text
 host_name naming e number =
     no_device (safe_last (safe_first (stem e.form e.name ++ ending naming e number)))
+
+-- the name of the readable form of a file, where it stands beside the file
+abbrev pub text_beside : Text → Text
+text_beside name = name ++ codes ".utf8.txt"
 
 -- ---- what is safe
 
@@ -268,10 +287,11 @@ read_with_tail form text = record {
   );
 }
 
--- the name of a file or of a folder, read
-abbrev pub entry_named : PlaceForm → Naming → Bool → Text → Said
-entry_named form naming directory text =
-    if has_tail naming directory then read_with_tail form text else read_alone form text
+-- the name of a folder, of a file, or of a readable form in its place, read
+abbrev pub entry_named : PlaceForm → Naming → Bool → Bool → Text → Said
+entry_named form naming directory is_text text =
+    if has_tail naming directory then read_with_tail form text
+    else read_alone form (take (length text - length (text_tail naming is_text)) text)
 
 -- the kind that a type and an aux type are of
 abbrev pub dos_kind : ℕ → ℕ → ℕ

@@ -22,4 +22,6 @@ pub struct Stored<'a> {
     /// The aux type of ProDOS, or the address of a file of kind $04 of DOS 3.3; of other kinds it is not looked at.
     pub aux: u16,
     pub directory: bool,
+    /// Whether its readable form stands there in its place, as a text.
+    pub text: bool,
 }

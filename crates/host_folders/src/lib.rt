@@ -1,12 +1,14 @@
-//! What a volume's files are on the host: the names under which they stand in a folder, and the folder that they are put
-//! into, which is, at every moment, what stood at its path before or the whole of what was put into it.
+//! What a volume's files are on the host: the names under which they stand in a folder, and the folder that they are
+//! put into, which is, at every moment, what stood at its path before or the whole of what was put into it.
 //!
-//! **Names** (`specs/HostNames.antt`). A name is a stem, a number and a tail: the stored name, byte by byte, with `%` and
-//! two digits in the place of what is no plain character; nothing for the first entry of a folder with its bare name,
-//! and else `~2`, `~3` and so on; and `#` with the type and the aux type, of files where they are told (`Naps`). Then
-//! the first and the last character are escaped where a system takes them for something else, and the first one of a
-//! name of a device. Whoever names a folder counts: an entry's number is one more than the number of earlier entries of
-//! the folder with its bare name, letters of either case taken as one (`bare_name` gives that name to compare).
+//! **Names** (`specs/HostNames.antt`). A name is a stem, a number and a tail: the stored name, byte by byte, with `%`
+//! and two digits in the place of what is no plain character; nothing for the first entry of a folder with its bare
+//! name, and else `~2`, `~3` and so on; and `#` with the type and the aux type, of files where they are told (`Naps`),
+//! or `.txt` of a readable form that stands in a file's place where they are not (`Plain`). Then the first and the last
+//! character are escaped where a system takes them for something else, and the first one of a name of a device. A
+//! readable form that stands beside its file has `.utf8.txt` behind that file's name (`text_beside`). Whoever names a
+//! folder counts: an entry's number is one more than the number of earlier entries of the folder with its bare name,
+//! letters of either case taken as one (`bare_name` gives that name to compare).
 //!
 //! What always holds: a name is safe on every system (`a_host_name_is_safe`), says its entry
 //! (`a_host_name_says_its_entry`), and is another's even without regard to case only where both have one bare name and
@@ -43,9 +45,12 @@ mod tail;
 pub use entry::{Naming, Stored};
 pub use failing::FailingFolder;
 pub use folder::{Folder, FolderFailure};
-pub use law::{a_host_name_is_safe, a_host_name_says_its_entry, host_names_are_apart};
+pub use law::{
+    a_host_name_is_safe, a_host_name_says_its_entry, host_names_are_apart,
+    names_of_texts_are_apart, the_name_of_a_text_is_safe,
+};
 pub use memory::{MadeItem, MemoryFolder};
-pub use names::{bare_name, host_name};
+pub use names::{bare_name, host_name, text_beside};
 pub use new_folder::folder_name;
 pub use path::is_safe_path;
 pub use stem::name_bytes;

@@ -1,6 +1,6 @@
 // The name of an entry on the host.
 ghost use Rattle.std.specs.Prelude.{◌≡◌, ◌<◌, ◌≤◌, ◌++◌, All, IfOk, string_bytes};
-ghost use Rattle.host_folders.specs.HostNames.{bare_name, ending, entry_view, folded, host_name, stem};
+ghost use Rattle.host_folders.specs.HostNames.{bare_name, ending, entry_view, folded, host_name, stem, text_beside};
 
 use crate::entry::{Naming, Stored};
 use crate::safe::{no_device, safe_first, safe_last};
@@ -63,6 +63,18 @@ pub fn host_name<A: Allocator + Copy>(
     parts_fit(stored.name, stored.kind, stored.aux);
     let text = mended(alloc, naming, stored, number)?;
     Ok(String::from_utf8(text).unwrap())
+}
+
+/// The name of the readable form of a file, where it stands beside the file of this name.
+///
+/// # Errors
+/// Where memory ran out.
+pub fn text_beside<A: Allocator>(alloc: A, name: &str) -> Result<String<A>, AllocError>
+    ensures { IfOk result (λ text. string_bytes text ≡ text_beside name.now) }
+{
+    let mut text = name.to_string(alloc)?;
+    text.push_str(".utf8.txt")?;
+    Ok(text)
 }
 
 /// The stem and the tail of an entry, letters as small ones. Entries of a folder for which these are equal get

@@ -1,6 +1,7 @@
 // The number and the tail of a name on the host.
 ghost use Rattle.std.specs.Prelude.{◌≡◌, ◌++◌, OnOk};
-ghost use Rattle.host_folders.specs.HostNames.{aux_of, dos_aux, dos_type, entry_view, tail, told_number, told_tail, type_of};
+ghost use Rattle.host_folders.specs.HostNames.{aux_of, dos_aux, dos_type, entry_view, tail, told_number, told_tail};
+ghost use Rattle.host_folders.specs.HostNames.{type_of};
 
 use crate::entry::{Naming, Stored};
 use crate::letters::digits;
@@ -84,7 +85,8 @@ fn push_told_tail<A: Allocator>(text: &mut Vec<u8, A>, kind: u8, aux: u16) -> Re
     text.extend_from_slice(&digits(low))
 }
 
-/// Puts the tail of an entry behind a text: nothing for a folder, and where types are not told.
+/// Puts the tail of an entry behind a text: nothing for a folder; where types are not told, nothing but for a readable
+/// form.
 pub(crate) fn push_tail<A: Allocator>(
     text: &mut Vec<u8, A>,
     naming: Naming,
@@ -96,6 +98,7 @@ pub(crate) fn push_tail<A: Allocator>(
         Naming::Naps if !stored.directory => {
             push_told_tail(text, stored.file_type(), stored.aux_type())
         }
+        Naming::Plain if stored.text => text.extend_from_slice(".txt".as_bytes()),
         _ => Ok(()),
     }
 }

@@ -11,18 +11,18 @@ use Rattle.shop_jobs.specs.declared.job.ExtractOptions.{ExtractOptions}
 use Rattle.shop_jobs.specs.declared.job.FileSystem.{FileSystem}
 use Rattle.shop_jobs.specs.declared.job.FileSystem.TheVariants.{Dos, Prodos}
 use Rattle.shop_jobs.specs.declared.job.VolumeOptions.{VolumeOptions}
-use Rattle.shop_commands.specs.Extracting.{plan_for, plan_in}
+use Rattle.shop_commands.specs.Extracting.{options_of, plan_for, plan_in}
 
 pub dos_plan : (volume : VolumeOptions) (options : ExtractOptions) (data_disk : Bool) (reserved : List Bool) → volume.file_system ≡ Dos
     → data_disk ≡ volume.data_disk → reserved ≡ []
-    → plan_of Sector options.naming dos_files (dos_meaning data_disk reserved) dos_own options.most ≡ plan_for volume options
+    → plan_of Sector (options_of options) dos_files (dos_meaning data_disk reserved) dos_own ≡ plan_for volume options
 dos_plan volume options data_disk reserved dos same none =
-    ap (λ (places : List Bool). plan_of Sector options.naming dos_files (dos_meaning data_disk places) dos_own options.most) none
-    ∙ ap (λ (either : Bool). plan_of Sector options.naming dos_files (dos_meaning either []) dos_own options.most) same
+    ap (λ (places : List Bool). plan_of Sector (options_of options) dos_files (dos_meaning data_disk places) dos_own) none
+    ∙ ap (λ (either : Bool). plan_of Sector (options_of options) dos_files (dos_meaning either []) dos_own) same
     ∙ ap (λ (system : FileSystem). plan_in system volume.data_disk options) (sym dos)
 
 pub pro_plan : (volume : VolumeOptions) (options : ExtractOptions) (reserved : List Bool) → volume.file_system ≡ Prodos → reserved ≡ []
-    → plan_of Block options.naming pro_files (pro_meaning reserved) pro_own options.most ≡ plan_for volume options
+    → plan_of Block (options_of options) pro_files (pro_meaning reserved) pro_own ≡ plan_for volume options
 pro_plan volume options reserved prodos none =
-    ap (λ (places : List Bool). plan_of Block options.naming pro_files (pro_meaning places) pro_own options.most) none
+    ap (λ (places : List Bool). plan_of Block (options_of options) pro_files (pro_meaning places) pro_own) none
     ∙ ap (λ (system : FileSystem). plan_in system volume.data_disk options) (sym prodos)

@@ -12,6 +12,7 @@ use Rattle.volume_extract.specs.Items.{Item}
 use Rattle.volume_extract.specs.Names.{dos_own, pro_own}
 use Rattle.volume_extract.specs.declared.error.ExtractError.{ExtractError}
 use Rattle.volume_extract.specs.declared.error.ExtractError.TheVariants as errors
+use Rattle.volume_extract.specs.declared.texts.Options.{Options}
 use Rattle.shop_jobs.specs.Job.{AskView, ExtractFrom}
 use Rattle.shop_jobs.specs.declared.job.ExtractOptions.{ExtractOptions}
 use Rattle.shop_jobs.specs.declared.job.FileSystem.{FileSystem}
@@ -30,10 +31,14 @@ abbrev pub own_of : FileSystem → Listed → List ℕ
 own_of Dos = dos_own
 own_of Prodos = pro_own
 
+-- how the files of a volume are put into a folder, in the words of the extraction
+abbrev pub options_of : ExtractOptions → Options
+options_of options = record { naming = options.naming; texts = options.texts; most = options.most }
+
 -- how a volume of a file system is extracted, on a data disk or another
 abbrev pub plan_in : FileSystem → Bool → ExtractOptions → Plan
 plan_in file_system data_disk options =
-    plan_of (form_of file_system) options.naming (files_of file_system) (meaning_of file_system data_disk []) (own_of file_system) options.most
+    plan_of (form_of file_system) (options_of options) (files_of file_system) (meaning_of file_system data_disk []) (own_of file_system)
 
 -- how one that is read so is extracted: no places are reserved
 abbrev pub plan_for : VolumeOptions → ExtractOptions → Plan

@@ -1,8 +1,6 @@
 // The job that puts the files of a volume into a folder.
-ghost use Rattle.std.specs.Prelude.{◌≡◌, [], IfErr, IfOk, IsTrue};
-ghost use Rattle.a2_device.specs.Device.{DeviceState};
+ghost use Rattle.std.specs.Prelude.{◌≡◌, IfErr, IfOk, IsTrue};
 ghost use Rattle.file_cmds.specs.ReadingOn.{ReadsOn};
-ghost use Rattle.host_folders.specs.Folder.{FolderState};
 ghost use Rattle.shop_jobs.specs.Job.{ask_view};
 ghost use Rattle.shop_jobs.specs.declared.job.FileSystem.TheVariants.{Dos as OfDos, Prodos as OfProdos};
 ghost use Rattle.shop_replies.specs.Volume.{HasUnitsOf};
@@ -13,6 +11,7 @@ ghost use Rattle.shop_commands.specs.Extracting.{
   IsNotExtracted,
   IsNotExtractedBy,
   not_extracted as refused_by,
+  options_of,
   plan_for,
 };
 ghost use Rattle.shop_commands.specs.OnDevice.{HasUnitsFor};
@@ -29,7 +28,7 @@ use shop_jobs::{Ask, ExtractOptions, FileSystem, Job, VolumeOptions};
 use shop_replies::{Failure, Refusal, Reply};
 use std::alloc::Global;
 use std::io::Write;
-use volume_extract::{ExtractError, TreeFormat, extract};
+use volume_extract::{ExtractError, Options, TreeFormat, extract};
 
 /// Why the files of a volume were not put into a folder and told.
 #[derive(Debug, Drop)]
@@ -72,23 +71,20 @@ fn extract_by<D: Device, F: TreeFormat, O: Folder, T: Write>(
     ensures reads { ReadsOn (D.state device.old) (D.state device.new) }
     ensures same { (O.state folder.new).honest ≡ (O.state folder.old).honest }
     ensures extracted { IsTrue (D.state device.old).honest → IfOk result (λ status. IsExtraction
-        (plan_of form options.naming (F.files format.now) (F.meaning format.now) (F.own format.now) options.most)
+        (plan_of form (options_of options) (F.files format.now) (F.meaning format.now) (F.own format.now))
         (D.state device.old) (D.state device.new) (O.state folder.old) (O.state folder.new)
         (IsExtractTold status (T.contents text.old) (T.contents text.new))) }
     ensures refused { IsTrue (D.state device.old).honest → IfErr result (IsNotExtractedBy O.state O.may_fail
-        (plan_of form options.naming (F.files format.now) (F.meaning format.now) (F.own format.now) options.most)
+        (plan_of form (options_of options) (F.files format.now) (F.meaning format.now) (F.own format.now))
         (D.state device.old) (D.state device.new) (O.state folder.old) (O.state folder.new)
         (T.contents text.old) (T.contents text.new)) }
 {
-    match extract(
-        alloc,
-        device,
-        format,
-        form,
-        folder,
-        options.naming,
-        options.most,
-    ) {
+    let wanted = Options {
+        naming: options.naming,
+        texts: options.texts,
+        most: options.most,
+    };
+    match extract(alloc, device, format, form, folder, wanted) {
         Ok(told) => tell_extraction(alloc, &told, text),
         Err(error) => Err(not_extracted(error)),
     }

@@ -103,6 +103,8 @@ pub struct CompareOptions {
 pub struct ExtractOptions {
     /// Whether the type and the aux type of a file stand in its name.
     pub naming: Naming,
+    /// Whether the readable form of a file is put beside it, or in its place where names tell no types.
+    pub texts: bool,
     /// How many bytes the files that are written may have in all.
     pub most: u64,
 }

@@ -91,6 +91,7 @@ fn info_in(form: PlaceForm, entry: &ListEntry, whole: &[u8]) -> FileInfo
         kind: entry.kind,
         aux: address_in(form, entry, whole),
         directory: false,
+        text: false,
     };
     FileInfo {
         access: u16::from(access_in(form, entry)),

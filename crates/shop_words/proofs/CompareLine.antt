@@ -1,5 +1,5 @@
 -- The plain lists of `compare`.
-use Rattle.std.proofs.Common.{◌≡◌, ◌∙◌, ap, ℕ, refl, sym, Bool, true, false, List, [], ◌∷◌, Option, Some, None, codes, is_some, not, ◌==◌, ◌&&◌, arith}
+use Rattle.std.proofs.Common.{◌≡◌, ℕ, refl, Bool, true, false, List, [], ◌∷◌, Option, Some, None, codes, is_some, not, ◌==◌, ◌&&◌, arith}
 use Rattle.std.proofs.lemmas.List.Sums.{list_all-from_AllPass}
 use Rattle.std.proofs.lemmas.Bool.{and_parts}
 use Rattle.std.specs.Str.{bytes_eq}
@@ -8,7 +8,7 @@ use Rattle.a2_device.specs.declared.order.Order.{Order}
 use Rattle.shop_jobs.specs.declared.job.CompareOptions.{CompareOptions}
 use Rattle.shop_words.specs.Table.{Text, compare_form, file_system, order, other_order, all_files, most, data_disk, greatest_number}
 use Rattle.shop_words.specs.Plain.{Use, IsPlainLine, hyphen, is_number, is_plain_word, value_of}
-use Rattle.shop_words.specs.Job.{compare_by, compare_of, line_job, line_said, most_bytes, options_of, order_named, other_named, volume_by}
+use Rattle.shop_words.specs.Job.{compare_by, compare_of, line_job, line_said, most_bytes, options_of, other_named, volume_by}
 use Rattle.shop_words.specs.Job as jobs
 use Rattle.shop_words.proofs.PlainForms.{IsKnown, Knows, shape_named}
 use Rattle.shop_words.proofs.PlainJobs.{HasPlainDefaults, HasVolume, look_there, names_order, volume_by-line}

@@ -4,7 +4,7 @@ use Rattle.clap.proofs.OnLiterals.{clap_on_literals}
 use Rattle.host_folders.specs.declared.entry.Naming.{Naming}
 use Rattle.shop_jobs.specs.declared.job.ExtractOptions.{ExtractOptions}
 use Rattle.shop_jobs.specs.declared.job.VolumeOptions.{VolumeOptions}
-use Rattle.shop_words.specs.Table.{Text, extract_form, file_system, order, into, names, most, data_disk, greatest_number}
+use Rattle.shop_words.specs.Table.{Text, extract_form, file_system, order, into, names, texts, most, data_disk, greatest_number}
 use Rattle.shop_words.specs.Plain.{Use, IsPlainLine, is_number, value_of}
 use Rattle.shop_words.specs.Job.{extract_of, extraction_by, extraction_of, job_of, line_job, line_said, most_bytes, naming_named, naming_said, volume_by}
 use Rattle.shop_words.proofs.PlainForms.{IsKnown, Knows, shape_named}
@@ -20,13 +20,14 @@ extract_known =
     let knows_order : Knows s order = record { by_long = refl; by_id = refl; same = refl; long = refl; dashes = refl } in
     let knows_into : Knows s into = record { by_long = refl; by_id = refl; same = refl; long = refl; dashes = refl } in
     let knows_names : Knows s names = record { by_long = refl; by_id = refl; same = refl; long = refl; dashes = refl } in
+    let knows_texts : Knows s texts = record { by_long = refl; long = refl; dashes = refl } in
     let knows_most : Knows s most = record { by_long = refl; by_id = refl; same = refl; long = refl; dashes = refl } in
     let knows_data_disk : Knows s data_disk = record { by_long = refl; long = refl; dashes = refl } in
     record {
       named = refl;
       met = refl;
       first = refl;
-      parameters = (tt, (knows_fs, (knows_order, (knows_into, (knows_names, (knows_most, (knows_data_disk, tt)))))));
+      parameters = (tt, (knows_fs, (knows_order, (knows_into, (knows_names, (knows_texts, (knows_most, (knows_data_disk, tt))))))));
       positionals = (refl, refl, refl, tt);
       positional_parameters = refl;
       apart = refl;
@@ -52,10 +53,11 @@ naming_there : (said : Option Text) → ((v : Text) → said ≡ Some v → name
 naming_there None is = refl
 naming_there (Some v) is = is v refl
 
-options_there : (naming : Option Naming) (bytes : Option ℕ) → is_some naming ≡ true → is_some bytes ≡ true → is_some (extraction_of naming bytes) ≡ true
-options_there None bytes p q = cc
-options_there (Some x) None p q = cc
-options_there (Some x) (Some y) p q = refl
+options_there : (naming : Option Naming) (with_texts : Bool) (bytes : Option ℕ) → is_some naming ≡ true → is_some bytes ≡ true
+    → is_some (extraction_of naming with_texts bytes) ≡ true
+options_there None with_texts bytes p q = cc
+options_there (Some x) with_texts None p q = cc
+options_there (Some x) with_texts (Some y) p q = refl
 
 extract_there : (image folder : Text) (volume : Option VolumeOptions) (options : Option ExtractOptions) → is_some volume ≡ true → is_some options ≡ true
     → is_some (job_of (Some image) (extract_of volume options (Some folder))) ≡ true
@@ -74,5 +76,5 @@ is_some-line_job-extract (image ∷ []) uses plain =
     value_passes extract_form.parameters (codes "most") (takes_number greatest_number) (is_number greatest_number) uses refl (number_ensures greatest_number) refl plain.known in
     rw folder.1 (extract_there image folder.0 (volume_by said) (extraction_by said)
     (volume_by-line extract_form (image ∷ []) uses said extract_volume plain refl refl)
-    (options_there (naming_said (value_of (codes "names") uses)) (most_bytes (value_of (codes "most") uses)) (naming_there (value_of (codes "names") uses) naming) (most_there (value_of (codes "most") uses) number)))
+    (options_there (naming_said (value_of (codes "names") uses)) _ (most_bytes (value_of (codes "most") uses)) (naming_there (value_of (codes "names") uses) naming) (most_there (value_of (codes "most") uses) number)))
 is_some-line_job-extract (a ∷ b ∷ rest) uses plain = let same = plain.as_many in absurd (omega (arith, same))

@@ -1,10 +1,10 @@
 -- What `--auto` puts into words, by what the words show.
 use Rattle.std.proofs.Common.{◌≡◌, ◌∙◌, ap, ap₂, refl, sym, Bool, true, false, ℕ, ◌+◌, ◌<◌, ◌≤◌, suc, List, [], ◌∷◌, ◌++◌, map, take, drop, filter, length, get_or, drop-cons, add-one, arith}
 use Rattle.std.proofs.lemmas.List.{map-append, take-map, drop-map, drop_all}
-use Rattle.std.specs.Prelude.{◌||◌, ◌&&◌, not, codes, cond, if◌then◌else◌, Option, Some, slice_get}
+use Rattle.std.specs.Prelude.{◌||◌, ◌&&◌, not, codes, cond, if◌then◌else◌, Some, slice_get}
 use Rattle.std.specs.List.{insert, list_any, position_or_len}
 use Rattle.shop_words.specs.declared.auto.AutoOption.{AutoOption}
-use Rattle.shop_words.specs.declared.auto.AutoOption.TheVariants.{FileSystem, Order, OtherOrder}
+use Rattle.shop_words.specs.declared.auto.AutoOption.TheVariants.{FileSystem, Order}
 use Rattle.shop_words.specs.Auto.{option_word}
 use Rattle.shop_words.specs.Front.{Text}
 use Rattle.shop_words.specs.LeftOut.{asks_to_fill_in, completed, ends_options, filled_in, gives, is_auto_word, is_option_of, leaves_out, may_leave_out, other_completed, with_option}

@@ -1,8 +1,8 @@
 -- The plain lists of `list`.
-use Rattle.std.proofs.Common.{◌≡◌, ◌∙◌, ap, ℕ, refl, Bool, true, false, List, [], ◌∷◌, Option, Some, None, codes, is_some, option_map, arith}
+use Rattle.std.proofs.Common.{◌≡◌, ap, ℕ, refl, Bool, true, false, List, [], ◌∷◌, Option, Some, None, codes, is_some, option_map, arith}
 use Rattle.clap.proofs.OnLiterals.{clap_on_literals}
 use Rattle.shop_words.specs.Table.{Text, list_form, file_system, order, format, digests, places, most, data_disk, greatest_number}
-use Rattle.shop_words.specs.Plain.{Use, IsPlainLine, UsesJson, is_number, use_value, value_of}
+use Rattle.shop_words.specs.Plain.{Use, IsPlainLine, is_number, use_value, value_of}
 use Rattle.shop_jobs.specs.declared.job.ListForm.{ListForm}
 use Rattle.shop_words.specs.Job.{form_for, form_named, form_said, is_on, line_job, line_said, list_by, list_of, most_bytes, volume_by}
 use Rattle.shop_words.proofs.PlainForms.{IsKnown, Knows, shape_named}

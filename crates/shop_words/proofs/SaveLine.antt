@@ -1,5 +1,5 @@
 -- The plain lists of `save`.
-use Rattle.std.proofs.Common.{◌≡◌, ◌∙◌, ℕ, ap, refl, sym, Bool, true, false, ◌==◌, List, [], ◌∷◌, Option, Some, None, codes, is_some, option_and_then, option_map, arith}
+use Rattle.std.proofs.Common.{◌≡◌, ◌∙◌, ℕ, ap, refl, sym, Bool, true, false, List, [], ◌∷◌, Option, Some, None, codes, is_some, option_and_then, option_map, arith}
 use Rattle.std.proofs.lemmas.Slice.Eq.{bytes_eq-Decides}
 use Rattle.std.specs.Str.{bytes_eq}
 use Rattle.apple_text.specs.declared.form.HighBit.{HighBit}

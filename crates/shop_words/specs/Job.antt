@@ -41,7 +41,6 @@ use Rattle.shop_jobs.specs.declared.job.ReadForm.{ReadForm}
 use Rattle.shop_jobs.specs.declared.job.ReadForm.TheVariants as read_forms
 use Rattle.shop_jobs.specs.declared.job.ListForm.{ListForm}
 use Rattle.shop_jobs.specs.declared.job.ListForm.TheVariants as list_forms
-use Rattle.shop_jobs.specs.declared.job.ListOptions.{ListOptions}
 use Rattle.shop_jobs.specs.declared.job.CompareOptions.{CompareOptions}
 use Rattle.shop_jobs.specs.declared.job.ExtractOptions.{ExtractOptions}
 use Rattle.host_folders.specs.declared.entry.Naming.{Naming}
@@ -315,13 +314,14 @@ change_of _ _ _ reserve = None
 abbrev pub change_by : Option ChangeView → Said → Option AskView
 change_by change said = change_of change (volume_by said) (target_by said) (said (codes "reserve"))
 
--- the files of the volume in a folder
-abbrev pub extraction_of : Option Naming → Option ℕ → Option ExtractOptions
-extraction_of (Some naming) (Some most) = Some (record { naming = naming; most = most })
-extraction_of _ _ = None
+-- how the files of the volume are put into a folder, with their readable forms where a flag says so
+abbrev pub extraction_of : Option Naming → Bool → Option ℕ → Option ExtractOptions
+extraction_of (Some naming) texts (Some most) = Some (record { naming = naming; texts = texts; most = most })
+extraction_of _ texts _ = None
 
 abbrev pub extraction_by : Said → Option ExtractOptions
-extraction_by said = extraction_of (naming_said (said (codes "names"))) (most_bytes (said (codes "most")))
+extraction_by said = extraction_of (naming_said (said (codes "names"))) (is_on (said (codes "texts")))
+    (most_bytes (said (codes "most")))
 
 abbrev pub extract_of : Option VolumeOptions → Option ExtractOptions → Option Text → Option AskView
 extract_of (Some volume) (Some options) (Some into) = Some (ExtractFrom volume options into)

@@ -164,17 +164,20 @@ read_form = record {
   parameters = image ∷ name_of_file ∷ file_system ∷ order ∷ whole ∷ read_as ∷ out_file ∷ data_disk ∷ stored ∷ [];
 }
 
--- `--into FOLDER` and `--names NAMES`
+-- `--into FOLDER`, `--names NAMES` and `--texts`
 abbrev pub into : ParameterView
 into = parameter (codes "into") (needed any)
 
 abbrev pub names : ParameterView
 names = parameter (codes "names") (optional (one_of (codes "naps" ∷ codes "plain" ∷ [])))
 
+abbrev pub texts : ParameterView
+texts = parameter (codes "texts") flag
+
 abbrev pub extract_form : FormView
 extract_form = record {
   name = codes "extract";
-  parameters = image ∷ file_system ∷ order ∷ into ∷ names ∷ most ∷ data_disk ∷ [];
+  parameters = image ∷ file_system ∷ order ∷ into ∷ names ∷ texts ∷ most ∷ data_disk ∷ [];
 }
 
 -- the new name of a file

@@ -6,7 +6,7 @@ ghost use Rattle.shop_jobs.specs.Job.{ask_view};
 ghost use Rattle.shop_words.specs.Job.{ask_by, extraction_by, naming_said as naming_of, rows_say};
 
 use crate::looking::most_bytes;
-use crate::reading::{said, volume_in};
+use crate::reading::{has_flag, said, volume_in};
 use clap::ArgMatches;
 use host_folders::Naming;
 use shop_jobs::{Ask, ExtractOptions};
@@ -29,6 +29,7 @@ fn options_in(matches: &ArgMatches<'_>) -> Option<ExtractOptions>
 {
     Some(ExtractOptions {
         naming: naming_said(said(matches, "names"))?,
+        texts: has_flag(matches, "texts"),
         most: most_bytes(said(matches, "most"))?,
     })
 }

@@ -1,10 +1,10 @@
 //! The commands as clap knows them, built from the table.
-ghost use Rattle.std.specs.Prelude.{◌≡◌, IfOk, map, false};
+ghost use Rattle.std.specs.Prelude.{◌≡◌, IfOk, false};
 ghost use Rattle.clap.specs.Walk.{rule_of};
 ghost use Rattle.clap.specs.declared.builder.command.Command.TheViews.{out-Command};
 ghost use Rattle.clap.specs.Simple.{app_of};
 ghost use Rattle.shop_words.specs.Grammar.{rule_of_parameter, leaf_app, shop};
-ghost use Rattle.shop_words.specs.Table.{parameter_view, form_view, forms};
+ghost use Rattle.shop_words.specs.Table.{parameter_view, form_view};
 
 use crate::table::{Form, Kind, Parameter, table};
 use crate::{help, notes};

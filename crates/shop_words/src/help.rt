@@ -36,6 +36,7 @@ pub enum Help {
     Bodies,
     Into,
     Names,
+    Texts,
     MostWritten,
     ReadAs,
     NewFile,
@@ -89,6 +90,8 @@ impl Help {
                 "Folder that the files are put into; nothing, or an empty folder, may stand there",
             Help::Names =>
                 "What the names tell: naps for the type and the aux type behind each, or plain; naps if left out",
+            Help::Texts =>
+                "Write the readable form of a text or a program too, beside its file; with --names plain in its place",
             Help::MostWritten =>
                 "How many bytes the files that are written may have in all; 1073741824 if left out",
             Help::ReadAs =>

@@ -1,5 +1,5 @@
 //! What is asked by the commands that only read a volume.
-ghost use Rattle.std.specs.Prelude.{◌≡◌, codes, IfOk, None, option_and_then, option_map, Some};
+ghost use Rattle.std.specs.Prelude.{◌≡◌, codes, IfOk, None, option_map, Some};
 ghost use Rattle.clap.specs.Matches.{found_of};
 ghost use Rattle.clap.specs.Walk.{rows_of};
 ghost use Rattle.shop_jobs.specs.Job.{ask_view, look_view};

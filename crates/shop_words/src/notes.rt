@@ -120,16 +120,22 @@ Status:
 const EXTRACT: &str = "\
 Examples:
   a2shop extract disk.dsk --into files
+  a2shop extract disk.dsk --into files --texts
   a2shop extract disk.po --fs prodos --order prodos --into files --names plain
 
 --fs and --order are auto where they are left out. The folder is filled beside its place, and takes it
 as a whole once all is written; after a refusal or a failure nothing of it stays. A line tells of each
 entry, by its name in the folder:
   FILE N NAME      the file of N bytes is written
+  TEXT N NAME      with --texts: the readable form of a file, N bytes, is written
   FOLDER NAME/     the folder of a directory is made
   UNREADABLE NAME  the file can't be read, and nothing of it is written; see read --whole and check
 A name is the stored one, with % and two digits for what may not stand in a name, ~2 and so on for the
 second of one name, and, as NAME#060300, the type and the aux type of the file.
+With --texts a text or a program in Applesoft BASIC gets a second file, as NAME#040000.utf8.txt, with its
+readable form in UTF-8, where that form gives the very bytes back; the file beside the readable form is
+the one that comes back byte for byte. With --names plain the readable form is written alone, as
+NAME.txt, and there a program in Integer BASIC has one too.
 
 Status:
   0  all files are in the folder

@@ -1,5 +1,5 @@
 //! What is asked by `save`.
-ghost use Rattle.std.specs.Prelude.{◌≡◌, codes, IfOk, option_and_then, option_map};
+ghost use Rattle.std.specs.Prelude.{◌≡◌, codes, IfOk, option_map};
 ghost use Rattle.clap.specs.Matches.{found_of};
 ghost use Rattle.clap.specs.Walk.{rows_of};
 ghost use Rattle.shop_jobs.specs.Job.{ask_view, attributes_view, change_view};

@@ -282,6 +282,12 @@ const NAMES: Parameter = Parameter {
     help: Help::Names,
 };
 
+const TEXTS: Parameter = Parameter {
+    name: "texts",
+    kind: Kind::Flag,
+    help: Help::Texts,
+};
+
 const MOST_WRITTEN: Parameter = Parameter {
     name: "most",
     kind: Kind::Optional(Values::Number { greatest: u64::MAX }),
@@ -349,6 +355,7 @@ const FORMS: &[Form] = &[
             ORDER,
             INTO,
             NAMES,
+            TEXTS,
             MOST_WRITTEN,
             DATA_DISK,
         ],

@@ -26,6 +26,7 @@ fn is_named(
         },
         aux: 0x0300,
         directory: false,
+        text: false,
     };
     let naps = host_name(alloc, Naming::Naps, &stored, number)?;
     let plain = host_name(alloc, Naming::Plain, &stored, number)?;
@@ -178,6 +179,7 @@ fn name_of_kind(alloc: Global, kind: u8, aux: u16) -> Result<String, AllocError>
         kind,
         aux,
         directory: false,
+        text: false,
     };
     host_name(alloc, Naming::Naps, &stored, 1)
 }
@@ -206,6 +208,7 @@ fn folders(rt: HostRuntime) -> Result<(), Fail> {
         kind: 0x0f,
         aux: 0,
         directory: true,
+        text: false,
     };
     assert!(rt; host_name(alloc, Naming::Naps, &stored, 1)?.as_str() == "Sub.A");
     assert!(rt; bare_name(alloc, Naming::Naps, &stored)?.as_slice() == b"sub.a".as_slice());
@@ -220,6 +223,7 @@ fn are_made<A: Allocator + Copy>(alloc: A) -> bool {
         kind: 0x06,
         aux: 0x0300,
         directory: false,
+        text: false,
     };
     host_name(alloc, Naming::Naps, &stored, 2).is_ok()
         && bare_name(alloc, Naming::Naps, &stored).is_ok()

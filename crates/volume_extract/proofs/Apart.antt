@@ -8,9 +8,11 @@ use Rattle.std.proofs.lemmas.List.{get_or-take, length_push, map-append, take-ap
 use Rattle.std.proofs.Math.Seq.{take-append_seam}
 use Rattle.std.proofs.lemmas.List.Elements.{All-contains, Contains-append_right}
 use Rattle.std.proofs.lemmas.List.Sums.{sum_by_more_le}
-use Rattle.host_folders.specs.HostNames.{bare_name, folded, host_name, is_one_of}
+use Rattle.host_folders.specs.HostNames.{IsSafe, bare_name, folded, has_tail, host_name, is_one_of, text_beside}
+use Rattle.host_folders.specs.Laws.{IsFile, IsNumber}
 use Rattle.host_folders.specs.declared.entry.Naming.{Naming}
 use Rattle.host_folders.proofs.Apart.{names_apart}
+use Rattle.host_folders.proofs.Beside.{beside_is_safe, same_files, texts_apart}
 use Rattle.host_folders.proofs.IsSafe.{host_is_safe}
 use Rattle.vol_format.specs.Directory.{Listed}
 use Rattle.volume_compare.specs.Contents.{SeenVolume}
@@ -18,7 +20,8 @@ use Rattle.volume_extract.specs.Items.{AreItems, Contents, IsNamed, Item, host_b
 use Rattle.volume_extract.specs.Kept.{StandsBefore}
 use Rattle.volume_extract.specs.Keys.{NameKey, is_key, key_of, key_with}
 use Rattle.volume_extract.proofs.Growing.{last_item, same_item}
-use Rattle.volume_extract.proofs.SafeHosts.{is_number, stands_before}
+use Rattle.volume_extract.specs.Laws.{HaveOwnTexts}
+use Rattle.volume_extract.proofs.SafeHosts.{beside_below, is_number, stands_before}
 use Rattle.volume_extract.proofs.SameKeys.{key_itself}
 
 -- ---- texts with slashes
@@ -50,14 +53,25 @@ no_slash_in [] none = tt
 no_slash_in (c ∷ name) none =
     (low_slash c (none c (0, omega arith, refl)), no_slash_in name (λ d has. none d (Contains-append_right (c ∷ []) name d has)))
 
+-- a name that is safe has none
+safe_no_slash : (name : List ℕ) → IsSafe name → NoSlash (folded name)
+safe_no_slash name safe =
+    no_slash_in name
+    (λ c has same. true≢false (All-contains (λ c. IsFalse (is_one_of (codes "/\\:*?\"<>|") c)) name 47 safe.allowed
+    (subst (Contains name) same has)))
+
 -- a name on the host has none
 name_no_slash : (naming : Naming) (volume : SeenVolume) (own : Listed → List ℕ) (contents : Contents) (earlier : List Item) (item : Item)
     → IsNamed volume own contents naming earlier item → NoSlash (folded (host_name naming item.entry item.number))
 name_no_slash naming volume own contents earlier item is =
-    let safe = host_is_safe naming item.entry item.number is.fits is.short (is_number volume own contents naming earlier item is) in
-    no_slash_in (host_name naming item.entry item.number)
-    (λ c has same. true≢false (All-contains (λ c. IsFalse (is_one_of (codes "/\\:*?\"<>|") c)) _ 47 safe.allowed
-    (subst (Contains (host_name naming item.entry item.number)) same has)))
+    safe_no_slash (host_name naming item.entry item.number)
+    (host_is_safe naming item.entry item.number is.fits is.short (is_number volume own contents naming earlier item is))
+
+text_no_slash : (naming : Naming) (volume : SeenVolume) (own : Listed → List ℕ) (contents : Contents) (earlier : List Item) (item : Item)
+    → IsNamed volume own contents naming earlier item → NoSlash (folded (text_beside (host_name naming item.entry item.number)))
+text_no_slash naming volume own contents earlier item is =
+    safe_no_slash (text_beside (host_name naming item.entry item.number))
+    (beside_is_safe naming item.entry item.number is.fits is.short (is_number volume own contents naming earlier item is))
 
 folded_below : (host name : List ℕ) → folded (host ++ codes "/" ++ name) ≡ folded host ++ 47 ∷ folded name
 folded_below host name =
@@ -203,3 +217,48 @@ module _ (volume : SeenVolume) (own : Listed → List ℕ) (contents : Contents)
       by_order (inl before) = own_in_order items are one other before low_other same
       by_order (inr (inl equal)) = differ equal
       by_order (inr (inr behind)) = own_in_order items are other one behind low (sym same)
+
+  -- ---- readable forms
+
+  -- the path of an item is its name below the folder of its directory
+  host_at : (items : List Item) → AreItems volume own contents naming items → (number : ℕ) → number < length items
+      → (item_at items number).host
+      ≡ host_below items (item_at items number).above (host_name naming (item_at items number).entry (item_at items number).number)
+  host_at items are number low =
+      let x = item_at items number in
+      let named = named_at items are number low in
+      let before = stands_before own volume.directory (length (take number items)) x.above named.above in
+      let length_front : length (take number items) ≡ number = grind (arith, common_steps, low) in
+      named.host ∙ same_front items number x.above (host_name naming x.entry x.number) (subst (λ n. StandsBefore n x.above) length_front before)
+
+  number_at : (items : List Item) → AreItems volume own contents naming items → (number : ℕ) → number < length items → IsNumber (item_at items number).number
+  number_at items are number low =
+      is_number volume own contents naming (take number items) (item_at items number) (named_at items are number low)
+
+  file_at : (items : List Item) → AreItems volume own contents naming items → (number : ℕ) → number < length items
+      → has_tail naming (item_at items number).entry.directory ≡ true → IsFile naming (item_at items number).entry
+  file_at items are number low tail = record { fits = (named_at items are number low).fits; tail = tail }
+
+  no_file : (items : List Item) → AreItems volume own contents naming items → (one other : ℕ) → one < length items → other < length items
+      → has_tail naming (item_at items one).entry.directory ≡ true → has_tail naming (item_at items other).entry.directory ≡ true
+      → folded (text_beside (item_at items one).host) ≢ folded (item_at items other).host
+  no_file items are one other low low_other tail tail_other same =
+      let x = item_at items one in
+      let y = item_at items other in
+      let name = host_name naming x.entry x.number in
+      let name_other = host_name naming y.entry y.number in
+      let paths = ap (λ (host : List ℕ). folded host) (sym (beside_below items x.above name) ∙ ap text_beside (sym (host_at items are one low)))
+      ∙ same ∙ ap folded (host_at items are other low_other) in
+      let split = paths_same items x.above y.above (text_beside name) name_other
+      (text_no_slash naming volume own contents (take one items) x (named_at items are one low))
+      (name_no_slash naming volume own contents (take other items) y (named_at items are other low_other)) paths in
+      (texts_apart naming x.entry y.entry x.number y.number (file_at items are one low tail) (file_at items are other low_other tail_other)
+      (number_at items are one low) (number_at items are other low_other)).file split.1
+
+  -- those beside files have paths of their own
+  pub own_texts : (items : List Item) → AreItems volume own contents naming items → (one other : ℕ) → one < length items → other < length items
+      → HaveOwnTexts naming items one other
+  own_texts items are one other low low_other = record {
+    file = no_file items are one other low low_other;
+    text = λ differ same. own_paths items are one other low low_other differ (same_files (item_at items one).host (item_at items other).host same);
+  }

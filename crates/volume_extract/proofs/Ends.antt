@@ -97,10 +97,7 @@ module _ (plan : Plan) (directory : Directory) (device last : DeviceState) (hone
     stopped_here items (Folder failure) is = record {
       item = is.item;
       next = next_here (source_with plan directory) device last honest items is.item is.next;
-      at = is.at;
-      before = is.before;
       failed = is.failed;
-      half_made = is.half_made;
     }
     stopped_here items Memory is = is
     stopped_here items Check is = is

@@ -9,3 +9,5 @@ pub mod Ready
 pub mod Apart
 pub mod Ends
 pub mod TreeNames
+pub mod ReadableForms
+pub mod Calls

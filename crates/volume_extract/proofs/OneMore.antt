@@ -8,14 +8,15 @@ use Rattle.vol_format.specs.Directory.{entries}
 use Rattle.file_cmds.specs.ReadingOn.{ReadsOn}
 use Rattle.file_cmds.specs.lemmas.Reading.{read_twice}
 use Rattle.host_folders.specs.Folder.{FolderState}
+use Rattle.host_folders.specs.HostNames.{text_beside}
 use Rattle.host_folders.specs.Path.{IsSafePath}
 use Rattle.host_folders.specs.declared.folder.FolderFailure.{FolderFailure}
 use Rattle.volume_extract.specs.ExtractText.{outcome_of, totals_of, totals_with}
 use Rattle.volume_extract.specs.Extraction.{AreMade, IsStopped}
-use Rattle.volume_extract.specs.Items.{Contents, Found, Item, bytes_found, bytes_in, bytes_of, one_more}
+use Rattle.volume_extract.specs.Items.{Contents, Found, Item, bytes_found, bytes_in, bytes_of, made_by, made_of, one_more}
 use Rattle.volume_extract.specs.Kept.{AreKept}
 use Rattle.volume_extract.specs.Looked.{body_view}
-use Rattle.volume_extract.specs.Made.{IsHalfMade, after_item}
+use Rattle.volume_extract.specs.Made.{HasFailedCall, IsHalfMade, after_item, after_items, after_made}
 use Rattle.volume_extract.specs.Progress.{HasNext, HasNoNext, HasOneMore, IsExtracting, IsNotTaken, IsTaken, kept_of}
 use Rattle.volume_extract.specs.Source.{Source, contents_since, seen_at}
 use Rattle.volume_extract.specs.declared.error.ExtractError.{ExtractError}
@@ -26,7 +27,7 @@ use Rattle.volume_extract.specs.declared.names.Names.{Names}
 use Rattle.volume_extract.specs.declared.totals.Totals.{Totals}
 use Rattle.volume_extract.proofs.Counted.{bytes_more, made_more, totals_more}
 use Rattle.volume_extract.proofs.Growing.{kept_more}
-use Rattle.volume_extract.proofs.SafeHosts.{safe_next}
+use Rattle.volume_extract.proofs.SafeHosts.{safe_next, safe_text_next}
 use Rattle.volume_extract.proofs.Wider.{items_later}
 
 all_more : (P : Item → Type 0) (items : List Item) (item : Item) → All P items → P item → All P (items ++ item ∷ [])
@@ -38,6 +39,10 @@ module _ (source : Source) (most : ℕ) (start now later : DeviceState) (before 
   pub safe_host : IsSafePath (string_bytes next.host)
   safe_host = subst IsSafePath (sym has.ready.host)
       (safe_next (seen_at source start) source.own (contents_since source start later) source.naming items has.item old.safe has.is_next.named)
+
+  pub safe_text : IsSafePath (text_beside (string_bytes next.host))
+  safe_text = subst (λ (host : List ℕ). IsSafePath (text_beside host)) (sym has.ready.host)
+      (safe_text_next (seen_at source start) source.own (contents_since source start later) source.naming items has.item old.safe has.is_next.named)
 
   same_bytes : totals.bytes + bytes_found (body_view next.body) ≡ bytes_in items + bytes_of has.item
   same_bytes = ap (λ (t : Totals). t.bytes + bytes_found (body_view next.body)) old.counts ∙ ap (λ (f : Found). bytes_in items + bytes_found f) has.ready.body
@@ -81,6 +86,26 @@ module _ (source : Source) (most : ℕ) (start now later : DeviceState) (before 
     still_made : (folder_now : FolderState) → folder_now ≡ state at → AreMade before folder_now items
     still_made folder_now is = λ honest. is ∙ is_state ∙ old.made honest
 
+    -- a call that failed, seen from the items that were made
+    failed_here : (folder_now : FolderState) (failure : FolderFailure)
+        → HasFailedCall state may_fail (made_of has.item) (state at) folder_now failure
+        → HasFailedCall state may_fail (made_of has.item) (after_items items before) folder_now failure
+    failed_here folder_now failure is =
+        let honest_here : IsTrue before.honest → IsTrue (state at).honest =
+        subst IsTrue (sym (ap (λ (f : FolderState). f.honest) is_state ∙ old.honest)) in
+        let same : IsTrue before.honest → state at ≡ after_items items before = λ honest. is_state ∙ old.made honest in
+        record {
+          first = is.first;
+          next = is.next;
+          rest = is.rest;
+          is = is.is;
+          at = is.at;
+          before = λ honest. is.before (honest_here honest) ∙ ap (after_made is.first) (same honest);
+          failed = is.failed;
+          half_made = λ honest.
+              subst (λ (f : FolderState). IsHalfMade is.next (after_made is.first f) folder_now) (same honest) (is.half_made (honest_here honest));
+        }
+
     pub not_made : (folder_now : FolderState) (error : ExtractError) → IsNotTaken state may_fail most next totals at folder_now error
         → IsStopped state may_fail source most start (contents_since source start later) before folder_now items error
     not_made folder_now TooLarge is =
@@ -88,14 +113,9 @@ module _ (source : Source) (most : ℕ) (start now later : DeviceState) (before 
     not_made folder_now (Folder failure) is = record {
       item = has.item;
       next = has.is_next;
-      at = at;
-      before = λ honest. is_state ∙ old.made honest;
-      failed = is.0;
-      half_made = λ honest.
-          let half = is.1 (subst IsTrue (sym (ap (λ (f : FolderState). f.honest) is_state ∙ old.honest)) honest) in
-          subst (λ (f : FolderState). IsHalfMade has.item.host has.item.found f folder_now) (is_state ∙ old.made honest)
-          (subst (λ (f : Found). IsHalfMade has.item.host f (state at) folder_now) has.ready.body
-          (subst (λ (host : List ℕ). IsHalfMade host (body_view next.body) (state at) folder_now) has.ready.host half));
+      failed = failed_here folder_now failure
+          (subst (λ (f : Found). HasFailedCall state may_fail (made_by has.item.host f) (state at) folder_now failure) has.ready.body
+          (subst (λ (host : List ℕ). HasFailedCall state may_fail (made_by host (body_view next.body)) (state at) folder_now failure) has.ready.host is));
     }
     not_made folder_now Memory is = still_made folder_now is
     not_made folder_now TooDeep is = absurd is

@@ -11,36 +11,42 @@ use Rattle.file_cmds.specs.ReadingOn.{FailedBetween}
 use Rattle.host_folders.specs.Folder.{FolderState}
 use Rattle.host_folders.specs.declared.entry.Naming.{Naming}
 use Rattle.host_folders.specs.declared.folder.FolderFailure.{FolderFailure}
-use Rattle.volume_extract.specs.Items.{Contents, Item, bytes_in, bytes_of}
-use Rattle.volume_extract.specs.Made.{IsHalfMade, after_items}
+use Rattle.volume_extract.specs.Items.{Contents, Item, bytes_in, bytes_of, made_of}
+use Rattle.volume_extract.specs.Made.{HasFailedCall, after_items}
 use Rattle.volume_extract.specs.Source.{AreItemsAt, IsNextAt, IsTooDeep, Source, contents_at, source_of}
+use Rattle.volume_extract.specs.Texts.{texts_for}
 use Rattle.volume_extract.specs.declared.error.ExtractError.{ExtractError}
 use Rattle.volume_extract.specs.declared.error.ExtractError.TheVariants.{Check, Device, Folder, Memory, TooDeep, TooLarge}
+use Rattle.volume_extract.specs.declared.texts.Options.{Options}
+use Rattle.volume_extract.specs.declared.texts.Texts.{Texts}
 
--- How a volume is extracted, whatever its directory is: what its places are called, how its entries are named, what its files are,
--- what its units mean, which own name an entry's bytes say, and how many bytes its files may have together.
+-- How a volume is extracted, whatever its directory is: what its places are called, how its entries are named, what becomes of
+-- readable forms, what its files are, what its units mean, which own name an entry's bytes say, and how many bytes may be put into the
+-- folder.
 pub record Plan : Type 1 where
   pub form : PlaceForm
   pub naming : Naming
+  pub texts : Texts
   pub files : FileMeaning
   pub meaning : Meaning
   pub own : Listed → List ℕ
   pub most : ℕ
 
-abbrev pub plan_of : PlaceForm → Naming → FileMeaning → Meaning → (Listed → List ℕ) → ℕ → Plan
-plan_of form naming files meaning own most = record {
+abbrev pub plan_of : PlaceForm → Options → FileMeaning → Meaning → (Listed → List ℕ) → Plan
+plan_of form options files meaning own = record {
   form = form;
-  naming = naming;
+  naming = options.naming;
+  texts = texts_for options.naming options.texts;
   files = files;
   meaning = meaning;
   own = own;
-  most = most;
+  most = options.most;
 }
 
 abbrev pub source_with : Plan → Directory → Source
-source_with plan directory = source_of plan.form plan.naming plan.files plan.meaning plan.own directory
+source_with plan directory = source_of plan.form plan.naming plan.texts plan.files plan.meaning plan.own directory
 
--- no item is too deep, and their files have no more bytes than they may
+-- no item is too deep, and what is made of them has no more bytes than it may
 pub record AreWithin (most : ℕ) (items : List Item) : Type 0 where
   pub shallow : All (λ (item : Item). item.depth ≤ 64) items
   pub short : All (λ (item : Item). length item.host ≤ 1024) items
@@ -60,20 +66,17 @@ pub record IsExtraction (plan : Plan) (device device_now : DeviceState) (folder 
 
 -- ---- refusals
 
--- behind these items comes one with which their files have too many bytes
+-- behind these items comes one with which all that is made has too many bytes
 pub record IsTooLarge (source : Source) (device : DeviceState) (contents : Contents) (most : ℕ) (items : List Item) : Type 0 where
   pub item : Item
   pub next : IsNextAt source device contents items item
   pub large : most < bytes_in items + bytes_of item
 
--- Behind these items comes one of which the folder refused the call, as it may; of a file a front of its bytes may have been made.
+-- Behind these items comes one of which the folder refused a call, as it may; of a file a front of its bytes may have been made.
 pub record IsNotMade {O : Type 0} (state : O → FolderState) (may_fail : O → FolderFailure → Type 0) (source : Source) (device : DeviceState) (contents : Contents) (folder folder_now : FolderState) (items : List Item) (failure : FolderFailure) : Type 0 where
   pub item : Item
   pub next : IsNextAt source device contents items item
-  pub at : O
-  pub before : IsTrue folder.honest → state at ≡ after_items items folder
-  pub failed : may_fail at failure
-  pub half_made : IsTrue folder.honest → IsHalfMade item.host item.found (after_items items folder) folder_now
+  pub failed : HasFailedCall state may_fail (made_of item) (after_items items folder) folder_now failure
 
 -- just these items were made
 abbrev pub AreMade : FolderState → FolderState → List Item → Type 0

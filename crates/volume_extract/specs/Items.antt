@@ -9,16 +9,31 @@ use Rattle.file_formats.specs.DosFiles.{number_at}
 use Rattle.file_formats.specs.declared.listing.ListEntry.{ListEntry}
 use Rattle.file_cmds.specs.Text.{IsWholeTextOf}
 use Rattle.host_folders.specs.Folder.{Made, folder, file}
-use Rattle.host_folders.specs.HostNames.{Entry, Text, bare_name, folded, host_name}
+use Rattle.file_forms.specs.Found.{FileView}
+use Rattle.host_folders.specs.HostNames.{Entry, Text, bare_name, folded, host_name, text_beside}
 use Rattle.host_folders.specs.Laws.{IsEntry}
 use Rattle.host_folders.specs.declared.entry.Naming.{Naming}
 use Rattle.volume_compare.specs.Contents.{IsUnread, SeenVolume, is_binary}
+use Rattle.volume_extract.specs.Texts.{HasText, are_alone, view_of}
+use Rattle.volume_extract.specs.declared.texts.Texts.{Texts}
+use Rattle.volume_extract.specs.declared.texts.Texts.TheVariants.{Beside, Alone}
 
--- what is found of an entry: that it is a directory's, or a file of these bytes, or a file that can't be read
+-- What is found of an entry: that it is a directory's; a file of these bytes, with a readable form that stands beside it or without;
+-- a readable form that stands in the place of its file; or a file that can't be read.
 pub data Found : Type 0 where
   found_folder : Found
   found_file : (bytes : List ℕ) → Found
+  found_both : (bytes text : List ℕ) → Found
+  found_text : (text : List ℕ) → Found
   found_unread : Found
+
+-- whether a readable form stands there in the place of its file
+abbrev pub is_text : Found → Bool
+is_text (found_text text) = true
+is_text found_folder = false
+is_text (found_file bytes) = false
+is_text (found_both bytes text) = false
+is_text found_unread = false
 
 -- What an entry is on the host: the entry of its directory, unless that is the volume's; what its name says; its number among
 -- those of its folder with its bare name; in how many directories it stands, the volume's own not counted; its path in the folder
@@ -34,7 +49,7 @@ pub record Item : Type 0 where
 abbrev pub no_item : Item
 no_item = record {
   above = None;
-  entry = record { form = Block; name = []; kind = 0; aux = 0; directory = false };
+  entry = record { form = Block; name = []; kind = 0; aux = 0; directory = false; text = false };
   number = 0;
   depth = 0;
   host = [];
@@ -95,33 +110,64 @@ AuxBy false volume failed entry aux = aux ≡ (shown_of volume entry).aux
 abbrev pub IsAux : SeenVolume → (ℕ → Type 0) → ℕ → ℕ → Type 0
 IsAux volume failed entry aux = AuxBy (has_address volume entry) volume failed entry aux
 
--- a file that can be read: its body, as a read of it gives it
-pub record IsBody (volume : SeenVolume) (entry : ℕ) (bytes : List ℕ) : Type 0 where
+-- What is found of a file that can be read: its body, as a read of it gives it, and its readable form, where it has one. `texts`
+-- says whether that stands beside the file or in its place.
+abbrev pub IsFoundIn : Texts → FileView → Found → Type 0
+IsFoundIn texts view (found_file bytes) = (bytes ≡ view.body) × ((text : List ℕ) → ¬ HasText texts view text)
+IsFoundIn texts view (found_both bytes text) = (texts ≡ Beside) × (bytes ≡ view.body) × HasText Beside view text
+IsFoundIn texts view (found_text text) = (texts ≡ Alone) × HasText Alone view text
+IsFoundIn texts view found_folder = ⊥
+IsFoundIn texts view found_unread = ⊥
+
+-- a file with this whole text
+abbrev pub view_at : SeenVolume → ℕ → List ℕ → FileView
+view_at volume entry whole =
+    view_of volume.form (shown_of volume entry).kind whole (volume.files.body (entry_of volume.directory entry).bytes whole)
+
+-- this is found of a file that can be read
+pub record IsFileFound (texts : Texts) (volume : SeenVolume) (entry : ℕ) (found : Found) : Type 0 where
   pub of_file : is_folder_at volume entry ≡ false
   pub whole : List ℕ
   pub is_whole : IsWholeTextOf volume.meaning volume.directory volume.store entry whole
-  pub is : bytes ≡ volume.files.body (entry_of volume.directory entry).bytes whole
+  pub is_found : IsFoundIn texts (view_at volume entry whole) found
 
 -- What is found of an entry. A file can't be read where it has a fault of its own, or where a read of one of its own units failed.
-abbrev pub IsFound : SeenVolume → (ℕ → Type 0) → ℕ → Found → Type 0
-IsFound volume failed entry found_folder = is_folder_at volume entry ≡ true
-IsFound volume failed entry (found_file bytes) = IsBody volume entry bytes
-IsFound volume failed entry found_unread = (is_folder_at volume entry ≡ false) × IsUnread volume failed entry
+abbrev pub IsFound : Texts → SeenVolume → (ℕ → Type 0) → ℕ → Found → Type 0
+IsFound texts volume failed entry found_folder = is_folder_at volume entry ≡ true
+IsFound texts volume failed entry (found_file bytes) = IsFileFound texts volume entry (found_file bytes)
+IsFound texts volume failed entry (found_both bytes text) = IsFileFound texts volume entry (found_both bytes text)
+IsFound texts volume failed entry (found_text text) = IsFileFound texts volume entry (found_text text)
+IsFound texts volume failed entry found_unread = (is_folder_at volume entry ≡ false) × IsUnread volume failed entry
 
--- what is told of the contents of files: aux types, and what is found
+-- What is told of the contents of files: aux types; and what is found, and whether the name says that a readable form stands there in
+-- the place of its file. Only where such forms are wanted is it asked for that.
 pub record Contents : Type 1 where
+  pub alone : Bool
   pub HasAux : ℕ → ℕ → Type 0
-  pub HasFound : ℕ → Found → Type 0
+  pub HasFound : ℕ → Bool → Found → Type 0
 
-abbrev pub contents_of : SeenVolume → (ℕ → Type 0) → Contents
-contents_of volume failed = record { HasAux = IsAux volume failed; HasFound = IsFound volume failed }
+abbrev pub contents_of : Texts → SeenVolume → (ℕ → Type 0) → Contents
+contents_of texts volume failed = record {
+  alone = are_alone texts;
+  HasAux = IsAux volume failed;
+  HasFound = λ entry text found. IsFound texts volume failed entry found × (text ≡ is_text found);
+}
 
 -- the same where a premise holds
 abbrev pub contents_where : Type 0 → Contents → Contents
 contents_where Holds contents = record {
+  alone = contents.alone;
   HasAux = λ entry aux. Holds → contents.HasAux entry aux;
-  HasFound = λ entry found. Holds → contents.HasFound entry found;
+  HasFound = λ entry text found. Holds → contents.HasFound entry text found;
 }
+
+abbrev pub SaysTextBy : Bool → Contents → ℕ → Bool → Type 0
+SaysTextBy true contents entry text = (found : Found) × contents.HasFound entry text found
+SaysTextBy false contents entry text = text ≡ false
+
+-- the name of an entry says whether a readable form stands there in the place of its file
+abbrev pub SaysText : Contents → ℕ → Bool → Type 0
+SaysText contents entry text = SaysTextBy contents.alone contents entry text
 
 -- ---- items
 
@@ -139,6 +185,7 @@ pub record IsNamed (volume : SeenVolume) (own : Listed → List ℕ) (contents :
   pub name : item.entry.name ≡ own (entry_of volume.directory (length earlier))
   pub kind : item.entry.kind ≡ (shown_of volume (length earlier)).kind
   pub aux : contents.HasAux (length earlier) item.entry.aux
+  pub text : SaysText contents (length earlier) item.entry.text
   pub folder_or_file : item.entry.directory ≡ is_folder_at volume (length earlier)
   pub fits : IsEntry item.entry
   pub short : length item.entry.name ≤ 30
@@ -150,7 +197,7 @@ pub record IsNamed (volume : SeenVolume) (own : Listed → List ℕ) (contents :
 -- the item of the entry behind these
 pub record IsNext (volume : SeenVolume) (own : Listed → List ℕ) (contents : Contents) (naming : Naming) (earlier : List Item) (item : Item) : Type 0 where
   pub named : IsNamed volume own contents naming earlier item
-  pub found : contents.HasFound (length earlier) item.found
+  pub found : contents.HasFound (length earlier) item.entry.text item.found
 
 -- the items of the first entries of a volume, in the order of its directory
 pub data AreItems (volume : SeenVolume) (own : Listed → List ℕ) (contents : Contents) (naming : Naming) : List Item → Type 0 where
@@ -163,19 +210,24 @@ pub data AreItems (volume : SeenVolume) (own : Listed → List ℕ) (contents : 
 abbrev pub made_by : Text → Found → List Made
 made_by host found_folder = folder host ∷ []
 made_by host (found_file bytes) = file host bytes ∷ []
+made_by host (found_both bytes text) = file host bytes ∷ file (text_beside host) text ∷ []
+made_by host (found_text text) = file host text ∷ []
 made_by host found_unread = []
 
--- what is made of an item: a folder, a file of its bytes, or nothing where it can't be read
+-- what is made of an item: a folder, a file of its bytes, its readable form beside that or in its place, or nothing where it can't be
+-- read
 abbrev pub made_of : Item → List Made
 made_of item = made_by item.host item.found
 
 abbrev pub made_in : List Item → List Made
 made_in items = flat_map made_of items
 
--- how many bytes are put into the file of an entry
+-- how many bytes are put into the files of an entry
 abbrev pub bytes_found : Found → ℕ
 bytes_found found_folder = 0
 bytes_found (found_file bytes) = length bytes
+bytes_found (found_both bytes text) = length bytes + length text
+bytes_found (found_text text) = length text
 bytes_found found_unread = 0
 
 abbrev pub bytes_of : Item → ℕ

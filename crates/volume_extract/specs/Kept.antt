@@ -12,14 +12,21 @@ use Rattle.volume_extract.specs.declared.kept.Outcome.TheVariants.{Folder}
 use Rattle.volume_extract.specs.declared.totals.Totals.{Totals}
 
 abbrev pub no_head : Head
-no_head = record { above = None; number = 0; depth = 0; kind = 0; aux = 0; directory = false }
+no_head = record { above = None; number = 0; depth = 0; kind = 0; aux = 0; directory = false; text = false }
 
 abbrev pub kept_at : List Kept → ℕ → Kept
 kept_at kept number = slice_index_or kept number (record { head = no_head; outcome = Folder })
 
 -- what the name of an entry says that has this own name
 abbrev pub head_entry : PlaceForm → List ℕ → Head → Entry
-head_entry form name head = record { form = form; name = name; kind = head.kind; aux = head.aux; directory = head.directory }
+head_entry form name head = record {
+  form = form;
+  name = name;
+  kind = head.kind;
+  aux = head.aux;
+  directory = head.directory;
+  text = head.text;
+}
 
 -- the entry of a directory stands before one of this number
 abbrev pub StandsBefore : ℕ → Option ℕ → Type 0

@@ -1,4 +1,5 @@
 pub mod Names
+pub mod Texts
 pub mod Items
 pub mod ExtractText
 pub mod Refusal

@@ -10,11 +10,11 @@ use Rattle.host_folders.specs.declared.folder.FolderFailure.{FolderFailure}
 use Rattle.volume_extract.specs.Counts.{AreCounted}
 use Rattle.volume_extract.specs.ExtractText.{outcome_of, totals_of, totals_with}
 use Rattle.volume_extract.specs.Extraction.{AreWithin, IsStopped}
-use Rattle.volume_extract.specs.Items.{Contents, Item, bytes_found}
+use Rattle.volume_extract.specs.Items.{Contents, Found, Item, bytes_found, made_by}
 use Rattle.volume_extract.specs.Keys.{keys_of}
 use Rattle.volume_extract.specs.Kept.{AreKept, IsKept}
 use Rattle.volume_extract.specs.Looked.{body_view}
-use Rattle.volume_extract.specs.Made.{IsHalfMade, after_item, after_items}
+use Rattle.volume_extract.specs.Made.{HasFailedCall, after_item, after_items}
 use Rattle.volume_extract.specs.Source.{AreItemsAt, IsNextAt, IsTooDeep, Source, contents_since}
 use Rattle.volume_extract.specs.declared.error.ExtractError.{ExtractError}
 use Rattle.volume_extract.specs.declared.error.ExtractError.TheVariants.{Check, Device, Folder, Memory, TooDeep, TooLarge}
@@ -57,13 +57,22 @@ pub record IsTaken (most : ℕ) (next : Next) (old new : List Kept) (totals tota
   pub few : totals.bytes + bytes_found (body_view next.body) ≤ most
   pub made : IsTrue folder.honest → folder_now ≡ after_item (string_bytes next.host) (body_view next.body) folder
 
+-- why an item was not made: a call of the folder failed, or there was no memory and no call was done
+abbrev pub IsNotMadeOf : {O : Type 0} → (O → FolderState) → (O → FolderFailure → Type 0) → List ℕ → Found → O → FolderState → ExtractError → Type 0
+IsNotMadeOf state may_fail host found folder folder_now (Folder failure) =
+    HasFailedCall state may_fail (made_by host found) (state folder) folder_now failure
+IsNotMadeOf state may_fail host found folder folder_now Memory = folder_now ≡ state folder
+IsNotMadeOf state may_fail host found folder folder_now TooDeep = ⊥
+IsNotMadeOf state may_fail host found folder folder_now TooLarge = ⊥
+IsNotMadeOf state may_fail host found folder folder_now Check = ⊥
+IsNotMadeOf state may_fail host found folder folder_now Device = ⊥
+
 -- or why it isn't
 abbrev pub IsNotTaken : {O : Type 0} → (O → FolderState) → (O → FolderFailure → Type 0) → ℕ → Next → Totals → O → FolderState → ExtractError → Type 0
 IsNotTaken state may_fail most next totals folder folder_now TooLarge =
     (most < totals.bytes + bytes_found (body_view next.body)) × (folder_now ≡ state folder)
 IsNotTaken state may_fail most next totals folder folder_now (Folder failure) =
-    may_fail folder failure
-    × (IsTrue (state folder).honest → IsHalfMade (string_bytes next.host) (body_view next.body) (state folder) folder_now)
+    HasFailedCall state may_fail (made_by (string_bytes next.host) (body_view next.body)) (state folder) folder_now failure
 IsNotTaken state may_fail most next totals folder folder_now Memory = folder_now ≡ state folder
 IsNotTaken state may_fail most next totals folder folder_now TooDeep = ⊥
 IsNotTaken state may_fail most next totals folder folder_now Check = ⊥

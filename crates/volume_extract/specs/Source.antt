@@ -9,21 +9,24 @@ use Rattle.file_cmds.specs.ReadingOn.{FailedInFile}
 use Rattle.host_folders.specs.declared.entry.Naming.{Naming}
 use Rattle.volume_compare.specs.Contents.{SeenVolume, volume_in}
 use Rattle.volume_extract.specs.Items.{AreItems, Contents, IsAbove, IsNamed, IsNext, Item, contents_of, contents_where, depth_below}
+use Rattle.volume_extract.specs.declared.texts.Texts.{Texts}
 
--- What its places are called, how its entries are named, what its files are, what its units mean, which own name an entry's bytes
--- say, and its directory.
+-- What its places are called, how its entries are named, what becomes of readable forms, what its files are, what its units mean,
+-- which own name an entry's bytes say, and its directory.
 pub record Source : Type 1 where
   pub form : PlaceForm
   pub naming : Naming
+  pub texts : Texts
   pub files : FileMeaning
   pub meaning : Meaning
   pub own : Listed → List ℕ
   pub directory : Directory
 
-abbrev pub source_of : PlaceForm → Naming → FileMeaning → Meaning → (Listed → List ℕ) → Directory → Source
-source_of form naming files meaning own directory = record {
+abbrev pub source_of : PlaceForm → Naming → Texts → FileMeaning → Meaning → (Listed → List ℕ) → Directory → Source
+source_of form naming texts files meaning own directory = record {
   form = form;
   naming = naming;
+  texts = texts;
   files = files;
   meaning = meaning;
   own = own;
@@ -37,7 +40,7 @@ seen_at source device = volume_in source.form source.files source.meaning source
 -- what is told of its contents, where reads may have failed since
 abbrev pub contents_at : Source → DeviceState → DeviceState → Contents
 contents_at source device now =
-    contents_of (seen_at source device) (FailedInFile source.meaning source.directory device now)
+    contents_of source.texts (seen_at source device) (FailedInFile source.meaning source.directory device now)
 
 -- the same where the device is honest
 abbrev pub contents_since : Source → DeviceState → DeviceState → Contents

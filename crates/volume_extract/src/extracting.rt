@@ -4,7 +4,7 @@ ghost use Rattle.a2_device.specs.Device.{DeviceState};
 ghost use Rattle.file_cmds.specs.EachFile.{AreFilesOf};
 ghost use Rattle.file_cmds.specs.ReadingOn.{ReadsOn};
 ghost use Rattle.host_folders.specs.Folder.{FolderState};
-ghost use Rattle.vol_format.specs.Directory.{Directory, entries};
+ghost use Rattle.vol_format.specs.Directory.{entries};
 ghost use Rattle.vol_format.specs.Fits.{Fits};
 ghost use Rattle.volume_extract.specs.Extraction.{IsExtraction, IsRefused, IsStopped, plan_of};
 ghost use Rattle.volume_extract.specs.Items.{Item};
@@ -18,11 +18,12 @@ use crate::items::next_item;
 use crate::names::Names;
 use crate::opened::Opened;
 use crate::taking::take_item;
+use crate::texts::Options;
 use crate::totals::Totals;
 use crate::tree_format::TreeFormat;
 use a2_device::Device;
 use file_cmds::{VolumeFiles, read_volume};
-use host_folders::{Folder, Naming};
+use host_folders::Folder;
 use reserved_places::PlaceForm;
 use std::alloc::Global;
 use vol_format::Format;
@@ -47,8 +48,8 @@ fn extract_next<D: Device, F: TreeFormat, O: Folder>(
     requires opened { AreFilesOf (F.meaning told.old.opened.format.now)
         (F.directory told.old.opened.format.now told.old.opened.volume) (D.state device.old) files.old }
     requires begun { (start : DeviceState) × (before : FolderState) × (items : List Item) × IsExtracting
-        (source_of told.old.opened.form told.old.opened.naming (F.files told.old.opened.format.now)
-        (F.meaning told.old.opened.format.now) (F.own told.old.opened.format.now)
+        (source_of told.old.opened.form told.old.opened.naming told.old.opened.texts
+        (F.files told.old.opened.format.now) (F.meaning told.old.opened.format.now) (F.own told.old.opened.format.now)
         (F.directory told.old.opened.format.now told.old.opened.volume)) most start (D.state device.old) before
         (O.state folder.old) items told.old.kept.items told.old.totals names.old }
 
@@ -57,7 +58,7 @@ fn extract_next<D: Device, F: TreeFormat, O: Folder>(
         (F.directory told.old.opened.format.now told.old.opened.volume) (D.state device.new) files.new }
     ensures same { (O.state folder.new).honest ≡ (O.state folder.old).honest }
     ensures opened { told.new.opened ≡ told.old.opened }
-    ensures next { let source = source_of told.old.opened.form told.old.opened.naming
+    ensures next { let source = source_of told.old.opened.form told.old.opened.naming told.old.opened.texts
         (F.files told.old.opened.format.now) (F.meaning told.old.opened.format.now)
         (F.own told.old.opened.format.now) (F.directory told.old.opened.format.now told.old.opened.volume) in
         (start : DeviceState) (before : FolderState) (items : List Item)
@@ -73,7 +74,7 @@ fn extract_next<D: Device, F: TreeFormat, O: Folder>(
         Ok(next) => next,
         Err(error) => return Err(error),
     };
-    take_item(told, folder, &next, most)
+    take_item(alloc, told, folder, &next, most)
 }
 
 // Makes the items of all entries of a volume that was read.
@@ -89,15 +90,15 @@ fn extract_read<'a, D: Device, F: TreeFormat, O: Folder>(
 
     ensures reads { ReadsOn (D.state device.old) (D.state device.new) }
     ensures same { (O.state folder.new).honest ≡ (O.state folder.old).honest }
-    ensures done { let source = source_of opened.entry.form opened.entry.naming (F.files opened.entry.format.now)
-        (F.meaning opened.entry.format.now) (F.own opened.entry.format.now)
+    ensures done { let source = source_of opened.entry.form opened.entry.naming opened.entry.texts
+        (F.files opened.entry.format.now) (F.meaning opened.entry.format.now) (F.own opened.entry.format.now)
         (F.directory opened.entry.format.now opened.entry.volume) in
         IfOk result (λ told. IsDone source most (D.state device.old) (D.state device.new) (O.state folder.old)
         (O.state folder.new) (λ items. TellsItems told.opened.form (F.own told.opened.format.now)
         (F.directory told.opened.format.now told.opened.volume) told.opened.naming items told.kept.items
         told.totals)) }
-    ensures stopped { let source = source_of opened.entry.form opened.entry.naming (F.files opened.entry.format.now)
-        (F.meaning opened.entry.format.now) (F.own opened.entry.format.now)
+    ensures stopped { let source = source_of opened.entry.form opened.entry.naming opened.entry.texts
+        (F.files opened.entry.format.now) (F.meaning opened.entry.format.now) (F.own opened.entry.format.now)
         (F.directory opened.entry.format.now opened.entry.volume) in
         IfErr result (HasStoppedAt O.state O.may_fail source most (D.state device.old) (D.state device.new)
         (O.state folder.old) (O.state folder.new)) }
@@ -122,14 +123,14 @@ fn extract_read<'a, D: Device, F: TreeFormat, O: Folder>(
     Ok(told)
 }
 
-/// Puts the files of a volume into a folder: a folder for each directory, and a file for each file that can be read, in
-/// the order of the volume's directory.
+/// Puts the files of a volume into a folder: a folder for each directory, and for each file that can be read a file,
+/// its readable form beside that or in its place where these are wanted, in the order of the volume's directory.
 ///
 /// # Errors
 /// `Check` where the header, the directory or the map's pointer has a fault, and `Device` where they can't be read;
 /// `TooDeep` where an entry stands in more than 64 directories or its path on the host has more than 1,024 bytes, and
-/// `TooLarge` where the files have more bytes than `most`, of the first entry of which one of these holds, and of one
-/// entry `TooDeep` before `TooLarge`; `Folder` where a call of the folder fails; `Memory`. What was made before is
+/// `TooLarge` where all that is made has more bytes than it may, of the first entry of which one of these holds, and of
+/// one entry `TooDeep` before `TooLarge`; `Folder` where a call of the folder fails; `Memory`. What was made before is
 /// left.
 pub fn extract<'a, D: Device, F: TreeFormat, O: Folder>(
     alloc: Global,
@@ -137,8 +138,7 @@ pub fn extract<'a, D: Device, F: TreeFormat, O: Folder>(
     format: &'a F,
     form: PlaceForm,
     folder: &mut O,
-    naming: Naming,
-    most: u64,
+    options: Options,
 ) -> Result<Extraction<'a, F>, ExtractError>
     requires fits { Fits (F.meaning format.now) (D.state device.old) }
 
@@ -148,21 +148,22 @@ pub fn extract<'a, D: Device, F: TreeFormat, O: Folder>(
         (F.own told.opened.format.now) (F.directory told.opened.format.now told.opened.volume) told.opened.naming items
         told.kept.items told.totals) }
     ensures extracted { IsTrue (D.state device.old).honest → IfOk result (λ told. IsExtraction
-        (plan_of form naming (F.files format.now) (F.meaning format.now) (F.own format.now) most)
+        (plan_of form options (F.files format.now) (F.meaning format.now) (F.own format.now))
         (D.state device.old) (D.state device.new) (O.state folder.old) (O.state folder.new)
         (λ items. TellsItems told.opened.form (F.own told.opened.format.now)
         (F.directory told.opened.format.now told.opened.volume) told.opened.naming items told.kept.items
         told.totals)) }
     ensures refused { IsTrue (D.state device.old).honest → IfErr result (IsRefused O.state O.may_fail
-        (plan_of form naming (F.files format.now) (F.meaning format.now) (F.own format.now) most)
+        (plan_of form options (F.files format.now) (F.meaning format.now) (F.own format.now))
         (D.state device.old) (D.state device.new) (O.state folder.old) (O.state folder.new)) }
 {
     let volume = read_volume(device, format)?;
     let opened = Opened {
         format,
         form,
-        naming,
+        naming: options.naming,
+        texts: options.texts_put(),
         volume,
     };
-    extract_read(alloc, device, folder, opened, most)
+    extract_read(alloc, device, folder, opened, options.most)
 }

@@ -14,7 +14,8 @@ use std::alloc::{AllocError, Global};
 use std::fmt;
 use vol_format::Format;
 
-/// What is told of the files of a volume that were put into a folder, a line for each entry and a last one.
+/// What is told of the files of a volume that were put into a folder: a line for each entry, two where its readable
+/// form stands beside it, and a last one.
 #[derive(Drop)]
 pub struct Extraction<'a, F: TreeFormat> {
     pub(crate) opened: Opened<'a, F>,
@@ -37,13 +38,17 @@ impl fmt::Display for OutcomeText<'_> {
         match self.outcome {
             Outcome::Folder => write!(f, "FOLDER {host}/"),
             Outcome::File(bytes) => write!(f, "FILE {bytes} {host}"),
+            Outcome::Both(bytes, text) => {
+                write!(f, "FILE {bytes} {host}\nTEXT {text} {host}.utf8.txt")
+            }
+            Outcome::Text(bytes) => write!(f, "TEXT {bytes} {host}"),
             Outcome::Unreadable => write!(f, "UNREADABLE {host}"),
         }
     }
 }
 
 impl<F: TreeFormat> Extraction<'_, F> {
-    /// Keeps one more entry, where all files have so many bytes then.
+    /// Keeps one more entry, where all that was made has so many bytes then.
     ///
     /// # Errors
     /// Want of memory alone.
@@ -67,7 +72,7 @@ impl<F: TreeFormat> Extraction<'_, F> {
         self.opened.format.entries(&self.opened.volume)
     }
 
-    /// The line of an entry.
+    /// The line of an entry, or both of its lines.
     ///
     /// # Errors
     /// Want of memory alone.

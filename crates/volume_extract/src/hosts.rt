@@ -1,5 +1,5 @@
 // The paths of entries on the host.
-ghost use Rattle.std.specs.Prelude.{◌≡◌, ◌<◌, ◌≤◌, ℕ, All, IfOk, List, Option, length, string_bytes};
+ghost use Rattle.std.specs.Prelude.{◌≡◌, ◌<◌, ◌≤◌, All, IfOk, List, Option, length, string_bytes};
 ghost use Rattle.host_folders.specs.HostNames.{entry_view, host_name};
 ghost use Rattle.host_folders.specs.Laws.{IsEntry};
 ghost use Rattle.vol_format.specs.Directory.{entries, entry_of};
@@ -35,6 +35,7 @@ pub fn stored_of<'a, F: TreeFormat>(opened: &'a Opened<'_, F>, entry: u32, head:
         kind: head.kind,
         aux: head.aux,
         directory: head.directory,
+        text: head.text,
     }
 }
 

@@ -14,13 +14,14 @@ ghost use Rattle.volume_extract.specs.Naming.{IsHead};
 ghost use Rattle.volume_extract.specs.Progress.{HasNext, HasNoNext};
 ghost use Rattle.volume_extract.specs.Source.{contents_since, source_of};
 
+use crate::body::Body;
 use crate::error::ExtractError;
 use crate::hosts::{host_below, name_of, stored_of};
-use crate::kept::{Head, Kept};
-use crate::looking::{Body, aux_of, body_of, look_early, look_on};
+use crate::kept::{Head, Kept, Tail};
 use crate::names::Names;
 use crate::opened::{Opened, is_folder};
 use crate::placing::{Place, next_place};
+use crate::seeing::{aux_of, is_text, see_early, see_on};
 use crate::tree_format::TreeFormat;
 use a2_device::Device;
 use file_cmds::VolumeFiles;
@@ -45,8 +46,7 @@ fn name_entry<F: TreeFormat>(
     opened: &Opened<'_, F>,
     names: &mut Names,
     place: Place,
-    kind: u8,
-    aux: u16,
+    tail: Tail,
     entry: u32,
 ) -> Result<Head, AllocError>
     requires { entry < entries (F.directory opened.now.format.now opened.now.volume) }
@@ -56,15 +56,16 @@ fn name_entry<F: TreeFormat>(
         opened.now.form (F.own opened.now.format.now
         (entry_of (F.directory opened.now.format.now opened.now.volume) entry))
         (is_directory (entry_of (F.directory opened.now.format.now opened.now.volume) entry))
-        opened.now.naming place kind aux keys names.new) }
+        opened.now.naming place tail keys names.new) }
 {
     let head = Head {
         above: place.above,
         number: 1,
         depth: place.depth,
-        kind,
-        aux,
+        kind: tail.kind,
+        aux: tail.aux,
         directory: is_folder(opened, entry),
+        text: tail.text,
     };
     let stored = stored_of(opened, entry, head);
     let bare = bare_name(alloc, opened.naming, &stored)?;
@@ -121,8 +122,8 @@ pub fn next_item<D: Device, F: TreeFormat>(
     ensures reads { ReadsOn (D.state device.old) (D.state device.new) }
     ensures files { AreFilesOf (F.meaning opened.now.format.now)
         (F.directory opened.now.format.now opened.now.volume) (D.state device.new) files.new }
-    ensures next { let source = source_of opened.now.form opened.now.naming (F.files opened.now.format.now)
-        (F.meaning opened.now.format.now) (F.own opened.now.format.now)
+    ensures next { let source = source_of opened.now.form opened.now.naming opened.now.texts
+        (F.files opened.now.format.now) (F.meaning opened.now.format.now) (F.own opened.now.format.now)
         (F.directory opened.now.format.now opened.now.volume) in
         (start : DeviceState) (items : List Item) → ReadsOn start (D.state device.old)
         → AreKept source.form source.own source.directory source.naming items kept.now
@@ -135,14 +136,21 @@ pub fn next_item<D: Device, F: TreeFormat>(
         return Err(ExtractError::TooDeep);
     };
     let shown = opened.format.list_entry(alloc, &opened.volume, entry)?;
-    let early = look_early(alloc, device, opened, files, entry, &shown)?;
-    let aux = aux_of(&shown, &early);
-    let head = name_entry(alloc, opened, names, place, shown.kind, aux, entry)?;
+    let early = see_early(alloc, device, opened, files, entry, &shown)?;
+    let tail = Tail {
+        kind: shown.kind,
+        aux: aux_of(opened.form, &shown, &early),
+        text: is_text(opened.texts, &early),
+    };
+    let head = name_entry(alloc, opened, names, place, tail, entry)?;
     let host = host_of(alloc, opened, kept, entry, head)?;
     if host.len() > MOST_HOST {
         return Err(ExtractError::TooDeep);
     }
-    let looked = look_on(alloc, device, opened, files, entry, early)?;
-    let body = body_of(opened, entry, looked)?;
-    Ok(Next { head, host, body })
+    let seen = see_on(alloc, device, opened, files, entry, &shown, early)?;
+    Ok(Next {
+        head,
+        host,
+        body: seen.body,
+    })
 }

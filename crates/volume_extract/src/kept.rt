@@ -1,5 +1,14 @@
 // What is kept of an entry.
 
+/// What the name of an entry says beside its own name.
+#[derive(Clone, Copy, Debug)]
+pub struct Tail {
+    pub kind: u8,
+    pub aux: u16,
+    /// Whether a readable form stands there in the place of its file.
+    pub text: bool,
+}
+
 /// What an entry's name on the host says, and where it stands.
 #[derive(Clone, Copy, Debug, PartialEq, Eq)]
 pub struct Head {
@@ -12,6 +21,8 @@ pub struct Head {
     pub kind: u8,
     pub aux: u16,
     pub directory: bool,
+    /// Whether a readable form stands there in the place of its file.
+    pub text: bool,
 }
 
 /// What was made of an entry.
@@ -20,6 +31,10 @@ pub enum Outcome {
     Folder,
     /// A file of so many bytes.
     File(u64),
+    /// A file of so many bytes, and beside it its readable form of so many.
+    Both(u64, u64),
+    /// A readable form of so many bytes, in the place of its file.
+    Text(u64),
     /// Nothing, since it can't be read.
     Unreadable,
 }

@@ -1,5 +1,5 @@
 // How many entries of a folder have a bare name.
-ghost use Rattle.std.specs.Prelude.{◌≡◌, ◌<◌, ◌≤◌, ◌+◌, ◌^◌, ◌++◌, [], ◌∷◌, ℕ, IfOk, List, Option, count_by, length};
+ghost use Rattle.std.specs.Prelude.{◌≡◌, ◌<◌, ◌≤◌, ◌+◌, ◌^◌, ◌++◌, [], ◌∷◌, IfOk, List, Option, count_by, length};
 ghost use Rattle.volume_extract.specs.Keys.{NameKey, is_key, key_with};
 ghost use Rattle.volume_extract.specs.Counts.{AreCounted, count_in, key_view};
 

@@ -2,6 +2,7 @@
 ghost use Rattle.std.specs.Prelude.{◌≡◌, ◌<◌};
 ghost use Rattle.vol_format.specs.Directory.{entries, entry_of, is_directory};
 
+use crate::texts::Texts;
 use crate::tree_format::TreeFormat;
 use host_folders::Naming;
 use reserved_places::PlaceForm;
@@ -14,6 +15,7 @@ pub struct Opened<'a, F: TreeFormat> {
     /// What its places are called.
     pub form: PlaceForm,
     pub naming: Naming,
+    pub texts: Texts,
     pub volume: F::Volume,
 }
 

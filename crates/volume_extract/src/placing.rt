@@ -1,5 +1,5 @@
 // In which directory an entry stands, and in how many.
-ghost use Rattle.std.specs.Prelude.{◌≡◌, ◌<◌, ◌≤◌, List, MatchOption, length};
+ghost use Rattle.std.specs.Prelude.{◌≡◌, ◌<◌, List, MatchOption, length};
 ghost use Rattle.vol_format.specs.Directory.{entries};
 ghost use Rattle.volume_extract.specs.Items.{Item, depth_below};
 ghost use Rattle.volume_extract.specs.Kept.{AreKept, StandsBefore};

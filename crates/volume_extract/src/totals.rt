@@ -10,9 +10,11 @@ use std::fmt;
 pub struct Totals {
     pub files: u64,
     pub folders: u64,
+    /// The readable forms of files.
+    pub texts: u64,
     /// The files that can't be read.
     pub unreadable: u64,
-    /// The bytes of all files that were made.
+    /// The bytes of all files that were made, readable forms too.
     pub bytes: u64,
 }
 
@@ -24,12 +26,13 @@ impl Totals {
         Totals {
             files: 0,
             folders: 0,
+            texts: 0,
             unreadable: 0,
             bytes: 0,
         }
     }
 
-    /// Those with one more, where all files have so many bytes then.
+    /// Those with one more, where all that was made has so many bytes then.
     pub(crate) fn with(self, outcome: Outcome, bytes: u64) -> Totals
         requires { AreAtMost self (2 ^ 64 - 2) }
         ensures { result ≡ totals_with self outcome bytes }
@@ -38,6 +41,11 @@ impl Totals {
         match outcome {
             Outcome::Folder => totals.folders += 1,
             Outcome::File(_) => totals.files += 1,
+            Outcome::Both(_, _) => {
+                totals.files += 1;
+                totals.texts += 1;
+            }
+            Outcome::Text(_) => totals.texts += 1,
             Outcome::Unreadable => totals.unreadable += 1,
         }
         totals
@@ -51,12 +59,13 @@ impl fmt::Display for Totals {
         let Totals {
             files,
             folders,
+            texts,
             unreadable,
             bytes,
         } = self;
         write!(
             f,
-            "EXTRACTED files {files} folders {folders} texts 0 unreadable {unreadable} bytes {bytes}"
+            "EXTRACTED files {files} folders {folders} texts {texts} unreadable {unreadable} bytes {bytes}"
         )
     }
 }

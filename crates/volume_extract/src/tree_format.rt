@@ -1,6 +1,5 @@
 // Formats whose entries stand in a tree of directories.
 ghost use Rattle.std.specs.Prelude.{◌≡◌, ◌<◌, length};
-ghost use Rattle.pro_dir.specs.Listed.{directory_of};
 
 use dos_format::{Dos33, DosVolume};
 use file_formats::FileFormat;

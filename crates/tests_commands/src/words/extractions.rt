@@ -7,24 +7,41 @@ use std::test::Fail;
 
 #[test]
 fn an_extraction_names_a_folder(rt: HostRuntime) -> Result<(), Fail> {
-    for (line, naming, most, data_disk) in [
+    for (line, naming, texts, most, data_disk) in [
         (
             "extract a.dsk --fs dos --order dos --into out",
             Naming::Naps,
+            false,
             1 << 30,
             false,
         ),
         (
             "extract --into out --names naps --fs dos a.dsk --order dos --data-disk",
             Naming::Naps,
+            false,
             1 << 30,
             true,
         ),
         (
+            "extract a.dsk --fs dos --texts --order dos --into out",
+            Naming::Naps,
+            true,
+            1 << 30,
+            false,
+        ),
+        (
             "extract a.dsk --most 0 --names plain --order dos --fs dos --into out",
             Naming::Plain,
+            false,
             0,
             false,
+        ),
+        (
+            "extract --texts --data-disk a.dsk --most 7 --names plain --order dos --fs dos --into out",
+            Naming::Plain,
+            true,
+            7,
+            true,
         ),
     ] {
         let ask = Ask::Extract {
@@ -33,7 +50,11 @@ fn an_extraction_names_a_folder(rt: HostRuntime) -> Result<(), Fail> {
                 order: Order::Dos,
                 data_disk,
             },
-            options: ExtractOptions { naming, most },
+            options: ExtractOptions {
+                naming,
+                texts,
+                most,
+            },
             into: "out".to_string(rt.alloc())?,
         };
         asks(&rt, rt.alloc(), line, "a.dsk", ask)?;
@@ -58,7 +79,31 @@ fn words_that_extract_nothing_are_refused(rt: HostRuntime) {
             "extract a.dsk --into out --fs dos --order dos --most 18446744073709551616",
             "18446744073709551616",
         ),
+        (
+            "extract a.dsk --texts --into out --fs dos --order dos --texts",
+            "'--texts' cannot be used multiple times",
+        ),
     ] {
         refuses(&rt, rt.alloc(), line, wrong, "a2shop extract");
+    }
+}
+
+#[test]
+fn readable_forms_are_those_of_an_extraction(rt: HostRuntime) {
+    for (line, usage) in [
+        (
+            "list a.dsk --fs dos --order dos --texts",
+            "Usage: a2shop list ",
+        ),
+        (
+            "read a.dsk HELLO --fs dos --order dos --texts",
+            "Usage: a2shop read ",
+        ),
+        (
+            "save a.dsk HELLO --fs dos --order dos --from hello --in-place --texts",
+            "Usage: a2shop save ",
+        ),
+    ] {
+        refuses(&rt, rt.alloc(), line, "'--texts'", usage);
     }
 }

@@ -17,7 +17,7 @@ pub returns-in_default-clause-stopped : goal.returns-in_default-clause-stopped
 returns-in_default-clause-stopped g c =
     let opened = c.args.opened in
     stopped_at_once g.O.Folder.state g.O.Folder.may_fail
-    (source_of opened.form opened.naming (g.F.FileFormat.files opened.format.now) (g.F.Format.meaning opened.format.now)
+    (source_of opened.form opened.naming opened.texts (g.F.FileFormat.files opened.format.now) (g.F.Format.meaning opened.format.now)
     (g.F.TreeFormat.own opened.format.now) (g.F.Format.directory opened.format.now opened.volume))
     c.args.most (g.D.Device.state c.args.device.now) (g.D.Device.state c.open.new.device) (g.O.Folder.state c.args.folder.now)
 
@@ -37,7 +37,7 @@ loop-entry-init g c =
         [],
         refl,
         begun
-            (source_of opened.form opened.naming (g.F.FileFormat.files opened.format.now) (g.F.Format.meaning opened.format.now)
+            (source_of opened.form opened.naming opened.texts (g.F.FileFormat.files opened.format.now) (g.F.Format.meaning opened.format.now)
             (g.F.TreeFormat.own opened.format.now) (g.F.Format.directory opened.format.now opened.volume))
             c.args.most start now (g.O.Folder.state c.args.folder.now) c.new.result.items c.none.result c.new-names.result
             c.in-Ok.ensures.reads c.new.ensures.items c.none.ensures c.new-names.ensures,
@@ -53,7 +53,7 @@ returns-in-Err-clause-stopped g c =
     let now = g.D.Device.state c.loop-entry.device in
     let last = g.D.Device.state c.extract_next-made.new.device in
     let folder = g.O.Folder.state c.args.folder.now in
-    let source = source_of opened.form opened.naming (g.F.FileFormat.files opened.format.now) (g.F.Format.meaning opened.format.now)
+    let source = source_of opened.form opened.naming opened.texts (g.F.FileFormat.files opened.format.now) (g.F.Format.meaning opened.format.now)
     (g.F.TreeFormat.own opened.format.now) (g.F.Format.directory opened.format.now opened.volume) in
     let stopped : HasStoppedAt g.O.Folder.state g.O.Folder.may_fail source c.args.most start last folder (g.O.Folder.state c.extract_next-made.new.folder) c.in-Err.error = record {
       items = items.0;
@@ -64,7 +64,7 @@ returns-in-Err-clause-stopped g c =
     } in
     subst
     (λ (opened : Opened g.row.F.Denot g.row.F-Volume.Denot). HasStoppedAt g.O.Folder.state g.O.Folder.may_fail
-    (source_of opened.form opened.naming (g.F.FileFormat.files opened.format.now) (g.F.Format.meaning opened.format.now)
+    (source_of opened.form opened.naming opened.texts (g.F.FileFormat.files opened.format.now) (g.F.Format.meaning opened.format.now)
     (g.F.TreeFormat.own opened.format.now) (g.F.Format.directory opened.format.now opened.volume))
     c.args.most start last folder (g.O.Folder.state c.extract_next-made.new.folder) c.in-Err.error)
     before.opened stopped
@@ -84,7 +84,7 @@ loop-entry-preserved g c =
     (λ (opened : Opened g.row.F.Denot g.row.F-Volume.Denot).
     AreFilesOf (g.F.Format.meaning opened.format.now) (g.F.Format.directory opened.format.now opened.volume) last c.extract_next-made.new.files
     × IsExtracting
-    (source_of opened.form opened.naming (g.F.FileFormat.files opened.format.now) (g.F.Format.meaning opened.format.now)
+    (source_of opened.form opened.naming opened.texts (g.F.FileFormat.files opened.format.now) (g.F.Format.meaning opened.format.now)
     (g.F.TreeFormat.own opened.format.now) (g.F.Format.directory opened.format.now opened.volume))
     c.args.most start last folder (g.O.Folder.state c.extract_next-made.new.folder) (items.0 ++ more.0 ∷ []) told.kept.items told.totals c.extract_next-made.new.names)
     (sym made.opened) (made.files, more.1) in
@@ -108,7 +108,7 @@ returns-clause-done g c =
     let start = g.D.Device.state c.args.device.now in
     let now = g.D.Device.state c.loop-entry.device in
     let folder = g.O.Folder.state c.args.folder.now in
-    let source = source_of opened.form opened.naming (g.F.FileFormat.files opened.format.now) (g.F.Format.meaning opened.format.now)
+    let source = source_of opened.form opened.naming opened.texts (g.F.FileFormat.files opened.format.now) (g.F.Format.meaning opened.format.now)
     (g.F.TreeFormat.own opened.format.now) (g.F.Format.directory opened.format.now opened.volume) in
     let many = ap (λ (opened : Opened g.row.F.Denot g.row.F-Volume.Denot). entries (g.F.Format.directory opened.format.now opened.volume)) before.opened in
     let all : length items.0 ≡ entries source.directory =
@@ -125,7 +125,7 @@ returns-clause-done g c =
     } in
     subst
     (λ (opened : Opened g.row.F.Denot g.row.F-Volume.Denot). IsDone
-    (source_of opened.form opened.naming (g.F.FileFormat.files opened.format.now) (g.F.Format.meaning opened.format.now)
+    (source_of opened.form opened.naming opened.texts (g.F.FileFormat.files opened.format.now) (g.F.Format.meaning opened.format.now)
     (g.F.TreeFormat.own opened.format.now) (g.F.Format.directory opened.format.now opened.volume))
     c.args.most start now folder (g.O.Folder.state c.loop-entry.folder) Tells)
     before.opened done

@@ -16,9 +16,10 @@ returns-clause-head g c = λ keys counted few.
       above = c.args.place.above;
       number = c.in_ok-number.number;
       depth = c.args.place.depth;
-      kind = c.args.kind;
-      aux = c.args.aux;
+      kind = c.args.tail.kind;
+      aux = c.args.tail.aux;
       directory = c.is_folder.result;
+      text = c.args.tail.text;
     } in
     let stored = c.stored_of-stored.ensures in
     let number = c.in_ok-number.ensures.counted keys counted few in
@@ -27,8 +28,9 @@ returns-clause-head g c = λ keys counted few.
     record {
       above = refl;
       depth = refl;
-      kind_is = refl;
-      aux_is = refl;
+      kind = refl;
+      aux = refl;
+      text = refl;
       directory = c.is_folder.ensures;
       fits = subst IsEntry stored.stored stored.fits;
       short = subst (λ (entry : Entry). length entry.name ≤ 30) stored.stored stored.short;

@@ -5,11 +5,11 @@ use Rattle.file_formats.specs.declared.listing.ListEntry.{ListEntry}
 use Rattle.volume_extract.specs.Items.{IsAbove}
 use Rattle.volume_extract.specs.Keys.{keys_of}
 use Rattle.volume_extract.specs.Kept.{StandsBefore}
-use Rattle.volume_extract.specs.Looked.{aux_looked}
+use Rattle.volume_extract.specs.Looked.{aux_seen}
 use Rattle.volume_extract.specs.Source.{contents_since, source_of}
-use Rattle.volume_extract.proofs.Ready.{IsNamedSo, aux_early, early_since, few_keys, found_on, long_at, next_at}
+use Rattle.volume_extract.proofs.Ready.{IsNamedSo, aux_early, early_since, few_keys, found_on, long_at, next_at, text_early}
 use Rattle.volume_extract.proofs.SafeHosts.{stands_before}
-use Rattle.volume_extract.proofs.Wider.{aux_later}
+use Rattle.volume_extract.proofs.Wider.{aux_later, text_later}
 use Rattle.volume_extract.proofs.items.next_item.Goals as goal
 
 pub host_of-requires-clause-above : goal.host_of-requires-clause-above
@@ -27,20 +27,20 @@ pub returns-then-len-gt-MOST_HOST-clause-next : goal.returns-then-len-gt-MOST_HO
 returns-then-len-gt-MOST_HOST-clause-next g c = λ start items reads are counted.
     let opened = c.args.opened.now in
     let format = opened.format.now in
-    let source = source_of opened.form opened.naming (g.F.FileFormat.files format) (g.F.Format.meaning format) (g.F.TreeFormat.own format)
+    let source = source_of opened.form opened.naming opened.texts (g.F.FileFormat.files format) (g.F.Format.meaning format) (g.F.TreeFormat.own format)
     (g.F.Format.directory format opened.volume) in
     let old = g.D.Device.state c.args.device.now in
-    let now = g.D.Device.state c.look_early.new.device in
+    let now = g.D.Device.state c.see_early.new.device in
     let same : c.args.entry ≡ length items = c.requires.entry ∙ are.long in
     let early = early_since source start old now reads c.args.entry c.in_ok-early.early c.in_ok-early.ensures.early in
-    let aux = c.aux_of-aux.ensures ∙ ap (λ (shown : ListEntry Global). aux_looked shown.aux c.in_ok-early.early) c.in_ok-shown.ensures in
+    let aux = c.aux_of.ensures ∙ ap (λ (shown : ListEntry Global). aux_seen opened.form shown c.in_ok-early.early) c.in_ok-shown.ensures in
     let named : IsNamedSo source start (contents_since source start now) items c.name_entry.new.names c.in-Some.place c.in_ok-head.head
     (string_bytes c.in_ok-host.host) c.args.entry = record {
-      kind = c.in_ok-shown.shown.kind;
-      aux = c.aux_of-aux.result;
+      tail = record { kind = c.in_ok-shown.shown.kind; aux = c.aux_of.result; text = c.is_text.result };
       is_head = c.in_ok-head.ensures.head (keys_of opened.naming items) counted (few_keys opened.naming items c.args.entry same c.requires.few);
       is_kind = ap (λ (shown : ListEntry Global). shown.kind) c.in_ok-shown.ensures;
-      has_aux = aux_early source start now c.args.entry c.in_ok-early.early early c.aux_of-aux.result aux;
+      has_aux = aux_early source start now c.args.entry c.in_ok-early.early early c.aux_of.result aux;
+      says_text = text_early source start now c.args.entry c.in_ok-early.early early c.is_text.result c.is_text.ensures;
       is_path = c.in_ok-host.ensures items are;
     } in
     inr (long_at source start (contents_since source start now) items c.name_entry.new.names c.in-Some.place c.in_ok-head.head (string_bytes c.in_ok-host.host)
@@ -50,27 +50,29 @@ pub returns-clause-next : goal.returns-clause-next
 returns-clause-next g c = λ start items reads are counted.
     let opened = c.args.opened.now in
     let format = opened.format.now in
-    let source = source_of opened.form opened.naming (g.F.FileFormat.files format) (g.F.Format.meaning format) (g.F.TreeFormat.own format)
+    let source = source_of opened.form opened.naming opened.texts (g.F.FileFormat.files format) (g.F.Format.meaning format) (g.F.TreeFormat.own format)
     (g.F.Format.directory format opened.volume) in
     let old = g.D.Device.state c.args.device.now in
-    let now = g.D.Device.state c.look_early.new.device in
-    let last = g.D.Device.state c.look_on.new.device in
+    let now = g.D.Device.state c.see_early.new.device in
+    let last = g.D.Device.state c.see_on.new.device in
     let same : c.args.entry ≡ length items = c.requires.entry ∙ are.long in
     let early = early_since source start old now reads c.args.entry c.in_ok-early.early c.in_ok-early.ensures.early in
-    let aux = c.aux_of-aux.ensures ∙ ap (λ (shown : ListEntry Global). aux_looked shown.aux c.in_ok-early.early) c.in_ok-shown.ensures in
+    let aux = c.aux_of.ensures ∙ ap (λ (shown : ListEntry Global). aux_seen opened.form shown c.in_ok-early.early) c.in_ok-shown.ensures in
     let reads_now = read_twice start old now reads c.in_ok-early.ensures.reads in
+    let head = c.in_ok-head.ensures.head (keys_of opened.naming items) counted (few_keys opened.naming items c.args.entry same c.requires.few) in
     let named : IsNamedSo source start (contents_since source start last) items c.name_entry.new.names c.in-Some.place c.in_ok-head.head
     (string_bytes c.in_ok-host.host) c.args.entry = record {
-      kind = c.in_ok-shown.shown.kind;
-      aux = c.aux_of-aux.result;
-      is_head = c.in_ok-head.ensures.head (keys_of opened.naming items) counted (few_keys opened.naming items c.args.entry same c.requires.few);
+      tail = record { kind = c.in_ok-shown.shown.kind; aux = c.aux_of.result; text = c.is_text.result };
+      is_head = head;
       is_kind = ap (λ (shown : ListEntry Global). shown.kind) c.in_ok-shown.ensures;
-      has_aux = aux_later source start now last c.in_ok-looked.ensures.reads c.args.entry c.aux_of-aux.result
-          (aux_early source start now c.args.entry c.in_ok-early.early early c.aux_of-aux.result aux);
+      has_aux = aux_later source start now last c.in_ok-seen.ensures.reads c.args.entry c.aux_of.result
+          (aux_early source start now c.args.entry c.in_ok-early.early early c.aux_of.result aux);
+      says_text = text_later source start now last c.in_ok-seen.ensures.reads c.args.entry c.is_text.result
+          (text_early source start now c.args.entry c.in_ok-early.early early c.is_text.result c.is_text.ensures);
       is_path = c.in_ok-host.ensures items are;
     } in
     next_at source start (contents_since source start last) items c.name_entry.new.names c.in-Some.place c.in_ok-head.head (string_bytes c.in_ok-host.host)
-    (c.in-Some.ensures items are) c.args.entry same c.requires.few named c.in_ok-body.body c.in_ok-host.host refl
+    (c.in-Some.ensures items are) c.args.entry same c.requires.few named c.in_ok-seen.seen.body c.in_ok-host.host refl
     (omega (arith, c.if-len-gt-MOST_HOST.false, c.len.ensures))
-    (found_on source start last c.args.entry c.in_ok-looked.looked c.in_ok-body.body c.in_ok-body.ensures
-    (c.in_ok-looked.ensures.looked start reads_now early))
+    (found_on source start now c.args.entry c.in_ok-early.early early last c.in_ok-seen.seen c.in_ok-head.head.text (head.text ∙ c.is_text.ensures)
+    c.in_ok-seen.ensures.early (c.in_ok-seen.ensures.seen start reads_now early))

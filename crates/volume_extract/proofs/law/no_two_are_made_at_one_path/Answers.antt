@@ -3,6 +3,6 @@ use Rattle.volume_extract.proofs.Apart.{own_paths}
 use Rattle.volume_extract.proofs.law.no_two_are_made_at_one_path.Goals as goal
 
 pub returns : goal.returns
-returns g c = λ form naming directory device device_now items are.
-    let source = source_of form naming (g.F.FileFormat.files c.args.format.now) (g.F.Format.meaning c.args.format.now) (g.F.TreeFormat.own c.args.format.now) directory in
+returns g c = λ form naming texts directory device device_now items are.
+    let source = source_of form naming texts (g.F.FileFormat.files c.args.format.now) (g.F.Format.meaning c.args.format.now) (g.F.TreeFormat.own c.args.format.now) directory in
     own_paths (seen_at source device) source.own (contents_at source device device_now) naming items are
