@@ -4,8 +4,8 @@ makes with what `texts.py` works out.
 
 random_texts.py PROGRAM COUNT SEED
 
-Many files stand on one volume, of DOS 3.3 or ProDOS, which is made by `random_edits.py`. The lines at the end count the inputs of each kind
-by what came of them; the last one counts all inputs, and the differences.
+Many files stand on one volume, of DOS 3.3 or ProDOS, which is made by `random_edits.py`; `extract --texts` is tried on each. The lines at
+the end count the inputs of each kind by what came of them; the last one counts all inputs, and the differences.
 """
 
 import collections
@@ -22,6 +22,7 @@ from typing import NamedTuple, Optional
 import extracts
 import looks
 import random_edits
+import random_extracts
 import random_looks
 import texts
 
@@ -308,7 +309,68 @@ def taken(file_system, form, high, given):
     return given._replace(data=data, kind=kind, aux=texts.PROGRAM if form == "applesoft" else given.aux)
 
 
-# ---- what is compared ----
+# ---- what is wanted of all files of a volume ----
+class Names:
+    """The names of the entries of one folder, whose tails may differ."""
+
+    def __init__(self):
+        self.taken, self.numbers = set(), {}
+
+    def next(self, bare, tail):
+        """The name of the next entry with a stem and a tail: the first that no entry has, letters of either case taken as one."""
+        key = bare.lower(), tail.lower()
+        while True:
+            number = self.numbers[key] = self.numbers.get(key, 0) + 1
+            name = extracts.safe(bare + ("" if number == 1 else f"~{number}") + tail)
+            if name.lower() not in self.taken:
+                self.taken.add(name.lower())
+                return name
+
+
+class TextExtraction(extracts.Extraction):
+    """What `extract --texts` makes of the entries of a volume, which has no directory that is too deep."""
+
+    def run(self):
+        self.counts["texts"] = 0
+        for entry, above in zip(self.volume.entries, extracts.folders_above(self.volume)):
+            self.take(entry, above)
+        line = "EXTRACTED files {files} folders {folders} texts {texts} unreadable {unreadable} bytes {bytes}"
+        lines = [*self.lines, line.format(bytes=self.bytes, **self.counts)]
+        return int(self.counts["unreadable"] > 0), looks.text_of_lines(lines), self.tree
+
+    def take(self, entry, above):
+        units = None if self.volume.is_directory(entry) else self.units(entry)
+        kind, aux, form = self.type_and_form(entry, units)
+        tail = "" if self.volume.is_directory(entry) else f"#{kind:02x}{aux:04x}"
+        if self.plain:
+            tail = "" if form is None else ".txt"
+        names = self.names.setdefault(above, Names())
+        name = names.next(extracts.stem(self.volume.file_system, extracts.own_name(self.volume, entry)), tail)
+        host = name if above is None else f"{self.hosts[above]}/{name}"
+        self.hosts.append(host)
+        if form is None or not self.plain:
+            self.make(entry, host, self.volume.is_directory(entry), units)
+        if form is not None:
+            self.make_text(host if self.plain else f"{host}.utf8.txt", form)
+
+    def type_and_form(self, entry, units):
+        """The type and the aux type of an entry, and its readable form or None."""
+        if units is None:
+            return *extracts.type_and_aux(self.volume, entry, None), None
+        whole, body = bytes(self.volume.whole(units)), bytes(self.volume.body(entry, units))
+        kind, aux = extracts.type_and_aux(self.volume, entry, whole)
+        return kind, aux, texts.readable_form(self.volume.file_system, kind, self.plain, whole, body)
+
+    def make_text(self, host, form):
+        self.bytes += len(form)
+        if self.bytes > self.most:
+            raise looks.Refused("TooLarge")
+        self.tree[host] = form
+        self.lines.append(f"TEXT {len(form)} {host}")
+        self.counts["texts"] += 1
+
+
+# ---- trials ----
 def content_of(path):
     """The bytes of a file, or None where there is none."""
     try:
@@ -385,7 +447,7 @@ class Trial:
         self.words = ["--fs", self.file_system, "--order", self.file_system]
 
     def run(self, first, count):
-        """So many inputs, which are numbered from the first: files that are read, then some that are saved."""
+        """So many inputs, which are numbered from the first: files that are read, then some that are saved, then all of them."""
         reads = self.chance.randrange(count + 1)
         stored = [self.store(number) for number in range(first, first + reads)]
         self.put_image()
@@ -393,6 +455,7 @@ class Trial:
             self.read(form, name)
         for number in range(first + reads, first + count):
             self.save(number)
+        self.extract()
 
     def put_image(self):
         with open("image", "wb") as file:
@@ -498,6 +561,17 @@ class Trial:
         wanted = (3, b"REFUSED Form\n") if shown is None else (0, shown)
         words += ["--as", form]
         self.program.compare(words, wanted, self.program.told(words))
+
+    def extract(self):
+        """All files of the volume with their readable forms."""
+        plain = self.chance.random() < 0.5
+        self.put_image()
+        status, text, tree = TextExtraction(self.looked(), plain, looks.MOST).run()
+        words = ["extract", "image", *self.words, "--into", "out", "--texts", *(["--names", "plain"] if plain else [])]
+        self.program.compare(words, (status, text), self.program.told(words))
+        self.program.compare(["the folder", *words], tree, random_extracts.tree_of("out"))
+        shutil.rmtree("out", ignore_errors=True)
+        self.program.counts["volumes", "extracted"] += 1
 
 
 def main():

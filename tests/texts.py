@@ -379,6 +379,28 @@ def text_bytes(file_system, whole, body):
     return whole.split(b"\0")[0] if file_system == "dos" else body
 
 
+def comes_back_as_text(file_system, whole, body):
+    """Whether the text of a file gives its bytes back, all with the high bit that the first one has."""
+    data = text_bytes(file_system, whole, body)
+    rest = whole[len(data):] if file_system == "dos" else b""
+    return not any(rest) and taken_text(shown_text(data), data[:1] >= b"\x80", True) == data
+
+
+def comes_back_as_program(body):
+    """Whether a file is a program in Applesoft whose listing gives its bytes back."""
+    listing = applesoft_listing(body)
+    return listing is not None and applesoft_tokens(listing) == body
+
+
+def readable_form(file_system, kind, plain, whole, body):
+    """The readable form that `extract --texts` writes of a file whose type is that of ProDOS, or None where it has none."""
+    if kind == 0x04 and comes_back_as_text(file_system, whole, body):
+        return shown_text(text_bytes(file_system, whole, body))
+    if kind == 0xFC and comes_back_as_program(body):
+        return applesoft_listing(body)
+    return integer_listing(body) if kind == 0xFA and plain else None
+
+
 # ---- the worked examples ----
 TEXT_BYTES, TEXT = bytes.fromhex("C8C9A084C48D"), bytes.fromhex("484920E29084440A")
 PROGRAM_TEXT = b"""\
