@@ -1,0 +1,6 @@
+pub mod Back
+pub mod Sizes
+pub mod OneAnswer
+pub mod Alike
+pub mod Unwrapped
+pub mod WorkedContainers
