@@ -1,7 +1,7 @@
 #!/usr/bin/env python3
 """Says what the pages of the repository get wrong, a line for each: a crate without a page; an example of a page that does not stand,
-line by line, in the tests that the page names; a file of a crate that a page names and that is not there; and a paragraph or a cell
-of a table that is too long to be read.
+line by line, in the tests that the page names; a file of a crate that a page names and that is not there; a paragraph or a cell of a
+table that is too long to be read; and a wrong body whose old text is not there.
 
 pages.py TOP
 """
@@ -17,6 +17,8 @@ FILE = re.compile(r"(?:crates/(\w+)/)?(?:(specs|src|proofs)/)?((?:\w+/)*\w+\.(?:
 # How a heading, a row, or an item of a list begins.
 BEGINS = re.compile(r"#|\||- |\d+\. ")
 TICKED = re.compile(r"`([^`\n]+)`")
+# A wrong body: the file that it changes, the text that stands there, and the text in its place.
+EDIT = re.compile(r"file: (?P<file>\S+)\nold: (?P<old>.+?)\nnew: .*", re.S)
 # The most characters of a paragraph, or of a cell of a table.
 MOST = 1000
 
@@ -71,6 +73,16 @@ def long_pieces(page, piece):
             yield f"{page.name}: {len(text)} characters in one piece: {text.strip()[:60]}.."
 
 
+def lost_edits(crates):
+    """A line for each wrong body whose old text does not stand just once in the file that it names: such a body would never be tried."""
+    for edit in sorted([*crates.glob("*/assure/*.edit"), *crates.glob("*/must-fail/*.edit")]):
+        parts = EDIT.fullmatch(edit.read_text(encoding="utf-8"))
+        crate = edit.parent.parent
+        count = (crate / parts["file"]).read_text(encoding="utf-8").count(parts["old"]) if parts else 0
+        if count != 1:
+            yield f"{crate.name}/{edit.parent.name}/{edit.name} changes text that stands {count} times"
+
+
 def main(top):
     top = pathlib.Path(top)
     crates, examples, wrong = top / "crates", 0, []
@@ -90,6 +102,7 @@ def main(top):
         for piece in pieces(page.read_text(encoding="utf-8")):
             wrong += lost_files(crates, names, page, piece)
             wrong += [] if page.name == "DECISIONS.md" else long_pieces(page, piece)
+    wrong += lost_edits(crates)
     print("".join(f"{line}\n" for line in wrong), end="")
 
 
