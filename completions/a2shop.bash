@@ -87,7 +87,7 @@ _a2shop() {
     map) mapfile -t COMPREPLY < <(compgen -W "--fs --order --data-disk --reserve --auto --explain --help" -- "$word") ;;
     check) mapfile -t COMPREPLY < <(compgen -W "--fs --order --bodies --data-disk --reserve --auto --explain --help" -- "$word") ;;
     read) mapfile -t COMPREPLY < <(compgen -W "--fs --order --whole --as --out --data-disk --stored --auto --explain --help" -- "$word") ;;
-    extract) mapfile -t COMPREPLY < <(compgen -W "--fs --order --into --names --most --data-disk --auto --explain --help" -- "$word") ;;
+    extract) mapfile -t COMPREPLY < <(compgen -W "--fs --order --into --names --texts --most --data-disk --auto --explain --help" -- "$word") ;;
     convert) mapfile -t COMPREPLY < <(compgen -W "--order --to --out --volume --data-disk --auto --explain --help" -- "$word") ;;
     plan) mapfile -t COMPREPLY < <(compgen -W "--fs --order --data-disk --reserve --reclaim --words --auto --explain --help" -- "$word") ;;
     optimize) mapfile -t COMPREPLY < <(compgen -W "--fs --order --out --in-place --data-disk --reserve --reclaim --stop-after --cert --auto --explain --help" -- "$word") ;;

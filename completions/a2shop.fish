@@ -45,6 +45,7 @@ complete -c a2shop -n '__fish_seen_subcommand_from extract' -l fs -x -a 'auto do
 complete -c a2shop -n '__fish_seen_subcommand_from extract' -l order -x -a 'auto dos prodos nibble' -d 'Order of the sectors in the image, auto for the one that identify names: auto, dos, prodos or nibble'
 complete -c a2shop -n '__fish_seen_subcommand_from extract' -l into -x -d 'Folder that the files are put into; nothing, or an empty folder, may stand there'
 complete -c a2shop -n '__fish_seen_subcommand_from extract' -l names -x -d 'What the names tell: naps for the type and the aux type behind each, or plain; naps if left out'
+complete -c a2shop -n '__fish_seen_subcommand_from extract' -l texts -d 'Write the readable form of a text or a program too, beside its file; with --names plain in its place'
 complete -c a2shop -n '__fish_seen_subcommand_from extract' -l most -x -d 'How many bytes the files that are written may have in all; 1073741824 if left out'
 complete -c a2shop -n '__fish_seen_subcommand_from extract' -l data-disk -d 'Tracks 1 and 2 hold files, as on a disk without DOS'
 complete -c a2shop -n __fish_use_subcommand -f -a convert -d 'Write the sectors of an image in another order; tracks that it makes are of volume 254 without --volume'

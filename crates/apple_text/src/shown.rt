@@ -36,7 +36,8 @@ fn plain_len(bytes: &[u8]) -> usize
         .count()
 }
 
-// Puts what the bytes at the front are shown as behind a text, as long as that is plain, and gives the bytes behind them.
+// Puts what the bytes at the front are shown as behind a text, as long as that is plain, and gives the bytes behind
+// them.
 fn push_plain<'a, A: Allocator>(
     text: &mut Vec<u8, A>,
     bytes: &'a [u8],

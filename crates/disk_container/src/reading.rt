@@ -18,8 +18,8 @@ pub fn begins_like_container(bytes: &[u8]) -> bool
 /// What a container says of the image in it, and where that stands.
 ///
 /// # Errors
-/// The first of these that is wrong: `Magic` where the file does not begin with `2IMG`; `Length` where it is longer than
-/// the longest image and 65,536 bytes; `Header` where its header has another length than 52 or 64 bytes, or is cut
+/// The first of these that is wrong: `Magic` where the file does not begin with `2IMG`; `Length` where it is longer
+/// than the longest image and 65,536 bytes; `Header` where its header has another length than 52 or 64 bytes, or is cut
 /// short; `Format` where that tells no order; `Data` where the data do not lie behind the header and wholly inside the
 /// file; `Length` where no image of the order has so many bytes.
 pub fn container_of(bytes: &[u8]) -> Result<Container, ContainerFault>

@@ -1,6 +1,7 @@
 // Why a file is not shown in a form, and why none is taken from one.
 ghost use Rattle.std.specs.Prelude.{◌≡◌};
-ghost use Rattle.file_forms.specs.Errors.{taking_error_of_text, taking_error_of_tokens, form_error_of_list, form_error_of_integer, form_error_of_print};
+ghost use Rattle.file_forms.specs.Errors.{form_error_of_integer, form_error_of_list, form_error_of_print};
+ghost use Rattle.file_forms.specs.Errors.{taking_error_of_text, taking_error_of_tokens};
 ghost use Rattle.file_forms.specs.declared.error.FormError.TheVariants as forms;
 ghost use Rattle.file_forms.specs.declared.error.TakingError.TheVariants as takings;
 

@@ -6,8 +6,8 @@
 //! `FileForm::of_type` is the form that files of a type have. `taken_from` is the way back (`specs/Taken.antt`): which
 //! bytes, type and aux type a new file gets that is given as a text, a listing or an AppleSingle file.
 //!
-//! `readable` is the form of a file of text or of a program in Applesoft, where that form is taken for just the bytes of
-//! the file (`specs/Readable.antt`).
+//! `readable` is the form of a file of text or of a program in Applesoft, where that form is taken for just the bytes
+//! of the file (`specs/Readable.antt`).
 #![tactic(auto)]
 
 mod coming_back;

@@ -2,9 +2,10 @@
 //! them, and as a word says them.
 //!
 //! The model: the four bytes of a `ProDate` of `pro_dir` hold a year, a month, a day, an hour and a minute
-//! (`specs/Dates.antt`); they name a civil date and time where the calendar and a clock have it (`specs/Moments.antt`),
-//! and are shown in 16 characters (`specs/ShownDates.antt`), in data as `specs/Stamps.antt` has them. A word says the date that `jiff` reads in it
-//! (`specs/SaidDates.antt`). What always holds: bytes are shown as a minute exactly where they name one.
+//! (`specs/Dates.antt`); they name a civil date and time where the calendar and a clock have it
+//! (`specs/Moments.antt`), and are shown in 16 characters (`specs/ShownDates.antt`), in data as `specs/Stamps.antt`
+//! has them. A word says the date that `jiff` reads in it (`specs/SaidDates.antt`). What always holds: bytes are shown
+//! as a minute exactly where they name one.
 //!
 //! It stands apart since `jiff` is large: a crate whose calls have none of its types in their signatures is proved
 //! without it.
