@@ -1,9 +1,9 @@
 //! The tests of images and of both file systems: of `a2_nibble`, `a2_image`, `a2_device` and `test_volumes`; of
 //! `reserved_places`; of `dos_vtoc`, `dos_catalog`, `dos_tslist` and `dos_format`; of `pro_bitmap`, `pro_dir`,
-//! `pro_dates`, `pro_tree` and `pro_format`; of `new_files` for each of the two; and of the texts, programs and other
-//! forms of `apple_text`, `applesoft`, `integer_basic`, `apple_single` and `file_forms`. They hold the worked rows
-//! with literal values, printed text, each public call on its happy path, refused memory, and reads and writes that
-//! fail.
+//! `pro_dates`, `pro_tree` and `pro_format`; of `new_files` for each of the two; and of the texts, programs, other
+//! forms and containers of `apple_text`, `applesoft`, `integer_basic`, `apple_single`, `file_forms` and
+//! `disk_container`. They hold the worked rows with literal values, printed text, each public call on its happy path,
+//! refused memory, and reads and writes that fail.
 #![tactic(auto)]
 
 #[cfg(test)]
@@ -12,6 +12,8 @@ mod allocators;
 mod apple_texts;
 #[cfg(test)]
 mod basic_programs;
+#[cfg(test)]
+mod containers;
 #[cfg(test)]
 mod devices;
 #[cfg(test)]
