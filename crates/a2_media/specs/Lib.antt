@@ -5,4 +5,5 @@ pub mod LentDevice
 pub mod File
 pub mod FileDevice
 pub mod System
+pub mod Window
 pub mod lemmas

@@ -8,7 +8,8 @@
 //! `FileDevice` is the device of a file's units: the unit at a place stands at the place times the size of a unit
 //! (`specs/FileDevice.antt`). `PositionedFile` is what it asks of a file: that bytes are read and written at a position
 //! (`specs/File.antt`). Of an honest file it is known what a read tells and what a write leaves: the new bytes, or,
-//! where it failed, the old ones or the new ones.
+//! where it failed, the old ones or the new ones. A `Window` is a part of a file as a file, as the payload of a container
+//! is (`specs/Window.antt`): each of its calls leaves what stands around it.
 //!
 //! What always holds: the file of a device is as long as its units, and where the file is honest, so is the device.
 #![tactic(auto)]
@@ -22,6 +23,7 @@ mod memory;
 mod opening;
 mod system;
 mod units;
+mod window;
 
 pub use file::{FileFailure, PositionedFile};
 pub use file_units::FileDevice;
@@ -31,3 +33,4 @@ pub use memory::MemoryFile;
 pub use opening::{FileError, is_in_place};
 pub use system::SystemFile;
 pub use units::UnitKind;
+pub use window::{Extent, Window};

@@ -1,5 +1,5 @@
 // Opening a file of the system in place of an image.
-ghost use Rattle.std.specs.Prelude.{◌≡◌, ◌≢◌, ◌↔◌, ◌*◌, IfErr, IfOk, IsErrOf, IsTrue};
+ghost use Rattle.std.specs.Prelude.{◌≡◌, ◌≢◌, ◌↔◌, ◌*◌, ◌+◌, ◌≤◌, IfErr, IfOk, IsErrOf, IsTrue};
 ghost use Rattle.a2_media.specs.ImageDevice.{unit_bytes};
 ghost use Rattle.a2_device.specs.Order.{IsImageLength};
 ghost use Rattle.a2_media.specs.declared.opening.FileError.TheVariants.{Io};
@@ -8,6 +8,7 @@ ghost use Rattle.a2_media.specs.System.{IsDeviceOf, IsInPlace};
 use crate::UnitKind;
 use crate::file_units::FileDevice;
 use crate::system::SystemFile;
+use crate::window::{Extent, Window};
 use a2_device::{BLOCK_BYTES, Device, IMAGE_BYTES, Order};
 use a2_image::SECTOR_BYTES;
 use std::fs::File;
@@ -70,40 +71,65 @@ fn places_in(order: Order, kind: UnitKind, bytes: u64) -> Result<u32, FileError>
     }
 }
 
-// The device of an open file.
-fn device_of(file: File, order: Order, kind: UnitKind) -> Result<FileDevice<SystemFile>, FileError>
+// Where the image stands in a file of so many bytes: where that is said, if it is inside, or else all of it.
+fn extent_in(said: Option<Extent>, bytes: u64) -> Result<Extent, FileError>
+    ensures inside { IfOk result (λ extent. extent.start + extent.size ≤ bytes) }
+    ensures refused { IfErr result (λ error. error ≡ FileError.Io) }
+{
+    match said {
+        None => Ok(Extent {
+            start: 0,
+            size: bytes,
+        }),
+        Some(extent) if extent.start <= bytes && extent.size <= bytes - extent.start => Ok(extent),
+        Some(_) => Err(FileError::Io),
+    }
+}
+
+// The device of an open file, or of a part of it.
+fn device_of(
+    file: File,
+    part: Option<Extent>,
+    order: Order,
+    kind: UnitKind,
+) -> Result<FileDevice<Window<SystemFile>>, FileError>
     requires in_place { IsInPlace order kind }
-    ensures opened { IfOk result (λ device. IsDeviceOf order kind (⟦<FileDevice<SystemFile> as Device>⟧.state device)) }
+    ensures opened { IfOk result (λ device.
+        IsDeviceOf order kind (⟦<FileDevice<Window<SystemFile>> as Device>⟧.state device)) }
     ensures refused { IfErr result (λ error. error ≢ FileError.InPlace) }
 {
     let found = file.metadata()?;
     if !found.is_file() {
         return Err(FileError::Io);
     }
-    let size = found.len();
-    let places = places_in(order, kind, size)?;
-    Ok(FileDevice::new(SystemFile::new(file, size), kind, places))
+    let bytes = found.len();
+    let extent = extent_in(part, bytes)?;
+    let places = places_in(order, kind, extent.size)?;
+    let window = Window::new(SystemFile::new(file, bytes), extent);
+    Ok(FileDevice::new(window, kind, places))
 }
 
-impl FileDevice<SystemFile> {
-    /// The units of an image's open file, where they stand in it: the sectors of an image in DOS order, or the blocks
-    /// of one in ProDOS order. The device has a second handle of the file, which shares its lock. Takes no memory.
+impl FileDevice<Window<SystemFile>> {
+    /// The units of an image's open file, or of the part of a file in which an image stands: the sectors of an image in
+    /// DOS order, or the blocks of one in ProDOS order. The device has a second handle of the file, which shares its
+    /// lock. Takes no memory.
     ///
     /// # Errors
-    /// Of several the first in this order: `InPlace` for other units; `Io` where it is no regular file, or a call of
-    /// the system fails; `Length` where no image in this order has its length.
+    /// Of several the first in this order: `InPlace` for other units; `Io` where it is no regular file, a call of the
+    /// system fails, or the part is not inside the file; `Length` where no image in this order has its length.
     pub fn of_image(
         file: &File,
+        part: Option<Extent>,
         order: Order,
         kind: UnitKind,
-    ) -> Result<FileDevice<SystemFile>, FileError>
+    ) -> Result<FileDevice<Window<SystemFile>>, FileError>
         ensures opened { IfOk result (λ device.
-            IsDeviceOf order kind (⟦<FileDevice<SystemFile> as Device>⟧.state device)) }
+            IsDeviceOf order kind (⟦<FileDevice<Window<SystemFile>> as Device>⟧.state device)) }
         ensures in_place { IsErrOf result FileError.InPlace ↔ (¬ IsInPlace order kind) }
     {
         if !is_in_place(order, kind) {
             return Err(FileError::InPlace);
         }
-        device_of(file.try_clone()?, order, kind)
+        device_of(file.try_clone()?, part, order, kind)
     }
 }

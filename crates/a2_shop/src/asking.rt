@@ -1,14 +1,15 @@
 // The job that words ask for.
 use crate::stop::Stop;
 use a2_device::Order;
+use disk_container::begins_like_container;
 use image_readings::{file_system_word, order_word};
 use shop_commands::job_of_words;
 use shop_jobs::{FileSystem, Job};
-use shop_words::{AutoOption, asks_auto, in_place};
+use shop_words::{AutoOption, StandIn, asks_for, in_place};
 use std::alloc::{AllocError, Global};
 use std::io::Write;
 
-/// How images are read, in the place of each `auto`.
+/// How images are read, in the place of each word that leaves it to them.
 #[derive(Clone, Copy, Debug)]
 pub struct Ways {
     pub file_system: FileSystem,
@@ -17,35 +18,81 @@ pub struct Ways {
     pub other_order: Order,
 }
 
-/// What stands in the place of each `auto` until the images are known.
+/// What stands in the place of each such word until the images are known.
 const UNSETTLED: Ways = Ways {
     file_system: FileSystem::Dos,
     order: Order::Dos,
     other_order: Order::Dos,
 };
 
-/// Whether the words leave to the image how it is read.
-pub fn is_image_auto(words: &[String]) -> bool {
-    asks_auto(words, AutoOption::FileSystem) || asks_auto(words, AutoOption::Order)
+// Whether the words are those of the command that makes containers: the image of one is in none.
+fn wraps(words: &[String]) -> bool {
+    match words.first() {
+        Some(command) => command.as_str() == "wrap",
+        None => false,
+    }
 }
 
-/// Whether a value of the words is `auto`.
-pub fn is_auto(words: &[String]) -> bool {
-    is_image_auto(words) || asks_auto(words, AutoOption::OtherOrder)
+/// Whether an option is `auto`.
+pub fn asks_auto(words: &[String], option: AutoOption) -> bool {
+    asks_for(words, option, StandIn::Auto)
 }
 
-// The words with a file system and an order in the place of each `auto`.
+/// Whether an order is that of the header of a container.
+pub fn asks_container(words: &[String], option: AutoOption) -> bool {
+    asks_for(words, option, StandIn::Container) && !wraps(words)
+}
+
+/// Whether bytes are read as a container, by the option of their order: where it says so, or leaves
+/// that to them and they begin like one.
+pub fn is_container(words: &[String], option: AutoOption, bytes: &[u8]) -> bool {
+    if asks_auto(words, option) {
+        return !wraps(words) && begins_like_container(bytes);
+    }
+    asks_container(words, option)
+}
+
+/// Whether the words leave to the images how they are read.
+pub fn is_left_open(words: &[String]) -> bool {
+    asks_auto(words, AutoOption::FileSystem)
+        || asks_auto(words, AutoOption::Order)
+        || asks_auto(words, AutoOption::OtherOrder)
+        || asks_container(words, AutoOption::Order)
+        || asks_container(words, AutoOption::OtherOrder)
+}
+
+// The words with an order in the place of what stands for it.
+fn put_order(
+    alloc: Global,
+    words: &[String],
+    option: AutoOption,
+    order: Order,
+) -> Result<Vec<String>, AllocError> {
+    let order = order_word(order);
+    let words = in_place(alloc, words, option, StandIn::Auto, order)?;
+    if wraps(words.as_slice()) {
+        return Ok(words);
+    }
+    in_place(alloc, words.as_slice(), option, StandIn::Container, order)
+}
+
+// The words with a file system and an order in the place of what stands for them.
 fn put_in_place(alloc: Global, words: &[String], ways: Ways) -> Result<Vec<String>, AllocError> {
     let file_system = file_system_word(ways.file_system);
-    let other = order_word(ways.other_order);
-    let words = in_place(alloc, words, AutoOption::FileSystem, file_system)?;
-    let words = in_place(alloc, words.as_slice(), AutoOption::OtherOrder, other)?;
-    in_place(
+    let words = in_place(
+        alloc,
+        words,
+        AutoOption::FileSystem,
+        StandIn::Auto,
+        file_system,
+    )?;
+    let words = put_order(
         alloc,
         words.as_slice(),
-        AutoOption::Order,
-        order_word(ways.order),
-    )
+        AutoOption::OtherOrder,
+        ways.other_order,
+    )?;
+    put_order(alloc, words.as_slice(), AutoOption::Order, ways.order)
 }
 
 // The job of words, or that it was told why there is none.
@@ -56,7 +103,7 @@ fn told_job<T: Write>(rt: &HostRuntime, words: &[String], text: &mut T) -> Resul
     }
 }
 
-/// The job of words with these ways to read the images in the place of each `auto`.
+/// The job of words with these ways to read the images in the place of what stands for them.
 pub fn job_with<T: Write>(
     rt: &HostRuntime,
     words: &[String],
@@ -67,10 +114,11 @@ pub fn job_with<T: Write>(
     told_job(rt, words.as_slice(), text)
 }
 
-/// The job that words ask for. Where a word is `auto`, DOS 3.3 and DOS order stand in its place:
-/// what is wrong with the other words is told first, and the job says which image it is.
+/// The job that words ask for. Where a word leaves to the image how it is read, DOS 3.3 and DOS
+/// order stand in its place: what is wrong with the other words is told first, and the job says
+/// which image it is.
 pub fn asked_job<T: Write>(rt: &HostRuntime, words: &[String], text: &mut T) -> Result<Job, Stop> {
-    if is_auto(words) {
+    if is_left_open(words) {
         job_with(rt, words, UNSETTLED, text)
     } else {
         told_job(rt, words, text)

@@ -8,13 +8,15 @@ ghost use Rattle.shop_commands.specs.OnDevice.{HasUnitsFor};
 
 use crate::inputs::Inputs;
 use crate::stop::Stop;
-use a2_device::{Device, Order};
-use a2_media::{FileDevice, SystemFile};
+use a2_device::Device;
+use a2_media::{FileDevice, SystemFile, Window};
 use shop_changes::Outcome;
-use shop_commands::{only_reads, read_job_on_device, reply_to, run_job_in_place, unread_reply};
-use shop_files::{ImageDevice, OpenImage, Output, Unwritten, extra_bytes};
-use shop_jobs::{Ask, Job, Look, image_order, is_in_place, volume_of};
-use shop_replies::{Failure, Refusal, Reply, Side, most_bytes};
+use shop_commands::{
+    only_reads, read_job_on_device, reply_to, reply_to_payload, run_job_in_place, unread_reply,
+};
+use shop_files::{ImageDevice, Output, Unwritten, extra_bytes};
+use shop_jobs::{Ask, Job, Look, is_in_place, volume_of};
+use shop_replies::{Failure, Refusal, Reply, Side, most_of_image};
 
 /// What a job has come to.
 #[derive(Drop)]
@@ -27,7 +29,7 @@ pub enum Done {
 
 // What became of the work once the file is on the disk: what can't be put there has failed.
 fn kept_outcome(outcome: Outcome, device: &ImageDevice) -> Outcome {
-    if device.writes() > 0 && device.file().flush_to_disk().is_err() {
+    if device.writes() > 0 && device.file().file().flush_to_disk().is_err() {
         return Outcome::Unfinished(Reply::failed(Failure::Device));
     }
     outcome
@@ -37,7 +39,7 @@ fn kept_outcome(outcome: Outcome, device: &ImageDevice) -> Outcome {
 fn change_units(rt: &HostRuntime, job: &Job, extra: &[u8], device: ImageDevice) -> Outcome
     requires job { in_place (ask_view job.now.ask) ≡ true }
     requires units { HasUnitsFor (ask_view job.now.ask)
-        (⟦<FileDevice<SystemFile> as Device>⟧.state device) }
+        (⟦<FileDevice<Window<SystemFile>> as Device>⟧.state device) }
 {
     let (outcome, device) = run_job_in_place(rt.alloc(), job, extra, device);
     kept_outcome(outcome, &device)
@@ -47,7 +49,7 @@ fn change_units(rt: &HostRuntime, job: &Job, extra: &[u8], device: ImageDevice) 
 fn do_in_place(
     rt: &HostRuntime,
     job: &Job,
-    image: &OpenImage,
+    inputs: &Inputs,
     certificate: &mut Output<'_>,
 ) -> Result<Done, Stop>
     requires job { in_place (ask_view job.now.ask) ≡ true }
@@ -55,7 +57,7 @@ fn do_in_place(
     let Some(volume) = volume_of(job) else {
         return Err(Stop::Refused(Refusal::InPlace));
     };
-    let device = image.device(volume)?;
+    let device = inputs.image.device(inputs.part(), volume)?;
     let extra = extra_bytes(rt, job)?;
     if certificate.open().is_err() {
         return Err(Stop::Unwritten(Unwritten::CertificateBeforeImage));
@@ -70,27 +72,22 @@ fn reply_of_units(rt: &HostRuntime, job: &Job, inputs: &mut Inputs) -> Option<Re
     if !only_reads(job) {
         return None;
     }
-    let mut device = inputs.image.device(volume).ok()?;
+    let mut device = inputs.image.device(inputs.part(), volume).ok()?;
     match inputs.take_extra(rt, job) {
         Ok(extra) => Some(read_job_on_device(rt.alloc(), job, extra, &mut device)),
         Err(failure) => Some(unread_reply(job, Side::Second, failure)),
     }
 }
 
-/// The most bytes that are read of an image, but for one that shows that there are more.
-pub fn most_of(job: &Job) -> u32 {
-    let order = match image_order(job) {
-        Some(order) => order,
-        None => Order::Prodos,
-    };
-    most_bytes(order) as u32
-}
-
 // The reply to a job on the bytes of its image.
 fn reply_of_bytes(rt: &HostRuntime, job: &Job, image: Vec<u8>, inputs: &mut Inputs) -> Reply {
-    match inputs.take_extra(rt, job) {
-        Ok(extra) => reply_to(rt.alloc(), job, image, extra),
-        Err(failure) => unread_reply(job, Side::Second, failure),
+    let extra = match inputs.take_extra(rt, job) {
+        Ok(extra) => extra,
+        Err(failure) => return unread_reply(job, Side::Second, failure),
+    };
+    match &inputs.container {
+        Some(container) => reply_to_payload(rt.alloc(), job, image, extra, &container.shell),
+        None => reply_to(rt.alloc(), job, image, extra),
     }
 }
 
@@ -102,7 +99,7 @@ fn reply_of(rt: &HostRuntime, job: &Job, inputs: &mut Inputs) -> Reply {
     if let Some(reply) = reply_of_units(rt, job, inputs) {
         return reply;
     }
-    match inputs.image.bytes(rt, most_of(job)) {
+    match inputs.image.bytes(rt, most_of_image(job)) {
         Ok(bytes) => reply_of_bytes(rt, job, bytes, inputs),
         Err(failure) => unread_reply(job, Side::First, failure),
     }
@@ -116,7 +113,7 @@ pub fn do_job(
     certificate: &mut Output<'_>,
 ) -> Result<Done, Stop> {
     if is_in_place(job) {
-        return do_in_place(rt, job, &inputs.image, certificate);
+        return do_in_place(rt, job, inputs, certificate);
     }
     Ok(Done::Answered(reply_of(rt, job, inputs)))
 }

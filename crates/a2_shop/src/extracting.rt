@@ -6,7 +6,6 @@ ghost use Rattle.shop_jobs.specs.Paths.{volume_of as read_as};
 ghost use Rattle.shop_commands.specs.Answer.{ExtractsVolume};
 ghost use Rattle.shop_commands.specs.OnDevice.{HasUnitsFor};
 
-use crate::doing::most_of;
 use crate::inputs::Inputs;
 use crate::stop::Stop;
 use a2_device::Device;
@@ -15,7 +14,7 @@ use host_folders::{StartError, SystemFolder, folder_name};
 use shop_commands::{NotExtracted, extract_on_device};
 use shop_files::{Ending, Unwritten};
 use shop_jobs::{Job, VolumeOptions, into_path, volume_of};
-use shop_replies::{Failure, Refusal, Reply, device_of, open_volume};
+use shop_replies::{Failure, Refusal, Reply, device_of, most_of_image, open_volume};
 use std::alloc::Global;
 use std::io::Write;
 
@@ -111,13 +110,13 @@ pub fn extract_job<T: Write>(
     if let Some(bytes) = inputs.bytes.take() {
         return extract_bytes(rt, job, volume, bytes, text);
     }
-    match inputs.image.device(volume) {
+    match inputs.image.device(inputs.part(), volume) {
         Ok(mut device) => {
             let folder = start_folder(rt, job)?;
             Ok(extract_units(rt, job, &mut device, folder, text))
         }
         Err(FileError::InPlace) => {
-            let bytes = inputs.image.bytes(rt, most_of(job))?;
+            let bytes = inputs.image.bytes(rt, most_of_image(job))?;
             extract_bytes(rt, job, volume, bytes, text)
         }
         Err(FileError::Length) => {

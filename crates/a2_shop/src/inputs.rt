@@ -1,22 +1,44 @@
 // The inputs of a job, opened.
-use crate::asking::is_auto;
+use crate::asking::is_left_open;
 use crate::stop::Stop;
+use a2_media::Extent;
+use disk_container::{Container, Shell};
 use shop_files::{Found, JobFiles, OpenImage, extra_bytes, is_in_its_file};
 use shop_jobs::{
     Job, certificate_path, into_path, is_in_place, is_on_standard_input, out_path, volume_of,
 };
 use shop_replies::{Failure, Refusal, Side};
 
+/// The container in which an image stands.
+#[derive(Drop)]
+pub struct OpenContainer {
+    /// What it says.
+    pub says: Container,
+    /// What stands around the image.
+    pub shell: Shell,
+}
+
 /// The image of a job, open, and its bytes where all of them were read, and those of a file beside
 /// it.
 #[derive(Drop)]
 pub struct Inputs {
     pub image: OpenImage,
+    /// Of an image in a container the bytes of the image.
     pub bytes: Option<Vec<u8>>,
     pub extra: Option<Vec<u8>>,
+    pub container: Option<OpenContainer>,
 }
 
 impl Inputs {
+    /// Where the image stands in its file, if that is a container.
+    pub fn part(&self) -> Option<Extent> {
+        let container = self.container.as_ref()?;
+        Some(Extent {
+            start: container.says.start as u64,
+            size: container.says.size as u64,
+        })
+    }
+
     /// The bytes of the file that a job reads beside its image, which are read where they were not.
     ///
     /// # Errors
@@ -62,10 +84,10 @@ pub fn files_of<'a>(
 }
 
 // Whether a job is to change its image in a file that it is not changed in, as the words say: no
-// look at the file is needed. A word `auto` leaves open how the image is read.
+// look at the file is needed. A word may leave open how the image is read.
 fn is_out_of_place(words: &[String], job: &Job) -> bool {
     let is_kept = match volume_of(job) {
-        Some(volume) => is_auto(words) || is_in_its_file(volume),
+        Some(volume) => is_left_open(words) || is_in_its_file(volume),
         None => false,
     };
     is_in_place(job) && (is_on_standard_input(job) || !is_kept)
@@ -107,5 +129,6 @@ pub fn open_inputs(
         image,
         bytes: None,
         extra: None,
+        container: None,
     })
 }

@@ -2,10 +2,10 @@
 //! commands of `shop_commands`.
 //!
 //! `stages.rt` is the program as a line of stages: its words, the job that they ask for, the inputs
-//! of the job opened, the job settled where a word is `auto`, the job done, its files ended and its
-//! answer told. Each stage has its file: `words.rt`, `asking.rt`, `inputs.rt`, `settling.rt`,
-//! `doing.rt` and `ending.rt`; a job that makes a folder is done and ended in `extracting.rt`, and
-//! `stop.rt` has what ends the line early. `streams.rt` takes the
+//! of the job opened, the job settled where a word leaves to the image how it is read, or the image
+//! stands in a container, the job done, its files ended and its answer told. Each stage has its file: `words.rt`, `asking.rt`, `inputs.rt`, `settling.rt`,
+//! `doing.rt` and `ending.rt`; a job that makes a folder is done and ended in `extracting.rt`, one
+//! that surveys a folder in `surveying.rt`, and `stop.rt` has what ends the line early. `streams.rt` takes the
 //! descriptors of closed streams, so that no file gets one.
 #![tactic(auto)]
 
@@ -18,6 +18,7 @@ mod settling;
 mod stages;
 mod stop;
 mod streams;
+mod surveying;
 mod words;
 
 use std::process::ExitCode;

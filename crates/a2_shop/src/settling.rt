@@ -1,35 +1,72 @@
 // The job, settled by its image.
-use crate::asking::{Ways, is_auto, is_image_auto, job_with};
-use crate::inputs::Inputs;
+use crate::asking::{Ways, asks_auto, asks_container, is_container, is_left_open, job_with};
+use crate::inputs::{Inputs, OpenContainer};
 use crate::stop::Stop;
 use a2_device::Order;
+use disk_container::{Container, MOST_BYTES, begins_like_container, container_of, take_shell};
 use image_readings::{Choice, best_reading, file_system_word, order_word};
-use shop_files::{Found, other_bytes, warn_of_order};
+use shop_files::{Found, ImageUse, JobFiles, foreign_of, other_bytes, warn_of_order};
 use shop_jobs::{Ask, FileSystem, Job, image_order, volume_of};
-use shop_replies::{Side, most_bytes};
-use shop_words::{AutoOption, asks_auto};
+use shop_replies::{Refusal, Side};
+use shop_words::AutoOption;
 use std::io::Write;
 
-// The best reading of an image, of those that have what the words give.
+// The best reading of an image, of those that have what the words give; of one in a container the
+// best reading of all is to be in the order of the header, or a wrong header would go unseen.
 fn best_way(
     rt: &HostRuntime,
     image: &mut Vec<u8>,
     file_system: Option<FileSystem>,
     order: Option<Order>,
+    container: Option<Container>,
 ) -> Result<(FileSystem, Order), Stop> {
     match best_reading(rt.alloc(), image, file_system, order)? {
-        Choice::Way { file_system, order } => Ok((file_system, order)),
+        Choice::Way { file_system, order } => match container {
+            Some(container) if container.order != order => Err(Stop::Ambiguous),
+            _ => Ok((file_system, order)),
+        },
         Choice::Ambiguous => Err(Stop::Ambiguous),
         Choice::Unknown => Err(Stop::Unknown),
     }
 }
 
-// What a word gives that is not `auto`.
-fn given<V: Copy>(words: &[String], option: AutoOption, value: Option<V>) -> Option<V> {
+// Takes the image out of bytes that are read as a container, by the option of their order.
+fn open_container(
+    rt: &HostRuntime,
+    words: &[String],
+    option: AutoOption,
+    bytes: &mut Vec<u8>,
+) -> Result<Option<OpenContainer>, Stop> {
+    if !is_container(words, option, bytes.as_slice()) {
+        return Ok(None);
+    }
+    match container_of(bytes.as_slice()) {
+        Ok(says) => {
+            let shell = take_shell(rt.alloc(), bytes, says)?;
+            Ok(Some(OpenContainer { says, shell }))
+        }
+        Err(fault) => Err(Stop::Refused(Refusal::Container(fault))),
+    }
+}
+
+// What a container says, if there is one.
+fn said_by(container: &Option<OpenContainer>) -> Option<Container> {
+    Some(container.as_ref()?.says)
+}
+
+// The order that the words give, or a container where they leave it to that.
+fn order_given(
+    words: &[String],
+    option: AutoOption,
+    said: Option<Order>,
+    container: Option<Container>,
+) -> Option<Order> {
     if asks_auto(words, option) {
-        None
-    } else {
-        value
+        return None;
+    }
+    match container {
+        Some(container) => Some(container.order),
+        None => said,
     }
 }
 
@@ -39,19 +76,22 @@ fn way_of_image(
     words: &[String],
     asked: &Job,
     image: &mut Vec<u8>,
+    container: Option<Container>,
 ) -> Result<(FileSystem, Order), Stop> {
-    let file_system = volume_of(asked).map(|volume| volume.file_system);
-    let order = image_order(asked);
-    if let (Some(file_system), Some(order), false) = (file_system, order, is_image_auto(words)) {
-        return Ok((file_system, order));
+    let order = order_given(words, AutoOption::Order, image_order(asked), container);
+    let file_system = match volume_of(asked) {
+        Some(volume) if !asks_auto(words, AutoOption::FileSystem) => Some(volume.file_system),
+        _ => None,
+    };
+    let is_said = !asks_auto(words, AutoOption::FileSystem);
+    if let (Some(order), true) = (order, is_said) {
+        return Ok((file_system.unwrap_or(FileSystem::Dos), order));
     }
-    let file_system = given(words, AutoOption::FileSystem, file_system);
-    let order = given(words, AutoOption::Order, order);
-    best_way(rt, image, file_system, order)
+    best_way(rt, image, file_system, order, container)
 }
 
-// The order of the other image of a comparison: of its readings in this file system the best, where
-// a word is `auto`. The bytes of that image are read for it, and kept.
+// The order of the other image of a comparison: of its readings in this file system the best, or
+// that of its container, where a word says so. The bytes of that image are read for it, and kept.
 fn order_of_other(
     rt: &HostRuntime,
     words: &[String],
@@ -59,30 +99,63 @@ fn order_of_other(
     file_system: FileSystem,
     extra: &mut Option<Vec<u8>>,
 ) -> Result<Order, Stop> {
-    if !asks_auto(words, AutoOption::OtherOrder) {
+    let option = AutoOption::OtherOrder;
+    if !asks_auto(words, option) && !asks_container(words, option) {
         return Ok(Order::Dos);
     }
     let mut other = other_bytes(rt, asked)?;
-    let (_, order) = best_way(rt, &mut other, Some(file_system), None)?;
+    let container = said_by(&open_container(rt, words, option, &mut other)?);
+    let order = match order_given(words, option, None, container) {
+        Some(order) => order,
+        None => best_way(rt, &mut other, Some(file_system), None, container)?.1,
+    };
     *extra = Some(other);
     Ok(order)
 }
 
-// The job of words with the best readings of the images in the place of each `auto`, of the readings
-// that have what the other words give.
+// Whether a job changes its image, or writes another over it.
+fn writes_image(asked: &Job, files: &JobFiles<'_>) -> bool {
+    match &asked.ask {
+        Ask::Change { .. } => true,
+        Ask::Convert { .. } => files.image_use(false) == ImageUse::Replace,
+        _ => false,
+    }
+}
+
+// The image of a job, taken out of its container where it is read as one, which lets it be written
+// where the job does that.
+fn open_image(
+    rt: &HostRuntime,
+    words: &[String],
+    asked: &Job,
+    files: &JobFiles<'_>,
+    image: &mut Vec<u8>,
+) -> Result<Option<OpenContainer>, Stop> {
+    let container = open_container(rt, words, AutoOption::Order, image)?;
+    match said_by(&container) {
+        Some(says) if says.protected && writes_image(asked, files) => {
+            Err(Stop::Refused(Refusal::Protected))
+        }
+        _ => Ok(container),
+    }
+}
+
+// The job of words with the best readings of the images in the place of what stands for them, of
+// the readings that have what the other words give.
 fn best_job<T: Write>(
     rt: &HostRuntime,
     words: &[String],
     asked: &Job,
+    inputs: &mut Inputs,
     image: &mut Vec<u8>,
-    extra: &mut Option<Vec<u8>>,
     text: &mut T,
 ) -> Result<Job, Stop> {
-    let (file_system, order) = match way_of_image(rt, words, asked, image) {
+    let container = said_by(&inputs.container);
+    let (file_system, order) = match way_of_image(rt, words, asked, image, container) {
         Ok(way) => way,
         Err(stop) => return Err(stop.of_image(asked, Side::First)),
     };
-    let other_order = match order_of_other(rt, words, asked, file_system, extra) {
+    let other_order = match order_of_other(rt, words, asked, file_system, &mut inputs.extra) {
         Ok(order) => order,
         Err(stop) => return Err(stop.of_image(asked, Side::Second)),
     };
@@ -115,41 +188,74 @@ fn note_order(rt: &HostRuntime, job: &Job, image: &mut Vec<u8>, found: &mut Foun
     }
 }
 
-// The job of words of which one is `auto`; `None` of other words.
+// Whether a job makes a container or takes the image out of one: its new file is looked at before
+// that image is.
+fn is_of_containers(job: &Job) -> bool {
+    matches!(&job.ask, Ask::Wrap { .. } | Ask::Unwrap { .. })
+}
+
+// Why a job of containers is refused that is left open by its words.
+fn refuse_wrapping(
+    rt: &HostRuntime,
+    words: &[String],
+    asked: &Job,
+    files: &JobFiles<'_>,
+    image: &[u8],
+) -> Result<(), Stop> {
+    if !is_of_containers(asked) {
+        return Ok(());
+    }
+    if files.has_no_free_place(rt) {
+        return Err(Stop::Refused(Refusal::Exists));
+    }
+    if is_left_open(words) && begins_like_container(image) {
+        return Err(Stop::Refused(Refusal::Length));
+    }
+    Ok(())
+}
+
+// The job of words that leave to the images how they are read; `None` of other words.
 fn job_of_image<T: Write>(
     rt: &HostRuntime,
     words: &[String],
     asked: &Job,
+    files: &JobFiles<'_>,
+    inputs: &mut Inputs,
     image: &mut Vec<u8>,
-    extra: &mut Option<Vec<u8>>,
     text: &mut T,
 ) -> Result<Option<Job>, Stop> {
-    if is_auto(words) {
-        Ok(Some(best_job(rt, words, asked, image, extra, text)?))
-    } else {
-        Ok(None)
+    refuse_wrapping(rt, words, asked, files, image.as_slice())?;
+    if !is_left_open(words) {
+        return Ok(None);
     }
+    inputs.container = match open_image(rt, words, asked, files, image) {
+        Ok(container) => container,
+        Err(stop) => return Err(stop.of_image(asked, Side::First)),
+    };
+    Ok(Some(best_job(rt, words, asked, inputs, image, text)?))
 }
 
-/// The job, settled by the image where a word is `auto`; `None` where the words say all. The bytes
-/// of the image are read for it, and where its answer is to be explained.
+/// The job, settled by the image where a word leaves something to that; `None` where the words say
+/// all. The bytes of the image are read for it, and where its answer is to be explained.
 pub fn settled_job<T: Write>(
     rt: &HostRuntime,
     words: &[String],
     asked: &Job,
+    files: &JobFiles<'_>,
     inputs: &mut Inputs,
     found: &mut Found,
     text: &mut T,
 ) -> Result<Option<Job>, Stop> {
-    if !is_auto(words) && !found.is_wanted {
+    if !is_left_open(words) && !found.is_wanted && !is_of_containers(asked) {
         return Ok(None);
     }
-    let mut image = match inputs.image.bytes(rt, most_bytes(Order::Prodos) as u32) {
+    let mut image = match inputs.image.bytes(rt, MOST_BYTES as u32) {
         Ok(image) => image,
         Err(failure) => return Err(Stop::Failed(failure).of_image(asked, Side::First)),
     };
     found.bytes = Some(image.len());
-    let settled = job_of_image(rt, words, asked, &mut image, &mut inputs.extra, text)?;
+    found.foreign = foreign_of(image.as_slice());
+    let settled = job_of_image(rt, words, asked, files, inputs, &mut image, text)?;
     match &settled {
         Some(job) => note_order(rt, job, &mut image, found),
         None => note_order(rt, asked, &mut image, found),

@@ -7,11 +7,12 @@ use crate::inputs::{Inputs, files_of, open_inputs};
 use crate::settling::settled_job;
 use crate::stop::Stop;
 use crate::streams::take_closed_streams;
+use crate::surveying::survey_job;
 use crate::words::{VERSION, greet, told_fault, words_of};
 use explanations::Overheard;
 use shop_commands::extracts;
 use shop_files::{Ending, Found, JobFiles};
-use shop_jobs::Job;
+use shop_jobs::{Ask, Job};
 use shop_replies::{Failure, Refusal, Reply, written};
 use shop_words::{asks_explain, asks_version, filled_in, without_explain};
 use std::io::{BufWriter, Write};
@@ -90,8 +91,8 @@ fn run_filled_in<T: Write>(
     }
 }
 
-// The job that the words ask for, its inputs opened, and the job settled where a word is `auto`;
-// then it is done. The image is held, with its lock, to the end.
+// The job that the words ask for, its inputs opened, and the job settled where a word leaves to the
+// image how it is read; then it is done. The image is held, with its lock, to the end.
 fn run_stages<T: Write>(
     rt: &HostRuntime,
     words: &[String],
@@ -99,9 +100,12 @@ fn run_stages<T: Write>(
     text: &mut T,
 ) -> Result<Ending, Stop> {
     let asked = asked_job(rt, words, text)?;
+    if let Ask::Survey { form } = &asked.ask {
+        return survey_job(rt, &asked, *form, found.is_wanted, text);
+    }
     let files = files_of(rt, &asked, found)?;
     let mut inputs = open_inputs(rt, words, &asked, &files, found)?;
-    let settled = settled_job(rt, words, &asked, &mut inputs, found, text)?;
+    let settled = settled_job(rt, words, &asked, &files, &mut inputs, found, text)?;
     let job = match &settled {
         Some(job) => job,
         None => &asked,

@@ -27,6 +27,8 @@ pub enum Stop {
     Unknown,
     /// One of the two images of a comparison could not be read.
     FailedOf(Side, Failure),
+    /// One of them is in no container that can be read.
+    RefusedOf(Side, Refusal),
     /// No way to read one of them is better than all others.
     AmbiguousOf(Side),
     /// There is no volume in one of them.
@@ -57,6 +59,7 @@ impl Stop {
             Stop::Ambiguous => written(b"REFUSED Ambiguous\n", REFUSED, text),
             Stop::Unknown => written(b"REFUSED Unknown\n", REFUSED, text),
             Stop::FailedOf(side, failure) => Reply::failed(failure).of_image(side).tell(text),
+            Stop::RefusedOf(side, refusal) => Reply::refused_of(side, refusal).tell(text),
             Stop::AmbiguousOf(Side::First) => written(b"REFUSED Ambiguous 1\n", REFUSED, text),
             Stop::AmbiguousOf(Side::Second) => written(b"REFUSED Ambiguous 2\n", REFUSED, text),
             Stop::UnknownOf(Side::First) => written(b"REFUSED Unknown 1\n", REFUSED, text),
@@ -72,6 +75,7 @@ impl Stop {
         }
         match self {
             Stop::Failed(failure) => Stop::FailedOf(side, failure),
+            Stop::Refused(refusal) => Stop::RefusedOf(side, refusal),
             Stop::Ambiguous => Stop::AmbiguousOf(side),
             Stop::Unknown => Stop::UnknownOf(side),
             stop => stop,

@@ -11,7 +11,7 @@ use Rattle.disk_container.specs.declared.header.Header.{Header}
 use Rattle.disk_container.specs.Container.{HasHeader, HasParts, HoldsData, IsContainer, IsOfOrder}
 use Rattle.disk_container.specs.Format.{four_at, header_of, image_size, is_protected, two_at}
 use Rattle.disk_container.specs.Format.{volume_of}
-use Rattle.disk_container.specs.Order.{IsImageLength}
+use Rattle.a2_device.specs.Order.{IsImageLength}
 
 -- ---- the same header
 

@@ -4,8 +4,8 @@ use Rattle.std.proofs.Common.{arith, refl, ap, ◌∙◌}
 use Rattle.std.proofs.lemmas.Bool.{cond-true, eq-eqb, ne_eqb}
 use Rattle.std.specs.Int.{bit_at}
 use Rattle.std.specs.Prelude.{nat_eq}
-use Rattle.disk_container.specs.declared.order.ContainerOrder.{ContainerOrder}
-use Rattle.disk_container.specs.declared.order.ContainerOrder.TheVariants.{Dos, Prodos, Nibble}
+use Rattle.a2_device.specs.declared.order.Order.{Order}
+use Rattle.a2_device.specs.declared.order.Order.TheVariants.{Dos, Prodos, Nibble}
 use Rattle.disk_container.specs.Format.{is_protected, volume_of}
 use Rattle.disk_container.specs.Order.{format_of}
 use Rattle.disk_container.specs.Wrapped.{flags_of}
@@ -19,7 +19,7 @@ four_back n small =
     let top : n / 16777216 < 256 = omega arith in
     omega arith
 
-pub format_small : (order : ContainerOrder) → format_of order < 2 ^ 32
+pub format_small : (order : Order) → format_of order < 2 ^ 32
 format_small Dos = omega arith
 format_small Prodos = omega arith
 format_small Nibble = omega arith

@@ -4,3 +4,4 @@ pub mod OneAnswer
 pub mod Alike
 pub mod Unwrapped
 pub mod WorkedContainers
+pub mod Shells

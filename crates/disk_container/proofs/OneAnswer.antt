@@ -3,16 +3,17 @@ use Rattle.std.proofs.Common.{◌≡◌, ℕ, ◌<◌, Bool, List, Option, lengt
 use Rattle.disk_container.specs.declared.container.Container.{Container}
 use Rattle.disk_container.specs.declared.error.ContainerFault.{ContainerFault}
 use Rattle.disk_container.specs.declared.error.ContainerFault.TheVariants.{Data, Format, Header, Length, Magic}
-use Rattle.disk_container.specs.declared.order.ContainerOrder.{ContainerOrder}
-use Rattle.disk_container.specs.declared.order.ContainerOrder.TheVariants.{Dos, Prodos, Nibble}
+use Rattle.a2_device.specs.declared.order.Order.{Order}
+use Rattle.a2_device.specs.declared.order.Order.TheVariants.{Dos, Prodos, Nibble}
 use Rattle.disk_container.specs.Container.{HasHeader, HoldsData, IsContainer, IsOfOrder, most_bytes}
 use Rattle.disk_container.specs.Faults.{HasNoOrder, HasOddLength, IsFault, LacksData}
 use Rattle.disk_container.specs.Format.{BeginsLikeContainer, header_of, image_size}
-use Rattle.disk_container.specs.Order.{IsImageLength, format_of}
+use Rattle.a2_device.specs.Order.{IsImageLength}
+use Rattle.disk_container.specs.Order.{format_of}
 
 -- ---- one order
 
-one_order : (a b : ContainerOrder) → format_of a ≡ format_of b → a ≡ b
+one_order : (a b : Order) → format_of a ≡ format_of b → a ≡ b
 one_order Dos Dos e = refl
 one_order Dos Prodos e = absurd (omega (arith, e))
 one_order Dos Nibble e = absurd (omega (arith, e))
@@ -23,7 +24,7 @@ one_order Nibble Dos e = absurd (omega (arith, e))
 one_order Nibble Prodos e = absurd (omega (arith, e))
 one_order Nibble Nibble e = refl
 
-module _ (bytes : List ℕ) (a b : ContainerOrder) (one : IsOfOrder (header_of bytes) a)
+module _ (bytes : List ℕ) (a b : Order) (one : IsOfOrder (header_of bytes) a)
     (other : IsOfOrder (header_of bytes) b) where
   same_order : a ≡ b
   same_order = one_order a b (sym one.number ∙ other.number)
@@ -36,7 +37,7 @@ module _ (bytes : List ℕ) (a b : ContainerOrder) (one : IsOfOrder (header_of b
 
 -- ---- one container
 
-abbrev made : ContainerOrder → Bool → Option ℕ → ℕ → ℕ → Container
+abbrev made : Order → Bool → Option ℕ → ℕ → ℕ → Container
 made order protected volume start size =
     record { order = order; protected = protected; volume = volume; start = start; size = size }
 

@@ -3,10 +3,11 @@ use Rattle.std.proofs.Common.{◌≡◌, ℕ, ◌+◌, ◌<◌, ◌≤◌, Bool,
 use Rattle.std.proofs.Common.{inr, length-append}
 use Rattle.std.specs.Prelude.{if◌then◌else◌, nat_eq}
 use Rattle.std.proofs.lemmas.Bool.{cond-false, ne_eqb}
-use Rattle.disk_container.specs.declared.order.ContainerOrder.{ContainerOrder}
+use Rattle.a2_device.specs.declared.order.Order.{Order}
 use Rattle.disk_container.specs.Container.{HasHeader, HoldsData, IsContainer}
 use Rattle.disk_container.specs.Format.{header_of, image_size, is_protected, volume_of}
-use Rattle.disk_container.specs.Order.{IsImageLength, format_of}
+use Rattle.a2_device.specs.Order.{IsImageLength}
+use Rattle.disk_container.specs.Order.{format_of}
 use Rattle.disk_container.specs.Wrapped.{CanBeWrapped, flags_of, header_bytes, wrapped_bytes}
 use Rattle.disk_container.proofs.Back.{IsVolume, flags_small, format_small, four_back, protected_back, volume_back}
 use Rattle.disk_container.proofs.Sizes.{small}
@@ -17,7 +18,7 @@ told_size : (told whole size : ℕ) → told ≡ size → 0 < size
 told_size told whole size is some =
     cond-false (nat_eq told 0) whole told (ne_eqb told 0 (λ e. omega (arith, e, is, some))) ∙ is
 
-module _ (order : ContainerOrder) (volume : Option ℕ) (comment : List ℕ) (protect : Bool) (payload : List ℕ)
+module _ (order : Order) (volume : Option ℕ) (comment : List ℕ) (protect : Bool) (payload : List ℕ)
     (can : CanBeWrapped order (length payload) (length comment)) (number : IsVolume volume) where
   wrapped_size : length (wrapped_bytes order volume comment protect payload) ≡ 64 + length payload + length comment
   wrapped_size =

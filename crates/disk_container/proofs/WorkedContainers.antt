@@ -2,7 +2,8 @@
 use Rattle.std.proofs.Common.{◌≡◌, ℕ, List, [], ◌∷◌, ◌++◌, false, true, Some, None, length, arith, refl, inl}
 use Rattle.std.proofs.Common.{length-append}
 use Rattle.disk_container.specs.declared.header.Header.{Header}
-use Rattle.disk_container.specs.declared.order.ContainerOrder.TheVariants.{Dos, Nibble, Prodos}
+use Rattle.a2_device.specs.declared.order.Order.TheVariants.{Dos, Nibble, Prodos}
+use Rattle.a2_device.specs.Order.{IsImageLength}
 use Rattle.disk_container.specs.Container.{IsContainer}
 use Rattle.disk_container.specs.Format.{header_of, image_size, is_protected, volume_of}
 use Rattle.disk_container.specs.Wrapped.{header_bytes}
@@ -59,6 +60,7 @@ old_read : (payload back : List ℕ) → length payload ≡ 8192 → length back
       start = 64;
       size = 8192;
     })
+unfolding IsImageLength
 old_read payload back payload_size back_size =
     let size = old_size payload back payload_size back_size in
     record {

@@ -4,7 +4,7 @@ use Rattle.std.specs.Prelude.{IsTrue, slice_index}
 use Rattle.std.specs.Int.{bit_at}
 use Rattle.std.specs.List.{starts_with}
 use Rattle.disk_container.specs.declared.header.Header.{Header}
-use Rattle.disk_container.specs.declared.order.ContainerOrder.{ContainerOrder}
+use Rattle.a2_device.specs.declared.order.Order.{Order}
 use Rattle.disk_container.specs.Order.{whole_size}
 
 -- the number of two bytes at an offset
@@ -35,7 +35,7 @@ header_of bytes = record {
 }
 
 -- how many bytes the image has: those of the data, and where the header says 0, those of the whole image
-abbrev pub image_size : ContainerOrder → Header → ℕ
+abbrev pub image_size : Order → Header → ℕ
 image_size order header = if header.data_size == 0 then whole_size order header.blocks else header.data_size
 
 -- ---- the flags

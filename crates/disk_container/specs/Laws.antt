@@ -1,9 +1,9 @@
 -- What the laws on containers speak of.
-use Rattle.std.specs.Prelude.{◌≡◌, ◌<◌, ℕ, ◌+◌, Bool, List, ◌++◌, Option, IfSome, drop, length, slice_range, take}
+use Rattle.std.specs.Prelude.{◌≡◌, ◌<◌, ℕ, ◌+◌, Bool, List, ◌++◌, Option, IfSome, drop, length, take}
 use Rattle.disk_container.specs.declared.container.Container.{Container}
 use Rattle.disk_container.specs.declared.error.ContainerFault.{ContainerFault}
-use Rattle.disk_container.specs.declared.order.ContainerOrder.{ContainerOrder}
-use Rattle.disk_container.specs.Container.{HasParts, IsContainer}
+use Rattle.a2_device.specs.declared.order.Order.{Order}
+use Rattle.disk_container.specs.Container.{HasParts, IsContainer, payload_in}
 use Rattle.disk_container.specs.Faults.{IsFault}
 use Rattle.disk_container.specs.Wrapped.{CanBeWrapped, wrapped_bytes}
 
@@ -21,7 +21,7 @@ IsOnlyFault bytes fault = IsFault bytes fault
 abbrev pub IsInParts : List ℕ → Container → Type 0
 IsInParts bytes container = IsContainer bytes container
     → HasParts bytes container (take container.start bytes)
-    (slice_range bytes container.start (container.start + container.size))
+    (payload_in bytes container)
     (drop (container.start + container.size) bytes)
 
 -- another payload of the same length may be put into a container, and all else that it says stays
@@ -32,7 +32,7 @@ CanBePut front payload back other container =
     → IsContainer (front ++ other ++ back) container
 
 -- what is wrapped is a container that says what it was made of
-abbrev pub IsUnwrapped : ContainerOrder → Option ℕ → List ℕ → Bool → List ℕ → Type 0
+abbrev pub IsUnwrapped : Order → Option ℕ → List ℕ → Bool → List ℕ → Type 0
 IsUnwrapped order volume comment protect payload =
     CanBeWrapped order (length payload) (length comment) → IfSome volume (λ number. number < 256)
     → IsContainer (wrapped_bytes order volume comment protect payload) (record {

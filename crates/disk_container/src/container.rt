@@ -1,11 +1,11 @@
 // What a container says.
-use crate::order::ContainerOrder;
+use a2_device::Order;
 
 /// What a container says of the image in it, its payload, and where that stands.
 #[derive(Clone, Copy, Debug, PartialEq, Eq)]
 pub struct Container {
     /// The order of the image.
-    pub order: ContainerOrder,
+    pub order: Order,
     /// Whether the image is not to be written.
     pub protected: bool,
     /// The volume number of DOS 3.3, where the header tells one.

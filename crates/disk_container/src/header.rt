@@ -1,17 +1,18 @@
 // The header of a container.
 ghost use Rattle.std.specs.Prelude.{◌≡◌, ◌≤◌, ◌<◌, ◌^◌, ◌==◌, ◌⊎◌, ◌↔◌, IfErr, IfNone, IfOk, IfSome, IsTrue, length};
 ghost use Rattle.std.specs.Int.{bit_at};
-ghost use Rattle.disk_container.specs.declared.order.ContainerOrder.{ContainerOrder};
+ghost use Rattle.a2_device.specs.declared.order.Order.{Order};
 ghost use Rattle.disk_container.specs.Container.{HasHeader, HoldsData, IsOfOrder};
 ghost use Rattle.disk_container.specs.Faults.{IsFault};
 ghost use Rattle.disk_container.specs.Format.{BeginsLikeContainer, header_of, image_size, volume_of};
 
 use crate::error::ContainerFault;
 use crate::numbers::{u16_at, u32_at};
-use crate::order::ContainerOrder;
+use crate::order::whole_size;
+use a2_device::Order;
 
-// The most bytes of a container.
-const MOST_BYTES: usize = 33_553_920 + 65_536;
+/// The most bytes of a container: those of the longest image, and 65,536 around it.
+pub const MOST_BYTES: usize = 33_553_920 + 65_536;
 
 // The bytes of a header in some old files, and of all others.
 const OLD_HEADER: u16 = 52;
@@ -97,31 +98,31 @@ impl Header {
     }
 
     /// The order of the image.
-    pub(crate) fn order(self) -> Option<ContainerOrder>
+    pub(crate) fn order(self) -> Option<Order>
         ensures some { IfSome result (IsOfOrder self) }
-        ensures none { IfNone result ((order : ContainerOrder) → ¬ IsOfOrder self order) }
+        ensures none { IfNone result ((order : Order) → ¬ IsOfOrder self order) }
     {
         match self.format {
-            0 => Some(ContainerOrder::Dos),
-            1 => Some(ContainerOrder::Prodos),
-            2 => Some(ContainerOrder::Nibble),
+            0 => Some(Order::Dos),
+            1 => Some(Order::Prodos),
+            2 => Some(Order::Nibble),
             _ => None,
         }
     }
 
     /// How many bytes an image of this order has.
-    pub(crate) fn image_size(self, order: ContainerOrder) -> u64
+    pub(crate) fn image_size(self, order: Order) -> u64
         ensures value { result ≡ image_size order self }
         ensures fits { result < 2 ^ 42 }
     {
         if self.data_size == 0 {
-            return order.whole_size(self.blocks);
+            return whole_size(order, self.blocks);
         }
         u64::from(self.data_size)
     }
 
     /// Whether the data, an image of this order, lie behind the header and wholly inside a file of so many bytes.
-    pub(crate) fn holds_data(self, order: ContainerOrder, bytes: usize) -> bool
+    pub(crate) fn holds_data(self, order: Order, bytes: usize) -> bool
         ensures { IsTrue result ↔ HoldsData self order bytes }
     {
         let start = u64::from(self.data_start);

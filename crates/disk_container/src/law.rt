@@ -2,7 +2,7 @@
 ghost use Rattle.std.specs.Prelude.{ℕ, Bool, List, Option};
 ghost use Rattle.disk_container.specs.declared.container.Container.{Container};
 ghost use Rattle.disk_container.specs.declared.error.ContainerFault.{ContainerFault};
-ghost use Rattle.disk_container.specs.declared.order.ContainerOrder.{ContainerOrder};
+ghost use Rattle.a2_device.specs.declared.order.Order.{Order};
 ghost use Rattle.disk_container.specs.Laws.{AreOne, CanBePut, IsInParts, IsOnlyFault, IsUnwrapped};
 
 /// A file is one container at most.
@@ -28,6 +28,6 @@ pub fn a_payload_can_be_put()
 
 /// What is wrapped is a container that says what it was made of.
 pub fn what_is_wrapped_is_unwrapped()
-    ensures { (order : ContainerOrder) (volume : Option ℕ) (comment : List ℕ) (protect : Bool) (payload : List ℕ)
+    ensures { (order : Order) (volume : Option ℕ) (comment : List ℕ) (protect : Bool) (payload : List ℕ)
         → IsUnwrapped order volume comment protect payload }
 {}

@@ -33,7 +33,7 @@ pub fn container_of(bytes: &[u8]) -> Result<Container, ContainerFault>
     if !header.holds_data(order, bytes.len()) {
         return Err(ContainerFault::Data);
     }
-    let size = header.image_size(order);
+    let size = header.image_size(order) as usize;
     if !order.takes(size) {
         return Err(ContainerFault::Length);
     }
@@ -42,6 +42,6 @@ pub fn container_of(bytes: &[u8]) -> Result<Container, ContainerFault>
         protected: header.has(PROTECTED),
         volume: header.volume(),
         start: header.data_start as usize,
-        size: size as usize,
+        size,
     })
 }

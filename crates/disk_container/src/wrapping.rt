@@ -6,7 +6,8 @@ ghost use Rattle.disk_container.specs.Wrapped.{wrapped_bytes};
 
 use crate::error::WrapError;
 use crate::numbers::{push_u16, push_u32};
-use crate::order::ContainerOrder;
+use crate::order::{blocks_of, format_of};
+use a2_device::Order;
 use std::alloc::{AllocError, Allocator};
 
 // The bytes of a header, behind which the image begins.
@@ -34,12 +35,13 @@ fn volume_flags(volume: Option<u8>) -> u32
     }
 }
 
+#[tactic(auto, unfolding(a2_device::specs::Order::IsImageLength))]
 // Whether an image of the order may have so many bytes, and a comment of so many leaves the file short enough.
-fn can_be_wrapped(order: ContainerOrder, size: usize, comment: usize) -> bool
+fn can_be_wrapped(order: Order, size: usize, comment: usize) -> bool
     ensures value { IsTrue result ↔ CanBeWrapped order size comment }
     ensures short { IsTrue result → (size < 2 ^ 31) × (comment < 2 ^ 31) }
 {
-    order.takes(size as u64) && comment <= MOST_COMMENT
+    order.takes(size) && comment <= MOST_COMMENT
 }
 
 // Where a comment of so many bytes begins, behind an image; 0 where there is none.
@@ -66,22 +68,22 @@ fn push_top<A: Allocator>(file: &mut Vec<u8, A>) -> Result<(), AllocError>
 // Puts order and flags of an image, and its blocks, behind a file.
 fn push_kind<A: Allocator>(
     file: &mut Vec<u8, A>,
-    order: ContainerOrder,
+    order: Order,
     volume: Option<u8>,
     protect: bool,
     size: u32,
 ) -> Result<(), AllocError>
     ensures { OnOk result (file.new.items ≡ file.old.items ++ kind_bytes order volume protect size) }
 {
-    push_u32(file, order.format())?;
+    push_u32(file, format_of(order))?;
     push_u32(file, protected_flag(protect) + volume_flags(volume))?;
-    push_u32(file, order.blocks(size))
+    push_u32(file, blocks_of(order, size))
 }
 
 // Puts what a header says of an image behind a file.
 fn push_image<A: Allocator>(
     file: &mut Vec<u8, A>,
-    order: ContainerOrder,
+    order: Order,
     volume: Option<u8>,
     protect: bool,
     size: u32,
@@ -106,7 +108,7 @@ fn push_end<A: Allocator>(file: &mut Vec<u8, A>, size: u32, comment: u32) -> Res
 // Puts a header behind a file.
 fn push_header<A: Allocator>(
     file: &mut Vec<u8, A>,
-    order: ContainerOrder,
+    order: Order,
     volume: Option<u8>,
     protect: bool,
     size: u32,
@@ -123,7 +125,7 @@ fn push_header<A: Allocator>(
 // The container of an image that may be wrapped.
 fn wrapped<A: Allocator>(
     alloc: A,
-    order: ContainerOrder,
+    order: Order,
     volume: Option<u8>,
     comment: &[u8],
     protect: bool,
@@ -154,7 +156,7 @@ fn wrapped<A: Allocator>(
 /// memory.
 pub fn wrap<A: Allocator>(
     alloc: A,
-    order: ContainerOrder,
+    order: Order,
     volume: Option<u8>,
     comment: &[u8],
     protect: bool,

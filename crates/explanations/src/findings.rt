@@ -3,7 +3,14 @@ use crate::explanation::Explanation;
 
 /// The explanations of what a job finds: faults of a volume, faults of a certificate and verdicts; and of words that
 /// are no job.
-pub static FINDINGS: [Explanation; 30] = [
+pub static FINDINGS: [Explanation; 31] = [
+    Explanation {
+        front: "2IMG",
+        meaning: "The file is a 2IMG file, and its header says this of the image in it. Where the last line names \
+            another order, the header is wrong.",
+        advice: "With a wrong header take the image out by `a2shop unwrap`, and put it into a new file by `a2shop wrap` \
+            with the right order.",
+    },
     Explanation {
         front: "FAULT Geometry",
         meaning: "The header of the volume is not that of a volume of this size: the table of contents of a DOS disk \

@@ -2,7 +2,7 @@
 use crate::explanation::Explanation;
 
 /// The explanations of a job that is not done: refusals and failures.
-pub static REFUSALS: [Explanation; 28] = [
+pub static REFUSALS: [Explanation; 34] = [
     Explanation {
         front: "REFUSED InPlace",
         meaning: "This image is not changed in its own file. That is done where the units of the volume stand in the \
@@ -18,6 +18,43 @@ pub static REFUSALS: [Explanation; 28] = [
             512 bytes.",
         advice: "Ask `a2shop identify` which ways to read the image there are. A file that is a little too long or too \
             short was often cut or wrapped by another program: fetch it again.",
+    },
+    Explanation {
+        front: "REFUSED Container Magic",
+        meaning: "The file does not begin as a 2IMG file does, with the letters 2IMG.",
+        advice: "Ask `a2shop identify` which ways to read it there are, and say one of those in place of `--order \
+            2img`.",
+    },
+    Explanation {
+        front: "REFUSED Container Header",
+        meaning: "The header of the 2IMG file has another length than 64 bytes, or 52 as in some old files, or is cut \
+            short. Nothing was written.",
+        advice: "The file was often cut on its way: fetch it again.",
+    },
+    Explanation {
+        front: "REFUSED Container Format",
+        meaning: "The header of the 2IMG file names another kind of image than one in DOS order, ProDOS order or \
+            nibble order. Nothing was written.",
+        advice: "Open it with the program that made it, and save the image in one of these orders.",
+    },
+    Explanation {
+        front: "REFUSED Container Data",
+        meaning: "By its header the image in the 2IMG file begins inside the header, or goes on past the end of the \
+            file. Nothing was written.",
+        advice: "The file was often cut on its way: fetch it again.",
+    },
+    Explanation {
+        front: "REFUSED Container Length",
+        meaning: "By its header the image in the 2IMG file has another length than an image in its order, or the file \
+            is longer than the longest image and 65,536 bytes. Nothing was written.",
+        advice: "Open it with the program that made it, and save the image in another form. Images of hard disks may \
+            be too long: the longest has 65,535 blocks of 512 bytes.",
+    },
+    Explanation {
+        front: "REFUSED Protected",
+        meaning: "The header of the 2IMG file says that the image in it is not to be written. Nothing was written.",
+        advice: "Take the image out by `a2shop unwrap`, change that, and put it into a new file by `a2shop wrap`. The \
+            protected file stays as it is.",
     },
     Explanation {
         front: "REFUSED Reserve",
@@ -168,7 +205,8 @@ pub static REFUSALS: [Explanation; 28] = [
     Explanation {
         front: "REFUSED Ambiguous",
         meaning: "`auto` found more than one way in which the image may be read, and none that is better than all \
-            others. Nothing was written.",
+            others; or the image stands in a 2IMG file, and is in another order than the header of that says. Nothing \
+            was written.",
         advice: "Run `a2shop identify` to see what is found in each way, and name the right one by `--fs` and \
             `--order`.",
     },

@@ -1,9 +1,10 @@
 -- What `identify` prints.
-use Rattle.std.specs.Prelude.{ℕ, ◌∷◌, ◌++◌, List, codes, decimal, flat_map, slice_index_or}
+use Rattle.std.specs.Prelude.{ℕ, Bool, true, false, ◌∷◌, ◌++◌, List, codes, decimal, flat_map, slice_index_or}
 use Rattle.a2_device.specs.declared.order.Order.{Order}
 use Rattle.a2_device.specs.declared.order.Order.TheVariants as orders
 use Rattle.shop_jobs.specs.declared.job.FileSystem.{FileSystem}
 use Rattle.shop_jobs.specs.declared.job.FileSystem.TheVariants as systems
+use Rattle.disk_container.specs.declared.container.Container.{Container}
 use Rattle.file_listings.specs.DosText.{Text, line}
 use Rattle.image_readings.specs.declared.reading.Standing.{Standing}
 use Rattle.image_readings.specs.declared.reading.Standing.TheVariants.{Accepted, Refused}
@@ -48,6 +49,15 @@ abbrev pub verdict_text : List Reading → Verdict → Text
 verdict_text readings (Best number) = codes "BEST " ++ way_text (slice_index_or readings number no_reading)
 verdict_text readings Ambiguous = codes "AMBIGUOUS"
 verdict_text readings NoVolume = codes "NONE"
+
+-- what a container says of its payload, on a line
+abbrev pub yes_or_no : Bool → Text
+yes_or_no true = codes "yes"
+yes_or_no false = codes "no"
+
+abbrev pub container_text : Container → Text
+container_text container = codes "2IMG order " ++ (order_word container.order ++ (codes " bytes " ++ (decimal container.size
+    ++ (codes " protected " ++ (yes_or_no container.protected ++ codes "\n")))))
 
 -- a line for each reading, then the verdict
 abbrev pub identify_text : List Reading → Verdict → Text

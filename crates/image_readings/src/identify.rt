@@ -1,15 +1,29 @@
 // The job that tells how an image can be read.
-ghost use Rattle.std.specs.Prelude.{◌≡◌, OnOk, IfOk, filter, length, true};
+ghost use Rattle.std.specs.Prelude.{◌≡◌, ◌++◌, OnOk, IfOk, filter, length, string_bytes, true};
+ghost use Rattle.disk_container.specs.Container.{IsContainer, payload_in};
 ghost use Rattle.image_readings.specs.Adding.{Adds};
-ghost use Rattle.image_readings.specs.IdentifyReply.{AreReadingsIn, IsIdentifyReply, TellsRanked, allows, way_of};
+ghost use Rattle.image_readings.specs.IdentifyReply.{
+  AreReadingsIn,
+  IsIdentifyReply,
+  IsImageReply,
+  TellsRanked,
+  allows,
+  way_of,
+};
+ghost use Rattle.image_readings.specs.IdentifyText.{
+  container_text as text_of_container,
+  identify_text as text_of_all,
+};
+ghost use Rattle.image_readings.specs.Ranking.{IsVerdict};
 ghost use Rattle.image_readings.specs.Readings.{IsReadingOf};
 
-use crate::identify_text::identify_text;
+use crate::identify_text::{container_text, identify_text};
 use crate::ranking::{Verdict, rank};
 use crate::reading::Reading;
 use crate::volume::reading_of;
 use a2_device::{BLOCK_BYTES, IMAGE_BYTES, NIBBLE_BYTES, Order};
 use a2_image::{Image, ImageError};
+use disk_container::{Container, begins_like_container, container_of, keep_payload};
 use shop_jobs::FileSystem;
 use shop_replies::{Failure, Refusal, Reply};
 use std::alloc::{AllocError, Global};
@@ -124,28 +138,70 @@ pub fn readings_of(
     Ok(readings)
 }
 
-// The reply with the readings of an image and the verdict.
-fn ranked_reply(alloc: Global, readings: &[Reading]) -> Reply
-    ensures { TellsRanked readings.now result }
+// The text of the readings and the verdict, behind another.
+fn text_behind(
+    alloc: Global,
+    head: &str,
+    readings: &[Reading],
+    verdict: Verdict,
+) -> Result<String, AllocError>
+    requires { IsVerdict readings.now verdict }
+    ensures { IfOk result (λ text. string_bytes text ≡ head.now ++ text_of_all readings.now verdict) }
+{
+    let text = identify_text(alloc, readings, verdict)?;
+    format!(in alloc; "{head}{text}")
+}
+
+// The reply with the readings of an image and the verdict, behind a text.
+fn ranked_reply(alloc: Global, head: &str, readings: &[Reading]) -> Reply
+    ensures { TellsRanked head.now readings.now result }
 {
     let verdict = rank(readings);
-    match (identify_text(alloc, readings, verdict), verdict) {
+    match (text_behind(alloc, head, readings, verdict), verdict) {
         (Ok(text), Verdict::Best(_)) => Reply::done(text),
         (Ok(text), _) => Reply::wrong(text),
         (Err(_), _) => Reply::failed(Failure::Memory),
     }
 }
 
-/// The readings of an image in each way that its length allows, and which of them is best.
-///
-/// `Done` where one is, else `Faulty`; `Refused` with `Length` where the length allows none; `Failed` for want of
-/// memory.
-pub fn identify_reply(alloc: Global, mut image: Vec<u8>) -> Reply
-    ensures { IsIdentifyReply image.items result }
+// The readings of an image in each way that its length allows, and which of them is best, behind a text.
+fn image_reply(alloc: Global, head: &str, mut image: Vec<u8>) -> Reply
+    ensures { IsImageReply head.now image.items result }
 {
     match readings_of(alloc, &mut image, &WAYS) {
         Ok(readings) if readings.is_empty() => Reply::refused(Refusal::Length),
-        Ok(readings) => ranked_reply(alloc, readings.as_slice()),
+        Ok(readings) => ranked_reply(alloc, head, readings.as_slice()),
         Err(_) => Reply::failed(Failure::Memory),
+    }
+}
+
+// The same of the payload of a container, behind what the container says.
+fn payload_reply(alloc: Global, mut file: Vec<u8>, container: Container) -> Reply
+    requires { IsContainer file.items container }
+    ensures { IsImageReply (text_of_container container) (payload_in file.items container) result }
+{
+    match container_text(alloc, container) {
+        Ok(head) => {
+            keep_payload(&mut file, container);
+            image_reply(alloc, head.as_str(), file)
+        }
+        Err(_) => Reply::failed(Failure::Memory),
+    }
+}
+
+/// The readings of an image in each way that its length allows, and which of them is best; of a container what it says,
+/// and the readings of its payload.
+///
+/// `Done` where one is best, else `Faulty`; `Refused` with `Length` where the length allows none, with `Container` where
+/// the file begins like a container and is none; `Failed` for want of memory.
+pub fn identify_reply(alloc: Global, file: Vec<u8>) -> Reply
+    ensures { IsIdentifyReply file.items result }
+{
+    if !begins_like_container(file.as_slice()) {
+        return image_reply(alloc, "", file);
+    }
+    match container_of(file.as_slice()) {
+        Ok(container) => payload_reply(alloc, file, container),
+        Err(fault) => Reply::refused(Refusal::Container(fault)),
     }
 }

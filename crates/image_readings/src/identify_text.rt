@@ -2,6 +2,7 @@
 ghost use Rattle.std.specs.Prelude.{◌≡◌, Some, IfOk, flat_map, string_bytes};
 ghost use Rattle.image_readings.specs.Ranking.{IsVerdict};
 ghost use Rattle.image_readings.specs.IdentifyText.{
+  container_text as text_of_container,
   file_system_word as word_of_file_system,
   identify_text as text_of_all,
   order_word as word_of_order,
@@ -9,11 +10,13 @@ ghost use Rattle.image_readings.specs.IdentifyText.{
   found_text,
   reading_line,
   way_text,
+  yes_or_no as word_of_answer,
 };
 
 use crate::ranking::Verdict;
 use crate::reading::{Finding, Found, Reading, Standing};
 use a2_device::Order;
+use disk_container::Container;
 use shop_jobs::FileSystem;
 use std::alloc::{AllocError, Global};
 use std::fmt;
@@ -37,6 +40,12 @@ pub fn order_word(order: Order) -> &'static str
         Order::Prodos => "prodos",
         Order::Nibble => "nibble",
     }
+}
+
+fn yes_or_no(answer: bool) -> &'static str
+    ensures { result.now ≡ word_of_answer answer }
+{
+    if answer { "yes" } else { "no" }
 }
 
 // The words of a way to read an image.
@@ -106,6 +115,19 @@ fn reading_lines(alloc: Global, readings: &[Reading]) -> Result<String, AllocErr
         writeln!(text, "{way} {finding}")?;
     }
     Ok(text)
+}
+
+/// What a container says of its payload, on a line.
+///
+/// # Errors
+/// Want of memory alone.
+pub fn container_text(alloc: Global, container: Container) -> Result<String, AllocError>
+    ensures { IfOk result (λ text. string_bytes text ≡ text_of_container container) }
+{
+    let order = order_word(container.order);
+    let size = container.size;
+    let protected = yes_or_no(container.protected);
+    format!(in alloc; "2IMG order {order} bytes {size} protected {protected}\n")
 }
 
 /// A line for each reading, then the verdict.

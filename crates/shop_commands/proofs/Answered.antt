@@ -4,11 +4,10 @@ use Rattle.std.proofs.lemmas.Bool.{false≢true}
 use Rattle.std.proofs.lemmas.Option.{same_Some}
 use Rattle.std.specs.Io.KnownBytes.{Appends, Keeps}
 use Rattle.std.specs.Prelude.{◌⊎◌, Option, Some, None, IfSome, IsSome, codes}
-use Rattle.a2_device.specs.declared.order.Order.{Order}
 use Rattle.file_forms.specs.declared.form.GivenForm.{GivenForm}
 use Rattle.shop_changes.specs.GivenFile.{most_input}
 use Rattle.shop_changes.specs.SaidFile.{SaidView}
-use Rattle.shop_jobs.specs.Job.{AskView, AttributesView, ChangeOf, ChangeView, Convert, EditOf, EditView, ExtractFrom, Identify, JobView, LookAt, LookView, Catalog, Entries, Check, Map, Compare, Read, Plan, Verify, Optimize, Save}
+use Rattle.shop_jobs.specs.Job.{AskView, AttributesView, ChangeOf, ChangeView, Convert, EditOf, EditView, ExtractFrom, Identify, JobView, LookAt, LookView, Catalog, Entries, Check, Map, Compare, Read, Plan, Verify, Optimize, Save, Survey, Unwrap, Wrap}
 use Rattle.shop_jobs.specs.Paths.{from_of, is_in_place, new_file_of}
 use Rattle.shop_jobs.specs.declared.job.FileSystem.{FileSystem}
 use Rattle.shop_jobs.specs.declared.job.VolumeOptions.{VolumeOptions}
@@ -20,10 +19,9 @@ use Rattle.shop_replies.specs.declared.refusal.Refusal.TheVariants as refusals
 use Rattle.shop_replies.specs.declared.reply.Reply.{Reply}
 use Rattle.shop_replies.specs.declared.reply.Status.{Status}
 use Rattle.shop_replies.specs.declared.reply.Told.{Told}
-use Rattle.shop_replies.specs.Disk.{most_bytes}
 use Rattle.shop_replies.specs.Reply.{HandsOut, Held, IsDelivered, IsMade, IsMadeReply, held, refused, status_number, told_text}
-use Rattle.shop_replies.proofs.Fronts.{convert-whole}
-use Rattle.shop_replies.proofs.NotMade.{converted_image, refused_not_made}
+use Rattle.shop_replies.proofs.Fronts.{convert-whole, unwrap-whole, wrap-whole}
+use Rattle.shop_replies.proofs.NotMade.{converted_image, refused_not_made, unwrapped_image, wrapped_image}
 use Rattle.file_formats.specs.FileNames.{FileNameView}
 use Rattle.shop_reads.specs.FileNames.{named_by}
 use Rattle.shop_reads.specs.Look.{IsLookReply, shown_by}
@@ -39,9 +37,9 @@ use Rattle.shop_image.proofs.Fronts.{saved-take, volume-told, volume-whole, with
 use Rattle.shop_image.proofs.NotMade.{edited_image, said_image, sided_made, sided_same, volume_made}
 use Rattle.image_readings.proofs.Fronts.{identify-whole}
 use Rattle.image_readings.proofs.NotMade.{identify_not_made}
-use Rattle.shop_replies.specs.Reading.{IsReadFailure, most_beside}
+use Rattle.shop_replies.specs.Reading.{IsReadFailure, most_beside, most_of_image}
 use Rattle.shop_replies.specs.declared.refusal.Side.{Side}
-use Rattle.shop_commands.specs.Answer.{AreToldNoJob, AsksFor, HandsOutFor, IsAnswer, IsCommandAnswer, IsSaid, IsInPlaceAnswer, IsReplyToBytes, IsWordsAnswer, MakesImage, TellsNoJob, beside, image_order_of, unread_reply}
+use Rattle.shop_commands.specs.Answer.{AreToldNoJob, AsksFor, HandsOutFor, IsAnswer, IsCommandAnswer, IsSaid, IsInPlaceAnswer, IsReplyToBytes, IsWordsAnswer, MakesImage, TellsNoJob, beside, unread_reply}
 
 -- what is told of the work of a change
 abbrev IsWorkTold : VolumeOptions → Option (List ℕ) → List ℕ → WorkView → Reply → Type 0
@@ -76,13 +74,16 @@ asked-whole volume reserve image (Save name attributes form from) front bytes re
 
 -- the bytes that are read of an image
 abbrev pub front_for : AskView → List ℕ → List ℕ
-front_for ask image = take (most_bytes (image_order_of ask) + 1) image
+front_for ask image = take (most_of_image ask + 1) image
 
 -- the reply to the bytes that were read is the reply to all
 reply-whole : (ask : AskView) (image more bytes : List ℕ) (reply : Reply) → more ≡ take (most_beside ask + 1) bytes
     → IsReplyToBytes ask (front_for ask image) more reply → IsReplyToBytes ask image bytes reply
 reply-whole Identify image more bytes reply taken is = identify-whole image reply is
+reply-whole (Survey form) image more bytes reply taken is = is
 reply-whole (Convert words) image more bytes reply taken is = convert-whole words.order words.to words.volume image reply is
+reply-whole (Wrap words out) image more bytes reply taken is = wrap-whole words image reply is
+reply-whole (Unwrap out) image more bytes reply taken is = unwrap-whole image reply is
 reply-whole (LookAt volume reserve look) image more bytes reply taken looked = record {
   plain = looked.plain;
   is = volume-told volume reserve image (λ (reserved : List Bool). IsLookReply look more (shown_by volume reserved))
@@ -101,13 +102,13 @@ if_known : {P Q : List ℕ → Type 0} (known : Option (List ℕ)) → ((bytes :
 if_known None each is = tt
 if_known (Some bytes) each is = each bytes is
 
-pub job_answered : (ask : AskView) (known extra : Option (List ℕ)) (order : Order) (front more : List ℕ) (reply : Reply) (status : ℕ) (old new : Held)
-    → is_in_place ask ≡ false → order ≡ image_order_of ask → IfSome known (λ image. front ≡ take (most_bytes order + 1) image)
+pub job_answered : (ask : AskView) (known extra : Option (List ℕ)) (most : ℕ) (front more : List ℕ) (reply : Reply) (status : ℕ) (old new : Held)
+    → is_in_place ask ≡ false → most ≡ most_of_image ask → IfSome known (λ image. front ≡ take (most + 1) image)
     → IfSome (beside (from_of ask) extra) (λ bytes. more ≡ take (most_beside ask + 1) bytes) → IsReplyToBytes ask front more reply
     → IsDelivered reply status old new → IfSome known (λ image. IsAnswer ask image extra status old new)
-job_answered ask None extra order front more reply status old new outside same taken taken' is told = tt
-job_answered ask (Some image) extra order front more reply status old new outside same taken taken' is told =
-    let whole : front ≡ front_for ask image = subst (λ o. front ≡ take (most_bytes o + 1) image) same taken in
+job_answered ask None extra most front more reply status old new outside same taken taken' is told = tt
+job_answered ask (Some image) extra most front more reply status old new outside same taken taken' is told =
+    let whole : front ≡ front_for ask image = subst (λ n. front ≡ take (n + 1) image) same taken in
     let of_front : IsReplyToBytes ask (front_for ask image) more reply = subst (λ bytes. IsReplyToBytes ask bytes more reply) whole is in
     (reply, inl (inr (outside, if_known (beside (from_of ask) extra) (λ (bytes : List ℕ) read. reply-whole ask image more bytes reply read of_front) taken')), told)
 
@@ -137,7 +138,10 @@ unread_not_made (LookAt volume reserve (Verify from reclaim)) side failure made 
 unread_not_made (ExtractFrom volume options into) side failure made = false≢true made
 unread_not_made (ChangeOf volume reserve change target) side failure made = false≢true made
 unread_not_made (Convert words) side failure made = false≢true made
+unread_not_made (Wrap words out) side failure made = false≢true made
+unread_not_made (Unwrap out) side failure made = false≢true made
 unread_not_made Identify side failure made = false≢true made
+unread_not_made (Survey form) side failure made = false≢true made
 
 pub none_handed : {O P : Type 0} (ask : AskView) (side : Side) (failure : Failure) (reply : Reply) (old new : O) (status : ℕ) (text_old text_new : Option (List ℕ))
     → reply ≡ unread_reply ask side failure → (new ≡ old) ⊎ (IsMade reply × HandsOut reply status text_old text_new) → (new ≡ old) ⊎ P
@@ -157,7 +161,10 @@ looked_made volume reserve look image more reply looked made =
 -- only a job that makes an image has a reply with one
 makes_image : (ask : AskView) (image more : List ℕ) (reply : Reply) → is_in_place ask ≡ false → IsReplyToBytes ask image more reply → IsMade reply → MakesImage ask
 makes_image Identify image more reply outside is made = absurd (identify_not_made image reply is made)
+makes_image (Survey form) image more reply outside is made = absurd (refused_not_made refusals.Folder reply is made)
 makes_image (Convert words) image more reply outside is made = tt
+makes_image (Wrap words out) image more reply outside is made = tt
+makes_image (Unwrap out) image more reply outside is made = tt
 makes_image (LookAt volume reserve look) image more reply outside looked made = (looked_made volume reserve look image more reply looked made).0
 makes_image (ExtractFrom volume options into) image more reply outside is made = absurd (refused_not_made refusals.Folder reply is made)
 makes_image (ChangeOf volume reserve change target) image more reply outside is made = outside
@@ -187,8 +194,13 @@ ok_handed reply status old new is out = (
 hands_for : (ask : AskView) (image more : List ℕ) (reply : Reply) (status : ℕ) (old new : Option (List ℕ)) → IsReplyToBytes ask image more reply → IsMade reply
     → HandsOut reply status old new → HandsOutFor ask status old new
 hands_for Identify image more reply status old new is made out = (reply, made, out)
+hands_for (Survey form) image more reply status old new is made out = (reply, made, out)
 hands_for (Convert words) image more reply status old new is made out =
     ok_handed reply status old new (converted_image words.order words.to words.volume image reply is made) out
+hands_for (Wrap words out') image more reply status old new is made out =
+    ok_handed reply status old new (wrapped_image words image reply is made) out
+hands_for (Unwrap out') image more reply status old new is made out =
+    ok_handed reply status old new (unwrapped_image image reply is made) out
 hands_for (LookAt volume reserve look) image more reply status old new is made out =
     ok_handed reply status old new (looked_made volume reserve look image more reply is made).1 out
 hands_for (ExtractFrom volume options into) image more reply status old new is made out = (reply, made, out)

@@ -1,3 +1,4 @@
 pub mod Answered
 pub mod DosListings
 pub mod Plans
+pub mod Contained

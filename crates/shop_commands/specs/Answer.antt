@@ -1,15 +1,15 @@
 -- What the program answers to a job on an image, and to words.
-use Rattle.std.specs.Prelude.{◌≡◌, ◌⊎◌, ℕ, true, false, List, [], Option, Some, None, IfSome, IsSome, codes, option_map, string_bytes, unwrap_or}
+use Rattle.std.specs.Prelude.{◌≡◌, ◌⊎◌, ℕ, true, false, List, [], ◌++◌, Option, Some, None, IfSome, IsSome, codes, option_map, string_bytes}
 use Rattle.std.specs.Io.KnownBytes.{Appends, Keeps}
-use Rattle.a2_device.specs.declared.order.Order.{Order}
-use Rattle.a2_device.specs.declared.order.Order.TheVariants as orders
+use Rattle.disk_container.specs.declared.container.Container.{Container}
+use Rattle.disk_container.specs.Container.{HasParts, IsContainer}
 use Rattle.file_listings.specs.DosText.{Text}
 use Rattle.file_forms.specs.declared.form.GivenForm.{GivenForm}
 use Rattle.shop_changes.specs.GivenWords.{kind_named}
 use Rattle.shop_changes.specs.SaidFile.{SaidView}
 use Rattle.pro_dates.specs.SaidDates.{IsDateOf, NamesDate}
-use Rattle.shop_jobs.specs.Job.{AskView, AttributesView, Catalog, ChangeOf, ChangeView, Compare, Convert, EditOf, ExtractFrom, Identify, JobView, LookAt, Optimize, Save}
-use Rattle.shop_jobs.specs.Paths.{from_of, is_in_place, named_order_of, new_file_of}
+use Rattle.shop_jobs.specs.Job.{AskView, AttributesView, Catalog, ChangeOf, ChangeView, Compare, Convert, EditOf, ExtractFrom, Identify, JobView, LookAt, Optimize, Save, Survey, Unwrap, Wrap}
+use Rattle.shop_jobs.specs.Paths.{from_of, is_in_place, new_file_of}
 use Rattle.shop_jobs.specs.declared.job.FileSystem.{FileSystem}
 use Rattle.shop_jobs.specs.declared.job.FileSystem.TheVariants as systems
 use Rattle.shop_jobs.specs.declared.job.VolumeOptions.{VolumeOptions}
@@ -23,6 +23,7 @@ use Rattle.shop_replies.specs.declared.refusal.Refusal.{Refusal}
 use Rattle.shop_replies.specs.declared.refusal.Refusal.TheVariants as refusals
 use Rattle.shop_replies.specs.declared.refusal.Side.{Side}
 use Rattle.shop_replies.specs.declared.reply.Reply.{Reply}
+use Rattle.shop_replies.specs.ContainerReply.{IsInShell, IsUnwrapReply, IsWrapReply}
 use Rattle.shop_replies.specs.ConvertReply.{IsConvertReply}
 use Rattle.shop_replies.specs.Reading.{IsReadFailure}
 use Rattle.shop_replies.specs.Reply.{HandsImage, Held, IsDelivered, IsWritten, failed, failure_line, of_image, refused}
@@ -35,10 +36,6 @@ use Rattle.shop_image.specs.DosCatalogReply.{IsDosCatalogReply}
 use Rattle.shop_image.specs.LookReply.{IsImageLook}
 use Rattle.shop_image.specs.VolumeReply.{IsVolumeReply}
 use Rattle.image_readings.specs.IdentifyReply.{IsIdentifyReply}
-
--- the order by which it is known how many bytes to read at most: no order allows more than ProDOS order
-abbrev pub image_order_of : AskView → Order
-image_order_of ask = unwrap_or (named_order_of ask) orders.Prodos
 
 -- after how many writes to stop; without a limit there are never so many
 abbrev pub limit_of : Option ℕ → ℕ
@@ -85,17 +82,47 @@ RefusesWords volume change refusal = ⊥
 -- ---- what is told
 
 -- What is told of each job on these bytes of an image, with these bytes of the file beside it: of a look what it tells of
--- the volume; of an extraction that there is no folder; of a change that its words are refused, or what the work that it
--- asks for tells of the volume.
+-- the volume; of an extraction and of a survey that there is no folder; of a change that its words are refused, or what the
+-- work that it asks for tells of the volume.
 abbrev pub IsReplyToBytes : AskView → List ℕ → List ℕ → Reply → Type 0
 IsReplyToBytes Identify image extra reply = IsIdentifyReply image reply
 IsReplyToBytes (Convert words) image extra reply = IsConvertReply words.order words.to words.volume image reply
+IsReplyToBytes (Survey form) image extra reply = reply ≡ refused refusals.Folder
+IsReplyToBytes (Wrap words out) image extra reply = IsWrapReply words image reply
+IsReplyToBytes (Unwrap out) image extra reply = IsUnwrapReply image reply
 IsReplyToBytes (LookAt volume reserve look) image extra reply = IsImageLook look extra volume reserve image reply
 IsReplyToBytes (ExtractFrom volume options into) image extra reply = reply ≡ refused refusals.Folder
 IsReplyToBytes (ChangeOf volume reserve change target) image extra reply =
     ((refusal : Refusal) × (reply ≡ refused refusal) × RefusesWords volume change refusal)
     ⊎ ((work : WorkView) × AsksFor volume change extra work
     × IsVolumeReply volume reserve image (λ reserved. IsChangeReply work (changed_by volume reserved)) reply)
+
+-- what stands in front of the payload of a container, the payload, and what stands behind it
+pub record Parts : Type 0 where
+  pub front : List ℕ
+  pub payload : List ℕ
+  pub back : List ℕ
+
+abbrev pub parts_of : List ℕ → List ℕ → List ℕ → Parts
+parts_of front payload back = record { front = front; payload = payload; back = back }
+
+-- the image that a change hands out stands where the payload stood; what another job hands out is no image of the container
+abbrev pub IsHandedOut : AskView → Parts → Reply → Reply → Type 0
+IsHandedOut (ChangeOf volume reserve change target) parts told reply = IsInShell parts.front parts.back told reply
+IsHandedOut ask parts told reply = reply ≡ told
+
+-- what is told of each job on a container: what is told of its payload
+abbrev pub IsReplyToPayload : AskView → Parts → List ℕ → Reply → Type 0
+IsReplyToPayload ask parts extra reply =
+    (told : Reply) × IsReplyToBytes ask parts.payload extra told × IsHandedOut ask parts told reply
+
+-- the three make a container, which says so
+abbrev pub joined : Parts → List ℕ
+joined parts = parts.front ++ parts.payload ++ parts.back
+
+abbrev pub AreOfContainer : Parts → Container → Type 0
+AreOfContainer parts container =
+    IsContainer (joined parts) container × HasParts (joined parts) container parts.front parts.payload parts.back
 
 -- the bytes of the file beside the image, where they are known; a job that names no such file has none
 abbrev pub beside : Option Text → Option (List ℕ) → Option (List ℕ)
@@ -137,15 +164,20 @@ ChangesVolume ask = ⊥
 -- the job makes an image for the output file, or the bytes of a file for a new one
 abbrev pub MakesImage : AskView → Type 0
 MakesImage Identify = ⊥
+MakesImage (Survey form) = ⊥
 MakesImage (Convert words) = Unit {0}
+MakesImage (Wrap words out) = Unit {0}
+MakesImage (Unwrap out) = Unit {0}
 MakesImage (LookAt volume reserve look) = IsSome (new_file_of look)
 MakesImage (ExtractFrom volume options into) = ⊥
 MakesImage (ChangeOf volume reserve change target) = is_in_place (ChangeOf volume reserve change target) ≡ false
 
--- the image of a job is handed out, once its text is told: `OK` for a conversion, a file that is read, an edit or a saving,
--- else that of the optimizer's reply
+-- the image of a job is handed out, once its text is told: `OK` for a conversion, a container that is made or unwrapped, a
+-- file that is read, an edit or a saving, else that of the optimizer's reply
 abbrev pub HandsOutFor : AskView → ℕ → Option (List ℕ) → Option (List ℕ) → Type 0
 HandsOutFor (Convert words) status old new = Appends old new (codes "OK\n") × ((status ≡ 0) ⊎ (status ≡ 4))
+HandsOutFor (Wrap words out) status old new = Appends old new (codes "OK\n") × ((status ≡ 0) ⊎ (status ≡ 4))
+HandsOutFor (Unwrap out) status old new = Appends old new (codes "OK\n") × ((status ≡ 0) ⊎ (status ≡ 4))
 HandsOutFor (LookAt volume reserve look) status old new = Appends old new (codes "OK\n") × ((status ≡ 0) ⊎ (status ≡ 4))
 HandsOutFor (ChangeOf volume reserve (EditOf name edit) target) status old new = Appends old new (codes "OK\n") × ((status ≡ 0) ⊎ (status ≡ 4))
 HandsOutFor (ChangeOf volume reserve (Save name attributes form from) target) status old new = Appends old new (codes "OK\n") × ((status ≡ 0) ⊎ (status ≡ 4))

@@ -10,6 +10,7 @@ ghost use Rattle.shop_commands.specs.Answer.{
   IsDosCatalogAnswer,
   IsInPlaceAnswer,
   IsReplyToBytes,
+  IsReplyToPayload,
   ExtractsVolume,
   IsStatus,
   MakesImage,
@@ -17,30 +18,21 @@ ghost use Rattle.shop_commands.specs.Answer.{
   ReadsImage,
   ReadsVolume,
   beside,
-  image_order_of,
+  parts_of,
   unread_reply as unread,
 };
 
-use crate::input::read_image;
 use crate::work::change_work;
-use a2_device::Order;
+use disk_container::Shell;
 use image_readings::identify_reply;
 use shop_image::{image_change, image_look};
-use shop_jobs::{Ask, Job, Look, from_path, image_order, is_in_place};
-use shop_replies::{Failure, Refusal, Reply, Side, convert_reply, most_beside, read_front};
+use shop_jobs::{Ask, Job, Look, from_path, is_in_place};
+use shop_replies::{
+    Failure, Refusal, Reply, Side, convert_reply, most_beside, most_of_image, read_front,
+    unwrap_reply, wrap_reply,
+};
 use std::alloc::Global;
 use std::io::{Read, Write};
-
-// The order by which it is known how many bytes of the image to read at most.
-fn order_to_read(job: &Job) -> Order
-    ensures { result ≡ image_order_of (ask_view job.now.ask) }
-{
-    match image_order(job) {
-        Some(order) => order,
-        // No order allows an image to be longer.
-        None => Order::Prodos,
-    }
-}
 
 // The bytes of the file beside the image; a job that names no such file has none.
 fn extra_for<E: Read>(alloc: Global, job: &Job, extra: &mut E) -> Result<Vec<u8>, Failure>
@@ -83,7 +75,7 @@ pub fn extracts(job: &Job) -> bool
 }
 
 /// The reply to a job on the bytes of its image, and on those of a file beside it. A job that puts files into a folder
-/// is refused with `Folder`: here there is none.
+/// or surveys one is refused with `Folder`: here there is none.
 pub fn reply_to(alloc: Global, job: &Job, image: Vec<u8>, extra: Vec<u8>) -> Reply
     ensures { IsReplyToBytes (ask_view job.now.ask) image.items extra.items result }
 {
@@ -95,12 +87,14 @@ pub fn reply_to(alloc: Global, job: &Job, image: Vec<u8>, extra: Vec<u8>) -> Rep
             volume,
             ..
         } => convert_reply(image, *order, *to, *volume),
+        Ask::Wrap { options, .. } => wrap_reply(alloc, image.as_slice(), options),
+        Ask::Unwrap { .. } => unwrap_reply(image),
         Ask::Look {
             volume,
             reserve,
             look,
         } => image_look(alloc, look, extra, image, *volume, reserve.as_deref()),
-        Ask::Extract { .. } => Reply::refused(Refusal::Folder),
+        Ask::Extract { .. } | Ask::Survey { .. } => Reply::refused(Refusal::Folder),
         Ask::Change {
             volume,
             reserve,
@@ -110,6 +104,25 @@ pub fn reply_to(alloc: Global, job: &Job, image: Vec<u8>, extra: Vec<u8>) -> Rep
             Ok(work) => image_change(alloc, work, image, *volume, reserve.as_deref()),
             Err(refusal) => Reply::refused(refusal),
         },
+    }
+}
+
+/// The reply to a job on the payload of a container, and on the bytes of a file beside it: what is told of the payload.
+/// The image that a change hands out stands in the shell of the container, or there is no memory for that.
+pub fn reply_to_payload(
+    alloc: Global,
+    job: &Job,
+    payload: Vec<u8>,
+    extra: Vec<u8>,
+    shell: &Shell,
+) -> Reply
+    ensures { IsReplyToPayload (ask_view job.now.ask)
+        (parts_of shell.now.front.items payload.items shell.now.back.items) extra.items result }
+{
+    let reply = reply_to(alloc, job, payload, extra);
+    match &job.ask {
+        Ask::Change { .. } => reply.in_shell(alloc, shell),
+        _ => reply,
     }
 }
 
@@ -141,7 +154,7 @@ pub fn run_job<I: Read, E: Read, T: Write, O: Write>(
     if is_in_place(job) {
         return Reply::refused(Refusal::InPlace).deliver(text, out);
     }
-    let bytes = match read_image(alloc, image, order_to_read(job)) {
+    let bytes = match read_front(alloc, image, most_of_image(job)) {
         Ok(bytes) => bytes,
         Err(failure) => return unread_reply(job, Side::First, failure).deliver(text, out),
     };

@@ -4,8 +4,9 @@
 //! change are those of `shop_image`, a conversion is that of `shop_replies`, and `identify` that of `image_readings`;
 //! `change_work` makes the work of a change, or refuses its words. `run_job` reads the bytes, writes the text of the
 //! reply once and hands its image to the output file. `job_of_words` is the job that words ask for, or tells why there
-//! is none: the program runs it, and `run_command` is `job_of_words` followed by `run_job`. On the device that has the
-//! volume, `read_job_on_device` tells of a look, and `run_job_in_place` does a change.
+//! is none: the program runs it, and `run_command` is `job_of_words` followed by `run_job`. Of a container the payload is
+//! read, and `reply_to_payload` hands out the one that a change makes in the shell of the old one. On the device that has
+//! the volume, `read_job_on_device` tells of a look, and `run_job_in_place` does a change.
 //!
 //! The model: `specs/Answer.antt` says which reply comes, by the job and the bytes, and what words are answered;
 //! `specs/OnDevice.antt` says it of a device.
@@ -17,14 +18,15 @@
 
 mod command;
 mod extracting;
-mod input;
 mod job;
+mod law;
 mod on_device;
 mod telling;
 mod work;
 
 pub use command::{job_of_words, run_command, tell_words_fault};
 pub use extracting::{NotExtracted, extract_on_device};
-pub use job::{extracts, only_reads, reply_to, run_job, unread_reply};
+pub use job::{extracts, only_reads, reply_to, reply_to_payload, run_job, unread_reply};
+pub use law::a_changed_container_is_one;
 pub use on_device::{read_job_on_device, run_job_in_place};
 pub use work::change_work;

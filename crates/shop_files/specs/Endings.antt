@@ -75,5 +75,6 @@ nothing_found = record {
   fault = None;
   unwritten = None;
   fault_files = None;
+  foreign = None;
   is_content = false;
 }

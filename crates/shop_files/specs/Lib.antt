@@ -4,3 +4,4 @@ pub mod Roles
 pub mod Endings
 pub mod Written
 pub mod Known
+pub mod Foreign

@@ -4,9 +4,9 @@ ghost use Rattle.shop_replies.specs.Reading.{IsReadFailure};
 ghost use Rattle.shop_jobs.specs.Job.{ask_view};
 ghost use Rattle.shop_jobs.specs.Paths.{from_of};
 
-use a2_device::Order;
+use disk_container::MOST_BYTES;
 use shop_jobs::{Job, from_path, other_is_on_standard_input};
-use shop_replies::{Failure, most_beside, most_bytes, read_front};
+use shop_replies::{Failure, most_beside, read_front};
 use std::fs::File;
 
 // The bytes of the file that a job reads beside its image, up to one past so many; none where it reads none.
@@ -40,7 +40,7 @@ pub fn extra_bytes(rt: &HostRuntime, job: &Job) -> Result<Vec<u8>, Failure>
     front_of_extra(rt, job, most_beside(job))
 }
 
-/// The same of another image whose order is not known: up to one past the most that an image may have.
+/// The same of another image whose order is not known: up to one past the most that a container may have.
 ///
 /// # Errors
 /// Those of `extra_bytes`.
@@ -49,5 +49,5 @@ pub fn other_bytes(rt: &HostRuntime, job: &Job) -> Result<Vec<u8>, Failure>
     ensures failed { IfErr result (λ failure. (from_of (ask_view job.now.ask) ≢ None)
         × IsReadFailure failure) }
 {
-    front_of_extra(rt, job, most_bytes(Order::Prodos) as u32)
+    front_of_extra(rt, job, MOST_BYTES as u32)
 }

@@ -6,14 +6,14 @@ ghost use Rattle.shop_files.specs.Images.{StandsInItsFile};
 
 use crate::{ImageFault, Node};
 use a2_device::Device;
-use a2_media::{FileDevice, FileError, SystemFile, UnitKind};
+use a2_media::{Extent, FileDevice, FileError, SystemFile, UnitKind, Window};
 use shop_jobs::{FileSystem, VolumeOptions};
 use shop_replies::{Failure, read_front};
 use std::fs::{self, File, OpenOptions, TryLockError};
 use std::io;
 
 /// The units of an image's file, where they stand in it.
-pub type ImageDevice = FileDevice<SystemFile>;
+pub type ImageDevice = FileDevice<Window<SystemFile>>;
 
 /// How the file of an image is used.
 #[derive(Clone, Copy, Debug, PartialEq, Eq)]
@@ -111,20 +111,25 @@ impl OpenImage {
         }
     }
 
-    /// The units of a volume, where they stand in the file of the image.
+    /// The units of a volume, where they stand in the file of the image, or in a part of it.
     ///
     /// # Errors
     /// Those of `FileDevice::of_image`; `InPlace` for standard input too.
-    pub fn device(&self, volume: VolumeOptions) -> Result<ImageDevice, FileError>
+    pub fn device(
+        &self,
+        part: Option<Extent>,
+        volume: VolumeOptions,
+    ) -> Result<ImageDevice, FileError>
         ensures in_place { IsErrOf result FileError.InPlace
             ↔ (self.now ≡ OpenImage.StandardInput) ⊎ (¬ StandsInItsFile volume) }
         ensures units { IfOk result (λ device.
-            HasUnitsOf volume.file_system (⟦<FileDevice<SystemFile> as Device>⟧.state device)) }
+            HasUnitsOf volume.file_system
+            (⟦<FileDevice<Window<SystemFile>> as Device>⟧.state device)) }
     {
         let OpenImage::File(file) = self else {
             return Err(FileError::InPlace);
         };
         let kind = unit_kind(volume.file_system);
-        FileDevice::of_image(file, volume.order, kind)
+        FileDevice::of_image(file, part, volume.order, kind)
     }
 }

@@ -3,6 +3,7 @@ ghost use Rattle.std.specs.Prelude.{◌≡◌};
 ghost use Rattle.shop_files.specs.Endings.{nothing_found};
 
 use crate::ending::Unwritten;
+use crate::foreign::Foreign;
 use a2_device::Order;
 use explanations::{Explanation, FINDINGS, REFUSALS, explained};
 use shop_replies::most_bytes;
@@ -43,6 +44,8 @@ pub struct Found {
     pub unwritten: Option<Unwritten>,
     /// The lines that name the files of faults: a fault as it is told, and the path of its file behind it.
     pub fault_files: Option<String>,
+    /// Another kind of file that the image is, where it was read.
+    pub foreign: Option<Foreign>,
     /// Whether what is told is the bytes of a file, and no words of the program's.
     pub is_content: bool,
 }
@@ -63,6 +66,7 @@ impl Found {
             fault: None,
             unwritten: None,
             fault_files: None,
+            foreign: None,
             is_content: false,
         }
     }
@@ -138,6 +142,17 @@ fn tell_file(rt: &HostRuntime, found: &Found, front: &str) -> io::Result<()> {
     Ok(())
 }
 
+// Tells which other kind of file the image is, if it is one.
+fn tell_kind(rt: &HostRuntime, foreign: Option<Foreign>) -> io::Result<()> {
+    match foreign {
+        Some(foreign) => {
+            let text = foreign.text();
+            eprintln!(rt; "{text}")
+        }
+        None => Ok(()),
+    }
+}
+
 // Tells what each of the words of a table means that begin a line of what was told.
 fn tell_rows(
     rt: &HostRuntime,
@@ -152,6 +167,7 @@ fn tell_rows(
         if front == LENGTH {
             let wanted = wanted_length(found.order);
             eprintln!(rt; "{wanted}")?;
+            tell_kind(rt, found.foreign)?;
         }
         let colon = if front.ends_with(':') { "" } else { ":" };
         eprintln!(rt; "{front}{colon} {meaning} {advice}")?;
@@ -269,6 +285,15 @@ fn tell(rt: &HostRuntime, found: &Found, told: &[u8]) -> io::Result<()> {
 /// Explains on standard error what was told. Where that can't be written, nothing else changes.
 pub fn explain(rt: &HostRuntime, found: &Found, told: &[u8]) {
     let _ = tell(rt, found, told);
+}
+
+/// Tells on standard error of which other kind a file is that a survey found to be no image, and where it is.
+pub fn tell_foreign(rt: &HostRuntime, path: &str, foreign: Foreign) {
+    let Ok(name) = escaped(rt.alloc(), path) else {
+        return;
+    };
+    let text = foreign.text();
+    let _ = eprintln!(rt; "{name}: {text}");
 }
 
 /// Warns on standard error that `identify` names another way to read the image than the words of a job do.

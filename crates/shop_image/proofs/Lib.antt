@@ -1,5 +1,6 @@
 pub mod Fronts
 pub mod NotMade
+pub mod SameLength
 pub mod DosListings
 mod Fresh
 mod Optimized

@@ -25,7 +25,7 @@ use Rattle.shop_jobs.specs.Job.{LookView, Catalog, Entries, Check, Compare, Map,
 use Rattle.shop_image.specs.LookReply.{sided}
 use Rattle.shop_image.specs.VolumeReply.{IsUntaken, IsVolumeReply}
 
-untaken_not_made : (volume : VolumeOptions) (reserve : Option (List ℕ)) (image : List ℕ) (reply : Reply) → IsUntaken volume reserve image reply → ¬ IsMade reply
+pub untaken_not_made : (volume : VolumeOptions) (reserve : Option (List ℕ)) (image : List ℕ) (reply : Reply) → IsUntaken volume reserve image reply → ¬ IsMade reply
 untaken_not_made volume reserve image reply is made = elim is [
   | inl refused ↦ refused_not_made refusals.Reserve reply refused.0 made
   | inr (inl refused) ↦ refused_not_made refusals.Length reply refused.0 made
@@ -75,7 +75,7 @@ no_text_made line reply is made = elim is [
   | inr failed ↦ failed_not_made failures.Memory reply failed made
 ]
 
-none_made : (said : SaidView) (form : Option GivenForm) (reply : Reply) → IsNotGivenBy said form reply → ¬ IsMade reply
+pub none_made : (said : SaidView) (form : Option GivenForm) (reply : Reply) → IsNotGivenBy said form reply → ¬ IsMade reply
 none_made said None reply is made = is
 none_made said (Some form) reply is made = elim is [
   | inl bad ↦ no_text_made bad.line reply bad.told made

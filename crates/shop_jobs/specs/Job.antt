@@ -3,6 +3,7 @@ use Rattle.std.specs.Prelude.{ℕ, Bool, List, Option, string_bytes, option_map}
 use Rattle.a2_device.specs.declared.order.Order.{Order}
 use Rattle.file_forms.specs.declared.form.GivenForm.{GivenForm}
 use Rattle.shop_jobs.specs.declared.job.VolumeOptions.{VolumeOptions}
+use Rattle.shop_jobs.specs.declared.job.WrapOptions.{WrapOptions}
 use Rattle.shop_jobs.specs.declared.job.ListOptions.{ListOptions}
 use Rattle.shop_jobs.specs.declared.job.CompareOptions.{CompareOptions}
 use Rattle.shop_jobs.specs.declared.job.ExtractOptions.{ExtractOptions}
@@ -12,6 +13,7 @@ use Rattle.shop_jobs.specs.declared.job.Edit.{Edit}
 use Rattle.shop_jobs.specs.declared.job.Edit.TheVariants as edits
 use Rattle.shop_jobs.specs.declared.job.ReadForm.{ReadForm}
 use Rattle.shop_jobs.specs.declared.job.SaveAttributes.{SaveAttributes}
+use Rattle.shop_jobs.specs.declared.job.SurveyForm.{SurveyForm}
 use Rattle.shop_jobs.specs.declared.job.Target.{Target}
 use Rattle.shop_jobs.specs.declared.job.Target.TheVariants as targets
 use Rattle.shop_jobs.specs.declared.job.Look.{Look}
@@ -110,18 +112,40 @@ pub record ConversionView : Type 0 where
   pub out : Text
   pub volume : ℕ
 
--- what is asked: of an extraction how it is made, and the path of the folder
+-- how an image is put into a container
+pub record WrappingView : Type 0 where
+  pub order : Order
+  pub volume : Option ℕ
+  pub comment : Text
+  pub protect : Bool
+
+abbrev pub wrapping_view : WrapOptions → WrappingView
+wrapping_view options = record {
+  order = options.order;
+  volume = options.volume;
+  comment = string_bytes options.comment;
+  protect = options.protect;
+}
+
+-- what is asked: of an extraction how it is made, and the path of the folder; of a container that is made how, and of one
+-- that is made or unwrapped the path of the new file
 pub data AskView : Type 0 where
   Identify : AskView
+  Survey : SurveyForm → AskView
   Convert : ConversionView → AskView
+  Wrap : WrappingView → Text → AskView
+  Unwrap : Text → AskView
   LookAt : VolumeOptions → Option Text → LookView → AskView
   ExtractFrom : VolumeOptions → ExtractOptions → Text → AskView
   ChangeOf : VolumeOptions → Option Text → ChangeView → TargetView → AskView
 
 abbrev pub ask_view : Ask → AskView
 ask_view asks.Identify = Identify
+ask_view (asks.Survey form) = Survey form
 ask_view (asks.Convert order to out volume) =
     Convert (record { order = order; to = to; out = string_bytes out; volume = volume })
+ask_view (asks.Wrap options out) = Wrap (wrapping_view options) (string_bytes out)
+ask_view (asks.Unwrap out) = Unwrap (string_bytes out)
 ask_view (asks.Look volume reserve look) = LookAt volume (option_map string_bytes reserve) (look_view look)
 ask_view (asks.Extract volume options into) = ExtractFrom volume options (string_bytes into)
 ask_view (asks.Change volume reserve change target) =

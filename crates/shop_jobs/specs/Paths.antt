@@ -16,10 +16,13 @@ use Rattle.shop_jobs.specs.Job.{
   Optimize,
   Read,
   Save,
+  Survey,
   TargetView,
   Text,
   ToFile,
+  Unwrap,
   Verify,
+  Wrap,
 }
 
 -- the path of the file that a job reads beside the image
@@ -41,14 +44,20 @@ new_file_of look = None
 -- the path of the file that a job writes
 abbrev pub out_of : AskView → Option Text
 out_of (Convert words) = Some words.out
+out_of (Wrap words out) = Some out
+out_of (Unwrap out) = Some out
 out_of (ChangeOf volume reserve change target) = file_of target
 out_of (LookAt volume reserve look) = new_file_of look
 out_of (ExtractFrom volume options into) = None
 out_of Identify = None
+out_of (Survey form) = None
 
--- the file that a job writes is to be a new one: a job that reads a file of its volume overwrites none
+-- the file that a job writes is to be a new one: a job that reads a file of its volume overwrites none, and so does one
+-- that makes a container or takes an image out of one
 abbrev pub MakesNewFile : AskView → Type 0
 MakesNewFile (LookAt volume reserve look) = IsSome (new_file_of look)
+MakesNewFile (Wrap words out) = Unit {0}
+MakesNewFile (Unwrap out) = Unit {0}
 MakesNewFile ask = ⊥
 
 -- the path of the folder that a job makes
@@ -81,7 +90,10 @@ volume_of (LookAt volume reserve look) = Some volume
 volume_of (ExtractFrom volume options into) = Some volume
 volume_of (ChangeOf volume reserve change target) = Some volume
 volume_of (Convert words) = None
+volume_of (Wrap words out) = None
+volume_of (Unwrap out) = None
 volume_of Identify = None
+volume_of (Survey form) = None
 
 -- the places that a job reserves, as its words name them
 abbrev pub reserve_of : AskView → Option Text
@@ -89,7 +101,10 @@ reserve_of (LookAt volume reserve look) = reserve
 reserve_of (ExtractFrom volume options into) = None
 reserve_of (ChangeOf volume reserve change target) = reserve
 reserve_of (Convert words) = None
+reserve_of (Wrap words out) = None
+reserve_of (Unwrap out) = None
 reserve_of Identify = None
+reserve_of (Survey form) = None
 
 -- the order that a job names for its image
 abbrev pub named_order_of : AskView → Option Order
@@ -97,4 +112,7 @@ named_order_of (LookAt volume reserve look) = Some volume.order
 named_order_of (ExtractFrom volume options into) = Some volume.order
 named_order_of (ChangeOf volume reserve change target) = Some volume.order
 named_order_of (Convert words) = Some words.order
+named_order_of (Wrap words out) = Some words.order
+named_order_of (Unwrap out) = None
 named_order_of Identify = None
+named_order_of (Survey form) = None

@@ -196,6 +196,28 @@ pub enum Change {
     },
 }
 
+/// How an image is put into a container.
+#[derive(Debug, PartialEq, Eq, Drop)]
+pub struct WrapOptions {
+    /// The order of the image.
+    pub order: Order,
+    /// The volume number of DOS 3.3 that the container tells, if it tells one.
+    pub volume: Option<u8>,
+    /// The comment behind the image; an empty one is none.
+    pub comment: String,
+    /// Whether the container says that its image is not to be written.
+    pub protect: bool,
+}
+
+/// In which form a survey is told.
+#[derive(Clone, Copy, Debug, PartialEq, Eq)]
+pub enum SurveyForm {
+    /// Words.
+    Lines,
+    /// An object of JSON on a line.
+    Json,
+}
+
 /// What is asked, with what is its own of each command.
 #[derive(Debug, PartialEq, Eq, Drop)]
 pub enum Ask {
@@ -211,6 +233,21 @@ pub enum Ask {
         out: String,
         /// The volume number of tracks that are made.
         volume: u8,
+    },
+    /// The image in a container.
+    Wrap {
+        options: WrapOptions,
+        /// The path of the new file.
+        out: String,
+    },
+    /// Which images there are at a path, and which are the same.
+    Survey {
+        form: SurveyForm,
+    },
+    /// The image that a container has.
+    Unwrap {
+        /// The path of the new file.
+        out: String,
     },
     /// What the image's volume holds.
     Look {
@@ -239,7 +276,7 @@ pub enum Ask {
 /// A command with its words.
 #[derive(Debug, PartialEq, Eq, Drop)]
 pub struct Job {
-    /// The path of the image's file; `-` is standard input.
+    /// The path of the image's file, of a survey that of a file or a folder; `-` is standard input.
     pub image: String,
     pub ask: Ask,
 }

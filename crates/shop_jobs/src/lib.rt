@@ -10,7 +10,7 @@ mod paths;
 
 pub use job::{
     Ask, Change, CompareOptions, Edit, ExtractOptions, FileName, FileSystem, Job, ListForm,
-    ListOptions, Look, ReadForm, SaveAttributes, Target, VolumeOptions,
+    ListOptions, Look, ReadForm, SaveAttributes, SurveyForm, Target, VolumeOptions, WrapOptions,
 };
 pub use paths::{
     certificate_path, from_path, image_order, into_path, is_in_place, is_on_standard_input,

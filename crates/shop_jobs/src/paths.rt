@@ -84,17 +84,20 @@ pub fn out_path(job: &Job) -> Option<&str>
     ensures { option_map (λ s. s.now) result ≡ out_of (ask_view job.now.ask) }
 {
     match &job.ask {
-        Ask::Convert { out, .. } => Some(out.as_str()),
+        Ask::Convert { out, .. } | Ask::Wrap { out, .. } | Ask::Unwrap { out } => {
+            Some(out.as_str())
+        }
         Ask::Look {
             look: Look::Read { out, .. },
             ..
         } => out.as_deref(),
         Ask::Change { target, .. } => file_of(target),
-        Ask::Identify | Ask::Look { .. } | Ask::Extract { .. } => None,
+        Ask::Identify | Ask::Survey { .. } | Ask::Look { .. } | Ask::Extract { .. } => None,
     }
 }
 
-/// Whether the file that a job writes is to be a new one: a job that reads a file of its volume overwrites none.
+/// Whether the file that a job writes is to be a new one: a job that reads a file of its volume overwrites none, and so
+/// does one that makes a container or takes an image out of one.
 pub fn makes_new_file(job: &Job) -> bool
     ensures { IsTrue result ↔ MakesNewFile (ask_view job.now.ask) }
 {
@@ -103,7 +106,8 @@ pub fn makes_new_file(job: &Job) -> bool
         Ask::Look {
             look: Look::Read { out: Some(_), .. },
             ..
-        }
+        } | Ask::Wrap { .. }
+            | Ask::Unwrap { .. }
     )
 }
 
@@ -138,7 +142,11 @@ pub fn volume_of(job: &Job) -> Option<VolumeOptions>
         Ask::Look { volume, .. } | Ask::Extract { volume, .. } | Ask::Change { volume, .. } => {
             Some(*volume)
         }
-        Ask::Identify | Ask::Convert { .. } => None,
+        Ask::Identify
+        | Ask::Survey { .. }
+        | Ask::Convert { .. }
+        | Ask::Wrap { .. }
+        | Ask::Unwrap { .. } => None,
     }
 }
 
@@ -148,7 +156,12 @@ pub fn reserve_of(job: &Job) -> Option<&str>
 {
     match &job.ask {
         Ask::Look { reserve, .. } | Ask::Change { reserve, .. } => reserve.as_deref(),
-        Ask::Identify | Ask::Convert { .. } | Ask::Extract { .. } => None,
+        Ask::Identify
+        | Ask::Survey { .. }
+        | Ask::Convert { .. }
+        | Ask::Wrap { .. }
+        | Ask::Unwrap { .. }
+        | Ask::Extract { .. } => None,
     }
 }
 
@@ -161,6 +174,7 @@ pub fn image_order(job: &Job) -> Option<Order>
             Some(volume.order)
         }
         Ask::Convert { order, .. } => Some(*order),
-        Ask::Identify => None,
+        Ask::Wrap { options, .. } => Some(options.order),
+        Ask::Identify | Ask::Survey { .. } | Ask::Unwrap { .. } => None,
     }
 }

@@ -72,7 +72,7 @@ mapped_not_made form format unreserved device reply is made = elim is [
   | inr (inr (inr failed)) ↦ failed_not_made failures.Memory reply failed made
 ]
 
-unopened_told_not_made : {A : Type 0} (error : OpenError A) (reply : Reply) → TellsOpening error reply → ¬ IsMade reply
+pub unopened_told_not_made : {A : Type 0} (error : OpenError A) (reply : Reply) → TellsOpening error reply → ¬ IsMade reply
 unopened_told_not_made (opens.Check faults) reply is made = refused_not_made refusals.Check reply is made
 unopened_told_not_made (opens.Lost count) reply is made = elim is [
   | inl told ↦ told_not_made Refused reply told.0 made

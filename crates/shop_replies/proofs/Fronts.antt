@@ -1,6 +1,8 @@
 -- What was read of an image, up to one byte past the most that an image of its order has, answers for all of it.
-use Rattle.std.proofs.Common.{◌≡◌, ℕ, ◌+◌, ◌≤◌, List, length, take, take_all, length-take, arith, ap, subst, sym, ◌∙◌, inl, inr}
-use Rattle.std.specs.Prelude.{Option}
+use Rattle.std.proofs.Common.{◌≡◌, ℕ, ◌+◌, ◌<◌, ◌≤◌, Bool, true, false, List, [], ◌∷◌, length, take, take_all, length-take, arith, ap, refl, subst, sym, ◌∙◌, inl, inr}
+use Rattle.std.proofs.lemmas.Bool.Decides.{nat_tests}
+use Rattle.std.specs.List.{starts_with}
+use Rattle.std.specs.Prelude.{Option, IsTrue, codes, nat_eq, nat_le}
 use Rattle.a2_device.specs.declared.order.Order.{Order}
 use Rattle.a2_device.specs.declared.order.Order.TheVariants.{Dos, Prodos, Nibble}
 use Rattle.a2_device.specs.Device.{DeviceState}
@@ -9,6 +11,14 @@ use Rattle.shop_jobs.specs.declared.job.FileSystem.{FileSystem}
 use Rattle.shop_jobs.specs.declared.job.FileSystem.TheVariants.{Dos as Dos_volume, Prodos as Prodos_volume}
 use Rattle.shop_replies.specs.declared.reply.Reply.{Reply}
 use Rattle.shop_replies.specs.Reply.{made_of}
+use Rattle.disk_container.specs.declared.container.Container.{Container}
+use Rattle.disk_container.specs.declared.error.ContainerFault.{ContainerFault}
+use Rattle.disk_container.specs.declared.error.ContainerFault.TheVariants as faults
+use Rattle.disk_container.specs.Container.{IsContainer, most_bytes as most_around}
+use Rattle.disk_container.specs.Faults.{IsFault}
+use Rattle.disk_container.specs.Format.{BeginsLikeContainer}
+use Rattle.shop_jobs.specs.Job.{WrappingView}
+use Rattle.shop_replies.specs.ContainerReply.{IsUnwrapReply, IsWrapReply, TakesImage}
 use Rattle.shop_replies.specs.ConvertReply.{IsConvertReply, IsConverted}
 use Rattle.shop_replies.specs.Volume.{OfVolume, TakesBytes}
 use Rattle.shop_replies.specs.Disk.{IsDiskImage, LacksOne, OfDisk, disk_bytes, most_bytes}
@@ -64,3 +74,59 @@ TakesBytes-take file_system order image takes =
 pub OfVolume-whole : (file_system : FileSystem) (order : Order) (image : List ℕ) (P : DeviceState → Type 0)
     → OfVolume file_system order (take (most_bytes order + 1) image) P → OfVolume file_system order image P
 OfVolume-whole file_system order image P volume = subst (λ bytes. OfVolume file_system order bytes P) (past-most file_system order image volume.0) volume
+
+-- so of an image that is wrapped
+pub wrap-whole : (words : WrappingView) (image : List ℕ) (reply : Reply) → IsWrapReply words (take (most_bytes words.order + 1) image) reply
+    → IsWrapReply words image reply
+wrap-whole words image reply is = elim is [
+  | inl wrapped ↦
+      let whole = past-most Prodos_volume words.order image wrapped.0.image in
+      subst (λ bytes. IsWrapReply words bytes reply) whole (inl wrapped)
+  | inr (inl long) ↦ inr (inl (long.0, λ takes. long.1 (record { image = TakesBytes-take Prodos_volume words.order image takes.image; not_long = takes.not_long })))
+  | inr (inr memory) ↦ inr (inr memory)
+]
+
+-- ---- containers
+
+-- what bytes begin with is known of a front of them
+begins_front : (bytes : List ℕ) → starts_with nat_eq (take (most_around + 1) bytes) (codes "2IMG") ≡ starts_with nat_eq bytes (codes "2IMG")
+begins_front [] = refl
+begins_front (a ∷ []) = refl
+begins_front (a ∷ b ∷ []) = refl
+begins_front (a ∷ b ∷ c ∷ []) = refl
+begins_front (a ∷ b ∷ c ∷ d ∷ rest) = refl
+
+-- of a front of one byte past the most, and of all bytes, the same is wrong
+fault_past : (bytes : List ℕ) (fault : ContainerFault) → most_around < length bytes → IsFault (take (most_around + 1) bytes) fault → IsFault bytes fault
+fault_past bytes faults.Magic many is = λ begins. is (subst IsTrue (sym (begins_front bytes)) begins)
+fault_past bytes faults.Header many is = absurd (omega (arith, many, is.1, length-take (most_around + 1) bytes))
+fault_past bytes faults.Format many is = absurd (omega (arith, many, is.header.not_long, length-take (most_around + 1) bytes))
+fault_past bytes faults.Data many is = absurd (omega (arith, many, is.has_order.header.not_long, length-take (most_around + 1) bytes))
+fault_past bytes faults.Length many (inl (begins, more)) = inl (subst IsTrue (begins_front bytes) begins, many)
+fault_past bytes faults.Length many (inr odd) = absurd (omega (arith, many, odd.has_order.header.not_long, length-take (most_around + 1) bytes))
+
+-- one byte past the most is enough to tell what is a container, and what is wrong with a file that is none
+pub container-whole : (bytes : List ℕ) (container : Container) → IsContainer (take (most_around + 1) bytes) container → take (most_around + 1) bytes ≡ bytes
+container-whole bytes container is = take_all (most_around + 1) bytes (omega (arith, is.header.not_long, length-take (most_around + 1) bytes))
+
+pub fault-whole : (bytes : List ℕ) (fault : ContainerFault) → IsFault (take (most_around + 1) bytes) fault → IsFault bytes fault
+fault-whole bytes fault is = by_length (nat_le (length bytes) most_around) refl
+  where
+    by_length : (b : Bool) → nat_le (length bytes) most_around ≡ b → IsFault bytes fault
+    by_length true short =
+        let few : length bytes ≤ most_around + 1 = grind (arith, nat_tests, short) in
+        subst (λ (front : List ℕ). IsFault front fault) (take_all (most_around + 1) bytes few) is
+    by_length false long =
+        let many : most_around < length bytes = grind (arith, nat_tests, long) in
+        fault_past bytes fault many is
+
+pub begins-whole : (bytes : List ℕ) → BeginsLikeContainer (take (most_around + 1) bytes) → BeginsLikeContainer bytes
+begins-whole bytes begins = subst IsTrue (begins_front bytes) begins
+
+pub begins-front : (bytes : List ℕ) → BeginsLikeContainer bytes → BeginsLikeContainer (take (most_around + 1) bytes)
+begins-front bytes begins = subst IsTrue (sym (begins_front bytes)) begins
+
+pub unwrap-whole : (file : List ℕ) (reply : Reply) → IsUnwrapReply (take (most_around + 1) file) reply → IsUnwrapReply file reply
+unwrap-whole file reply (inl (container, is, handed, payload)) =
+    subst (λ (bytes : List ℕ). IsUnwrapReply bytes reply) (container-whole file container is) (inl (container, is, handed, payload))
+unwrap-whole file reply (inr (fault, is, told)) = inr (fault, fault-whole file fault is, told)

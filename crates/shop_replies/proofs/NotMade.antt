@@ -9,6 +9,8 @@ use Rattle.shop_replies.specs.declared.refusal.Failure.{Failure}
 use Rattle.shop_replies.specs.declared.refusal.Failure.TheVariants as failures
 use Rattle.shop_replies.specs.declared.reply.Reply.{Reply}
 use Rattle.shop_replies.specs.declared.reply.Status.{Status}
+use Rattle.shop_jobs.specs.Job.{WrappingView}
+use Rattle.shop_replies.specs.ContainerReply.{IsUnwrapReply, IsWrapReply}
 use Rattle.shop_replies.specs.ConvertReply.{IsConvertReply}
 use Rattle.shop_replies.specs.Reply.{IsMade, IsMadeReply, IsTold, failed, refused}
 
@@ -29,3 +31,15 @@ converted_image order to volume image reply is made = elim is [
   | inr (inr (inl lacks)) ↦ absurd (refused_not_made refusals.NoSector reply lacks.0 made)
   | inr (inr (inr memory)) ↦ absurd (failed_not_made failures.Memory reply memory made)
 ]
+
+-- a container that is made, and a payload that is taken out of one
+pub wrapped_image : (words : WrappingView) (image : List ℕ) (reply : Reply) → IsWrapReply words image reply → IsMade reply → IsMadeReply reply
+wrapped_image words image reply is made = elim is [
+  | inl wrapped ↦ wrapped.1
+  | inr (inl long) ↦ absurd (refused_not_made refusals.Length reply long.0 made)
+  | inr (inr memory) ↦ absurd (failed_not_made failures.Memory reply memory made)
+]
+
+pub unwrapped_image : (file : List ℕ) (reply : Reply) → IsUnwrapReply file reply → IsMade reply → IsMadeReply reply
+unwrapped_image file reply (inl (container, is, handed, payload)) made = handed
+unwrapped_image file reply (inr (fault, is, told)) made = absurd (refused_not_made (refusals.Container fault) reply told made)

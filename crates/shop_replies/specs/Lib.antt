@@ -3,3 +3,4 @@ pub mod Reply
 pub mod ConvertReply
 pub mod Volume
 pub mod Reading
+pub mod ContainerReply

@@ -3,6 +3,8 @@ use Rattle.std.specs.Prelude.{◌≡◌, ◌⊎◌, ◌-◌, ℕ, List, [], ◌+
 use Rattle.std.specs.Io.KnownBytes.{Appends, Keeps}
 use Rattle.a2_image.specs.declared.error.ImageError.{ImageError}
 use Rattle.a2_image.specs.declared.error.ImageError.TheVariants as images
+use Rattle.disk_container.specs.declared.error.ContainerFault.{ContainerFault}
+use Rattle.disk_container.specs.declared.error.ContainerFault.TheVariants as container_faults
 use Rattle.file_listings.specs.ProLines.{listed_in, listed_text}
 use Rattle.file_listings.specs.ProSteps.{plan_in, plan_text}
 use Rattle.shop_replies.specs.declared.refusal.Refusal.{Refusal}
@@ -17,8 +19,17 @@ use Rattle.shop_replies.specs.declared.reply.Status.TheVariants as statuses
 use Rattle.shop_replies.specs.declared.reply.Told.{Told}
 use Rattle.shop_replies.specs.declared.reply.Told.TheVariants as tells
 
+abbrev pub container_line : ContainerFault → List ℕ
+container_line container_faults.Magic = codes "REFUSED Container Magic\n"
+container_line container_faults.Header = codes "REFUSED Container Header\n"
+container_line container_faults.Format = codes "REFUSED Container Format\n"
+container_line container_faults.Data = codes "REFUSED Container Data\n"
+container_line container_faults.Length = codes "REFUSED Container Length\n"
+
 abbrev pub refusal_line : Refusal → List ℕ
 refusal_line refusals.InPlace = codes "REFUSED InPlace\n"
+refusal_line (refusals.Container fault) = container_line fault
+refusal_line refusals.Protected = codes "REFUSED Protected\n"
 refusal_line refusals.Type = codes "REFUSED Type\n"
 refusal_line refusals.Date = codes "REFUSED Date\n"
 refusal_line refusals.Reserve = codes "REFUSED Reserve\n"

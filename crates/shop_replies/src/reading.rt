@@ -1,16 +1,27 @@
 // Bytes, read from readers that may fail.
 ghost use Rattle.std.specs.Prelude.{◌≡◌, ◌+◌, IfErr, IfOk, IfSome, take};
 ghost use Rattle.shop_jobs.specs.Job.{ask_view};
-ghost use Rattle.shop_replies.specs.Reading.{IsReadFailure, most_beside};
+ghost use Rattle.shop_replies.specs.Reading.{IsReadFailure, most_beside, most_of_image};
 
 use crate::disk::most_bytes;
 use crate::refusal::Failure;
-use shop_jobs::{Ask, Job, Look};
+use disk_container::MOST_BYTES;
+use shop_jobs::{Ask, Job, Look, image_order};
 use std::alloc::Global;
 use std::io::{ErrorKind, Read};
 
 /// The most bytes that a certificate and a file that is saved may have.
 const MOST_GIVEN: u32 = 16_777_216;
+
+/// The most bytes that are taken of the image of a job: those of its order, or of a container where it names none.
+pub fn most_of_image(job: &Job) -> u32
+    ensures { result ≡ most_of_image (ask_view job.now.ask) }
+{
+    match image_order(job) {
+        Some(order) => most_bytes(order) as u32,
+        None => MOST_BYTES as u32,
+    }
+}
 
 /// The most bytes that are taken of the file beside the image of a job; of another image those of its order.
 pub fn most_beside(job: &Job) -> u32

@@ -1,12 +1,18 @@
 // Why a job is refused, and what fails under one.
 ghost use Rattle.std.specs.Prelude.{◌≡◌};
-ghost use Rattle.shop_replies.specs.Reply.{failure_line, number_end, refusal_line};
+ghost use Rattle.shop_replies.specs.Reply.{container_line, failure_line, number_end, refusal_line};
+
+use disk_container::ContainerFault;
 
 /// Why a job was refused.
 #[derive(Clone, Copy, Debug, PartialEq, Eq)]
 pub enum Refusal {
     /// The image cannot be changed where it stands.
     InPlace,
+    /// The file of the image is no container.
+    Container(ContainerFault),
+    /// The container says that its image is not to be written.
+    Protected,
     /// The format has no such type of files.
     Type,
     /// The text of the date is no date and time that the format can have.
@@ -78,6 +84,19 @@ impl Side {
     }
 }
 
+// The line that tells why a file is no container.
+fn container_line(fault: ContainerFault) -> &'static [u8]
+    ensures { result.now ≡ container_line fault }
+{
+    match fault {
+        ContainerFault::Magic => b"REFUSED Container Magic\n",
+        ContainerFault::Header => b"REFUSED Container Header\n",
+        ContainerFault::Format => b"REFUSED Container Format\n",
+        ContainerFault::Data => b"REFUSED Container Data\n",
+        ContainerFault::Length => b"REFUSED Container Length\n",
+    }
+}
+
 impl Refusal {
     /// The line that tells it.
     pub fn line(self) -> &'static [u8]
@@ -85,6 +104,8 @@ impl Refusal {
     {
         match self {
             Refusal::InPlace => b"REFUSED InPlace\n",
+            Refusal::Container(fault) => container_line(fault),
+            Refusal::Protected => b"REFUSED Protected\n",
             Refusal::Type => b"REFUSED Type\n",
             Refusal::Date => b"REFUSED Date\n",
             Refusal::Reserve => b"REFUSED Reserve\n",

@@ -7,7 +7,7 @@ use Rattle.clap.specs.Walk.{answers_to, walk_from, walked, nothing_held}
 use Rattle.shop_words.specs.Table.{Text, edit_form, lock_form, unlock_form, delete_form, rename_form, file_system, order, out_file, in_place, data_disk, reserve, stored}
 use Rattle.shop_words.specs.Plain.{Use, IsPlainLine}
 use Rattle.shop_jobs.specs.Job.{AskView, EditView}
-use Rattle.shop_words.specs.Job.{Said, ask_by, change_by, edit_by, job_of, line_job, line_said, name_by, rename_by, target_by, volume_by}
+use Rattle.shop_words.specs.Job.{Said, ask_by, change_by, edit_by, job_of, line_job, line_said, name_by, place_by, rename_by, target_by, volume_by}
 use Rattle.shop_words.proofs.PlainForms.{IsKnown, Knows, shape_named, stopped_at, top_names, top_rules, whole}
 use Rattle.shop_words.proofs.PlainJobs.{HasPlainDefaults, HasVolume, change_there, mapped_there, volume_by-line}
 use Rattle.shop_words.proofs.PlainStored.{name_by-line}
@@ -107,11 +107,12 @@ edit_target : (command : Text) → HasTarget (edit_form command)
 edit_target command = record { at = (5, omega arith, refl); flags = refl }
 
 -- a command whose job is an edit
-pub is_some-line_job-edit : (command : Text) (edit : EditView) → ((said : Said) → ask_by command said ≡ change_by (edit_by edit said) said) → (positionals : List Text) (uses : List Use)
+pub is_some-line_job-edit : (command : Text) (edit : EditView) → ((said : Said) → ask_by command said ≡ change_by (edit_by edit said) said)
+    → ((said : Said) → place_by command said ≡ said (codes "image")) → (positionals : List Text) (uses : List Use)
     → IsPlainLine (edit_form command) positionals uses → is_some (line_job (edit_form command) positionals uses) ≡ true
-is_some-line_job-edit command edit is [] uses plain = let same = plain.as_many in absurd (omega (arith, same))
-is_some-line_job-edit command edit is (image ∷ []) uses plain = let same = plain.as_many in absurd (omega (arith, same))
-is_some-line_job-edit command edit is (image ∷ name ∷ []) uses plain =
+is_some-line_job-edit command edit is place [] uses plain = let same = plain.as_many in absurd (omega (arith, same))
+is_some-line_job-edit command edit is place (image ∷ []) uses plain = let same = plain.as_many in absurd (omega (arith, same))
+is_some-line_job-edit command edit is place (image ∷ name ∷ []) uses plain =
     let f = edit_form command in
     let said = line_said f (image ∷ name ∷ []) uses in
     let there : is_some (job_of (Some image) (change_by (edit_by edit said) said)) ≡ true =
@@ -119,8 +120,9 @@ is_some-line_job-edit command edit is (image ∷ name ∷ []) uses plain =
     (mapped_there _ (name_by said) (name_by-line uses said name (λ is_stored. (plain.stored is_stored).1.0 refl) refl refl))
     (volume_by-line f (image ∷ name ∷ []) uses said (edit_volume command) plain refl refl)
     (target_by-line f (image ∷ name ∷ []) uses said (edit_target command) plain refl refl) in
-    ap (λ (ask : Option AskView). is_some (job_of (Some image) ask)) (is said) ∙ there
-is_some-line_job-edit command edit is (a ∷ b ∷ c ∷ rest) uses plain = let same = plain.as_many in absurd (omega (arith, same))
+    ap (λ (at : Option Text). is_some (job_of at (ask_by command said))) (place said)
+    ∙ ap (λ (ask : Option AskView). is_some (job_of (Some image) ask)) (is said) ∙ there
+is_some-line_job-edit command edit is place (a ∷ b ∷ c ∷ rest) uses plain = let same = plain.as_many in absurd (omega (arith, same))
 
 rename_target : HasTarget rename_form
 rename_target = record { at = (6, omega arith, refl); flags = refl }

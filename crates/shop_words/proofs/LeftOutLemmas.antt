@@ -1,11 +1,13 @@
 -- What `--auto` puts into words, by what the words show.
 use Rattle.std.proofs.Common.{◌≡◌, ◌∙◌, ap, ap₂, refl, sym, Bool, true, false, ℕ, ◌+◌, ◌<◌, ◌≤◌, suc, List, [], ◌∷◌, ◌++◌, map, take, drop, filter, length, get_or, drop-cons, add-one, arith}
 use Rattle.std.proofs.lemmas.List.{map-append, take-map, drop-map, drop_all}
-use Rattle.std.specs.Prelude.{◌||◌, ◌&&◌, not, codes, cond, if◌then◌else◌, Some, slice_get}
+use Rattle.std.specs.Prelude.{◌||◌, ◌&&◌, not, cond, if◌then◌else◌, Some, slice_get}
 use Rattle.std.specs.List.{insert, list_any, position_or_len}
 use Rattle.shop_words.specs.declared.auto.AutoOption.{AutoOption}
 use Rattle.shop_words.specs.declared.auto.AutoOption.TheVariants.{FileSystem, Order}
-use Rattle.shop_words.specs.Auto.{option_word}
+use Rattle.shop_words.specs.declared.auto.StandIn.{StandIn}
+use Rattle.shop_words.specs.declared.auto.StandIn.TheVariants.{Auto}
+use Rattle.shop_words.specs.Auto.{option_word, stand_in_word}
 use Rattle.shop_words.specs.Front.{Text}
 use Rattle.shop_words.specs.LeftOut.{asks_to_fill_in, completed, ends_options, filled_in, gives, is_auto_word, is_option_of, leaves_out, may_leave_out, other_completed, with_option}
 
@@ -78,23 +80,23 @@ module _ {S : Type 0} (view : S → Text) (words : List S) where
   asked_else beside left is fails left_is = left_is ∙ sym (asks_words ∙ ap (λ b. b || may_leave_out (map view words)) (sym is ∙ fails))
 
   pub filled : (asks : Bool) (kept one two three : List S) → asks ≡ asks_to_fill_in (map view words) → asks ≡ true
-      → kept ≡ filter (λ word. not (is_auto_word (view word))) words → map view one ≡ completed FileSystem (map view kept)
-      → map view two ≡ completed Order (map view one) → map view three ≡ other_completed (map view two)
+      → kept ≡ filter (λ word. not (is_auto_word (view word))) words → map view one ≡ completed FileSystem Auto (map view kept)
+      → map view two ≡ completed Order Auto (map view one) → map view three ≡ other_completed (map view two)
       → map view three ≡ filled_in (map view words)
   filled asks kept one two three asks_is holds kept_is one_is two_is three_is =
       let others : List Text = filter (λ word. not (is_auto_word word)) (map view words) in
       three_is
       ∙ ap other_completed (two_is
-      ∙ ap (completed Order) (one_is ∙ ap (completed FileSystem) (ap (map view) kept_is ∙ filter-map (λ word. not (is_auto_word word)) view words)))
-      ∙ sym (ap (λ b. if b then other_completed (completed Order (completed FileSystem others)) else map view words) (sym asks_is ∙ holds))
+      ∙ ap (completed Order Auto) (one_is ∙ ap (completed FileSystem Auto) (ap (map view) kept_is ∙ filter-map (λ word. not (is_auto_word word)) view words)))
+      ∙ sym (ap (λ b. if b then other_completed (completed Order Auto (completed FileSystem Auto others)) else map view words) (sym asks_is ∙ holds))
 
-  pub option_put : (option : AutoOption) (one two : List S) (end : ℕ) (value name : S) → two ≡ insert one end name → one ≡ insert words end value
-      → view value ≡ codes "auto" → view name ≡ option_word option → end ≡ position_or_len ends_options (map view words)
-      → map view two ≡ with_option option (map view words)
-  option_put option one two end value name two_is one_is value_is name_is end_is =
+  pub option_put : (option : AutoOption) (stand_in : StandIn) (one two : List S) (end : ℕ) (value name : S) → two ≡ insert one end name → one ≡ insert words end value
+      → view value ≡ stand_in_word stand_in → view name ≡ option_word option → end ≡ position_or_len ends_options (map view words)
+      → map view two ≡ with_option option stand_in (map view words)
+  option_put option stand_in one two end value name two_is one_is value_is name_is end_is =
       ap (map view) two_is ∙ insert-map view one end name
       ∙ ap₂ (λ (texts : List Text) (text : Text). insert texts end text) (ap (map view) one_is ∙ insert-map view words end value ∙ ap (insert (map view words) end) value_is) name_is
-      ∙ ap (λ n. insert (insert (map view words) n (codes "auto")) n (option_word option)) end_is
+      ∙ ap (λ n. insert (insert (map view words) n (stand_in_word stand_in)) n (option_word option)) end_is
 
 pub left_out : {S : Type 0} (view : S → Text) (option : AutoOption) (words : List S) (command : S) (shown : Text) (has given : Bool)
     → Some command ≡ slice_get words 0 → shown ≡ view command → has ≡ is_option_of option shown → has ≡ true

@@ -30,6 +30,9 @@ pub mod EditLines
 pub mod SaveLine
 pub mod VerifyLine
 pub mod IdentifyLine
+pub mod WrapLine
+pub mod UnwrapLine
+pub mod SurveyLine
 pub mod Walk
 pub mod Left
 pub mod LeftOutLemmas

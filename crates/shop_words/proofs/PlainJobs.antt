@@ -21,10 +21,10 @@ use Rattle.shop_words.proofs.PlainValues.{Test, flag_same, leaves_off, option_sa
 
 -- the names by which a job is said, and those of its flags
 abbrev pub option_names : List Text
-option_names = codes "image" ∷ codes "fs" ∷ codes "order" ∷ codes "to" ∷ codes "out" ∷ codes "volume" ∷ codes "reserve" ∷ codes "name" ∷ codes "new" ∷ codes "stop-after" ∷ codes "cert" ∷ codes "from" ∷ codes "type" ∷ codes "aux" ∷ codes "date" ∷ codes "format" ∷ codes "most" ∷ codes "other" ∷ codes "other-order" ∷ codes "into" ∷ codes "names" ∷ codes "as" ∷ codes "high" ∷ []
+option_names = codes "image" ∷ codes "fs" ∷ codes "order" ∷ codes "to" ∷ codes "out" ∷ codes "volume" ∷ codes "reserve" ∷ codes "name" ∷ codes "new" ∷ codes "stop-after" ∷ codes "cert" ∷ codes "from" ∷ codes "type" ∷ codes "aux" ∷ codes "date" ∷ codes "format" ∷ codes "most" ∷ codes "other" ∷ codes "other-order" ∷ codes "into" ∷ codes "names" ∷ codes "as" ∷ codes "high" ∷ codes "comment" ∷ codes "path" ∷ []
 
 abbrev pub flag_names : List Text
-flag_names = codes "data-disk" ∷ codes "whole" ∷ codes "reclaim" ∷ codes "words" ∷ codes "in-place" ∷ codes "digests" ∷ codes "bodies" ∷ codes "stored" ∷ codes "places" ∷ codes "all" ∷ codes "texts" ∷ []
+flag_names = codes "data-disk" ∷ codes "whole" ∷ codes "reclaim" ∷ codes "words" ∷ codes "in-place" ∷ codes "digests" ∷ codes "bodies" ∷ codes "stored" ∷ codes "places" ∷ codes "all" ∷ codes "texts" ∷ codes "protect" ∷ []
 
 abbrev pub leaves_all_off : FormView → Test → List Text → Bool
 leaves_all_off f q names = list_all (λ id. list_all (leaves_off q id) (shape_named f.name).rules) names
@@ -65,6 +65,8 @@ job_by-same command s t options flags =
       options (codes "names") refl,
       options (codes "as") refl,
       options (codes "high") refl,
+      options (codes "comment") refl,
+      options (codes "path") refl,
       flags (codes "data-disk") refl,
       flags (codes "whole") refl,
       flags (codes "reclaim") refl,
@@ -76,6 +78,7 @@ job_by-same command s t options flags =
       flags (codes "places") refl,
       flags (codes "all") refl,
       flags (codes "texts") refl,
+      flags (codes "protect") refl,
     ) refl
 
 -- what clap finds under a name

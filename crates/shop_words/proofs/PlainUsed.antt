@@ -5,8 +5,8 @@ use Rattle.std.proofs.lemmas.List.Sums.{AllPass-from_list_all}
 use Rattle.std.proofs.lemmas.Slice.Eq.{bytes_eq-Decides}
 use Rattle.std.specs.List.{list_all}
 use Rattle.std.specs.Str.{bytes_eq}
-use Rattle.shop_words.specs.Table.{Text, address, any, one_of, number, KindView, positional, needed, optional, flag, parameter, ParameterView, FormView}
-use Rattle.shop_words.specs.Plain.{Use, address_named, alone, valued, use_name, is_needed, is_number, IsPlainLine, IsUseOf, TakesValue, use_value, value_of}
+use Rattle.shop_words.specs.Table.{Text, address, any, one_of, number, short, KindView, positional, needed, optional, flag, parameter, ParameterView, FormView}
+use Rattle.shop_words.specs.Plain.{Use, address_named, alone, valued, use_name, is_needed, is_number, is_short, IsPlainLine, IsUseOf, TakesValue, use_value, value_of}
 use Rattle.shop_words.specs.Job.{is_on}
 
 -- a test of an option's kind
@@ -33,6 +33,11 @@ takes_address (needed address) = true
 takes_address (optional address) = true
 takes_address _ = false
 
+abbrev pub takes_short : ℕ → KindTest
+takes_short most (needed (short n)) = n == most
+takes_short most (optional (short n)) = n == most
+takes_short most _ = false
+
 -- what has the name is an option whose kind passes the test
 abbrev pub named_only : Text → KindTest → ParameterView → Bool
 named_only name only p = not (bytes_eq p.name name) || only p.kind
@@ -48,11 +53,13 @@ words_ensure test (needed (one_of words)) value only takes =
     All-contains (λ w. test w ≡ true) words value (AllPass-from_list_all test words only) takes
 words_ensure test (needed (number n)) value only takes = cc
 words_ensure test (needed address) value only takes = cc
+words_ensure test (needed (short m)) value only takes = cc
 words_ensure test (optional any) value only takes = cc
 words_ensure test (optional (one_of words)) value only takes =
     All-contains (λ w. test w ≡ true) words value (AllPass-from_list_all test words only) takes
 words_ensure test (optional (number n)) value only takes = cc
 words_ensure test (optional address) value only takes = cc
+words_ensure test (optional (short m)) value only takes = cc
 words_ensure test flag value only takes = absurd takes
 
 pub number_ensures : (greatest : ℕ) → Ensures (takes_number greatest) (is_number greatest)
@@ -61,10 +68,12 @@ number_ensures greatest (needed any) value only takes = cc
 number_ensures greatest (needed (one_of words)) value only takes = cc
 number_ensures greatest (needed (number n)) value only takes = subst (λ m. is_number m value ≡ true) (eqb-true n greatest only) takes
 number_ensures greatest (needed address) value only takes = cc
+number_ensures greatest (needed (short m)) value only takes = cc
 number_ensures greatest (optional any) value only takes = cc
 number_ensures greatest (optional (one_of words)) value only takes = cc
 number_ensures greatest (optional (number n)) value only takes = subst (λ m. is_number m value ≡ true) (eqb-true n greatest only) takes
 number_ensures greatest (optional address) value only takes = cc
+number_ensures greatest (optional (short m)) value only takes = cc
 number_ensures greatest flag value only takes = absurd takes
 
 abbrev pub names_address : Text → Bool
@@ -76,11 +85,27 @@ address_ensures (needed any) value only takes = cc
 address_ensures (needed (one_of words)) value only takes = cc
 address_ensures (needed (number n)) value only takes = cc
 address_ensures (needed address) value only takes = takes
+address_ensures (needed (short m)) value only takes = cc
 address_ensures (optional any) value only takes = cc
 address_ensures (optional (one_of words)) value only takes = cc
 address_ensures (optional (number n)) value only takes = cc
 address_ensures (optional address) value only takes = takes
+address_ensures (optional (short m)) value only takes = cc
 address_ensures flag value only takes = absurd takes
+
+pub short_ensures : (most : ℕ) → Ensures (takes_short most) (is_short most)
+short_ensures most positional value only takes = absurd takes
+short_ensures most (needed any) value only takes = cc
+short_ensures most (needed (one_of words)) value only takes = cc
+short_ensures most (needed (number n)) value only takes = cc
+short_ensures most (needed address) value only takes = cc
+short_ensures most (needed (short m)) value only takes = subst (λ n. is_short n value ≡ true) (eqb-true m most only) takes
+short_ensures most (optional any) value only takes = cc
+short_ensures most (optional (one_of words)) value only takes = cc
+short_ensures most (optional (number n)) value only takes = cc
+short_ensures most (optional address) value only takes = cc
+short_ensures most (optional (short m)) value only takes = subst (λ n. is_short n value ≡ true) (eqb-true m most only) takes
+short_ensures most flag value only takes = absurd takes
 
 where_named : (b c : Bool) → (not b || c) ≡ true → b ≡ true → c ≡ true
 where_named true c passes is = passes

@@ -30,8 +30,8 @@ use Rattle.a2_device.specs.declared.order.Order.{Order}
 use Rattle.a2_device.specs.declared.order.Order.TheVariants as orders
 use Rattle.shop_words.specs.Grammar.{shop}
 use Rattle.shop_words.specs.Hexadecimal.{bytes_named}
-use Rattle.shop_words.specs.Table.{Text, FormView, greatest_number, most_writes}
-use Rattle.shop_words.specs.Plain.{Use, address_named, is_number, positional_names, value_of}
+use Rattle.shop_words.specs.Table.{Text, FormView, greatest_number, most_comment, most_writes}
+use Rattle.shop_words.specs.Plain.{Use, address_named, is_number, is_short, positional_names, value_of}
 use Rattle.apple_text.specs.declared.form.HighBit.{HighBit}
 use Rattle.apple_text.specs.declared.form.HighBit.TheVariants as high_bits
 use Rattle.file_forms.specs.declared.form.FileForm.TheVariants as file_forms
@@ -47,8 +47,10 @@ use Rattle.host_folders.specs.declared.entry.Naming.{Naming}
 use Rattle.host_folders.specs.declared.entry.Naming.TheVariants as namings
 use Rattle.shop_jobs.specs.declared.job.FileSystem.{FileSystem}
 use Rattle.shop_jobs.specs.declared.job.FileSystem.TheVariants as file_systems
+use Rattle.shop_jobs.specs.declared.job.SurveyForm.{SurveyForm}
+use Rattle.shop_jobs.specs.declared.job.SurveyForm.TheVariants as survey_forms
 use Rattle.shop_jobs.specs.declared.job.VolumeOptions.{VolumeOptions}
-use Rattle.shop_jobs.specs.Job.{AskView, AttributesView, ByPath, ByStored, Catalog, ChangeOf, ChangeView, Check, Compare, Convert, Delete, EditOf, EditView, ExtractFrom, FileNameView, Identify, InPlace, JobView, Lock, Entries, LookAt, LookView, Map, Optimize, Plan, Read, Rename, Save, TargetView, ToFile, Unlock, Verify}
+use Rattle.shop_jobs.specs.Job.{AskView, AttributesView, ByPath, ByStored, Catalog, ChangeOf, ChangeView, Check, Compare, Convert, Delete, EditOf, EditView, ExtractFrom, FileNameView, Identify, InPlace, JobView, Lock, Entries, LookAt, LookView, Map, Optimize, Plan, Read, Rename, Save, Survey, TargetView, ToFile, Unlock, Unwrap, Verify, Wrap, WrappingView}
 
 -- ---- what a word names
 
@@ -107,6 +109,26 @@ naming_named word =
 abbrev pub naming_said : Option Text → Option Naming
 naming_said None = Some namings.Naps
 naming_said (Some word) = naming_named word
+
+-- the volume number that a container tells, or that it tells none
+abbrev pub told_volume : Option Text → Option (Option ℕ)
+told_volume None = Some None
+told_volume (Some word) = option_map Some (number_named 255 word)
+
+-- the comment that is said, an empty one where none is
+abbrev pub comment_said : Option Text → Option Text
+comment_said None = Some []
+comment_said (Some word) = if is_short most_comment word then Some word else None
+
+-- the form of a survey that is said, lines where none is
+abbrev pub survey_form_named : Text → Option SurveyForm
+survey_form_named word =
+    if bytes_eq word (codes "lines") then Some survey_forms.Lines else
+    if bytes_eq word (codes "json") then Some survey_forms.Json else None
+
+abbrev pub survey_form_said : Option Text → Option SurveyForm
+survey_form_said None = Some survey_forms.Lines
+survey_form_said (Some word) = survey_form_named word
 
 -- ---- what is said under each parameter's name; a flag says `true`
 
@@ -339,6 +361,29 @@ abbrev pub convert_by : Said → Option AskView
 convert_by said = conversion_of (option_and_then order_named (said (codes "order")))
     (option_and_then order_named (said (codes "to"))) (said (codes "out")) (volume_number (said (codes "volume")))
 
+-- how an image is put into a container, with protection where a flag says so
+abbrev pub wrapping_of : Option Order → Option (Option ℕ) → Option Text → Bool → Option WrappingView
+wrapping_of (Some order) (Some volume) (Some comment) protect =
+    Some (record { order = order; volume = volume; comment = comment; protect = protect })
+wrapping_of _ _ _ protect = None
+
+abbrev pub wrapping_by : Said → Option WrappingView
+wrapping_by said = wrapping_of (option_and_then order_named (said (codes "order"))) (told_volume (said (codes "volume")))
+    (comment_said (said (codes "comment"))) (is_on (said (codes "protect")))
+
+abbrev pub wrap_of : Option WrappingView → Option Text → Option AskView
+wrap_of (Some words) (Some out) = Some (Wrap words out)
+wrap_of _ _ = None
+
+abbrev pub wrap_by : Said → Option AskView
+wrap_by said = wrap_of (wrapping_by said) (said (codes "out"))
+
+abbrev pub unwrap_by : Said → Option AskView
+unwrap_by said = option_map Unwrap (said (codes "out"))
+
+abbrev pub survey_by : Said → Option AskView
+survey_by said = option_map Survey (survey_form_said (said (codes "format")))
+
 -- what a command asks, by what is said under each name
 abbrev pub ask_by : Text → Said → Option AskView
 ask_by command said =
@@ -358,7 +403,10 @@ ask_by command said =
     if bytes_eq command (codes "rename") then change_by (rename_by said) said else
     if bytes_eq command (codes "save") then change_by (save_by said) said else
     if bytes_eq command (codes "verify") then look_by (verify_by said) (said (codes "reserve")) said else
-    if bytes_eq command (codes "identify") then Some Identify else None
+    if bytes_eq command (codes "identify") then Some Identify else
+    if bytes_eq command (codes "wrap") then wrap_by said else
+    if bytes_eq command (codes "unwrap") then unwrap_by said else
+    if bytes_eq command (codes "survey") then survey_by said else None
 
 -- ---- the job
 
@@ -366,9 +414,13 @@ abbrev pub job_of : Option Text → Option AskView → Option JobView
 job_of (Some image) (Some ask) = Some (record { image = image; ask = ask })
 job_of _ _ = None
 
+-- where the image is, or what a survey looks at
+abbrev pub place_by : Text → Said → Option Text
+place_by command said = if bytes_eq command (codes "survey") then said (codes "path") else said (codes "image")
+
 -- the job of a command: the image, and what is asked of it
 abbrev pub job_by : Text → Said → Option JobView
-job_by command said = job_of (said (codes "image")) (ask_by command said)
+job_by command said = job_of (place_by command said) (ask_by command said)
 
 -- what rows say under each name
 abbrev pub rows_say : List Row → Said

@@ -1,12 +1,14 @@
--- Of `--fs` and `--order`, what the words of a command leave out is `auto`: where they say `--auto`, and of some commands always. Where `--order` is `auto`, so
--- is the `--other-order` that they leave out.
+-- Of `--fs` and `--order`, what the words of a command leave out is `auto`: where they say `--auto`, and of some commands always. Where `--order` is `auto` or
+-- `2img`, so is the `--other-order` that they leave out.
 use Rattle.std.specs.Prelude.{Bool, false, ◌||◌, ◌&&◌, not, List, [], ◌∷◌, ◌++◌, codes, filter, if◌then◌else◌}
 use Rattle.std.specs.Prelude.{nat_eq}
 use Rattle.std.specs.List.{insert, list_any, position_or_len, starts_with}
 use Rattle.std.specs.Str.{bytes_eq}
 use Rattle.shop_words.specs.declared.auto.AutoOption.{AutoOption}
 use Rattle.shop_words.specs.declared.auto.AutoOption.TheVariants.{FileSystem, Order, OtherOrder}
-use Rattle.shop_words.specs.Auto.{asks_auto, option_word}
+use Rattle.shop_words.specs.declared.auto.StandIn.{StandIn}
+use Rattle.shop_words.specs.declared.auto.StandIn.TheVariants.{Auto, Container}
+use Rattle.shop_words.specs.Auto.{asks_for, option_word, stand_in_word}
 use Rattle.shop_words.specs.Front.{Text}
 use Rattle.shop_words.specs.Table.{FormView, forms}
 
@@ -41,34 +43,36 @@ leaves_out option (command ∷ words) =
 abbrev pub ends_options : Text → Bool
 ends_options word = bytes_eq word (codes "--")
 
--- the words with an option whose value is `auto`, behind their last option
-abbrev pub with_option : AutoOption → List Text → List Text
-with_option option words = let end = position_or_len ends_options words in
-    insert (insert words end (codes "auto")) end (option_word option)
+-- the words with an option whose value is a stand-in, behind their last option
+abbrev pub with_option : AutoOption → StandIn → List Text → List Text
+with_option option stand_in words = let end = position_or_len ends_options words in
+    insert (insert words end (stand_in_word stand_in)) end (option_word option)
 
 -- the same, where they leave it out
-abbrev pub completed : AutoOption → List Text → List Text
-completed option words = if leaves_out option words then with_option option words else words
+abbrev pub completed : AutoOption → StandIn → List Text → List Text
+completed option stand_in words = if leaves_out option words then with_option option stand_in words else words
 
 -- the words are those of a command that may leave both out
 abbrev pub may_leave_out : List Text → Bool
 may_leave_out [] = false
 may_leave_out (command ∷ words) =
     bytes_eq command (codes "list") || bytes_eq command (codes "compare") || bytes_eq command (codes "map")
-    || bytes_eq command (codes "extract")
+    || bytes_eq command (codes "extract") || bytes_eq command (codes "wrap")
 
 -- one of the words is `--auto` and one is another, or both options may be left out
 abbrev pub asks_to_fill_in : List Text → Bool
 asks_to_fill_in words =
     list_any is_auto_word words && list_any (λ word. not (is_auto_word word)) words || may_leave_out words
 
--- the same of the order of another image, where that of the image is `auto`
+-- the order of another image that they leave out is `auto` where that of the image is, and `2img` where that is
 abbrev pub other_completed : List Text → List Text
-other_completed words = if asks_auto Order words then completed OtherOrder words else words
+other_completed words =
+    if asks_for Order Auto words then completed OtherOrder Auto words else
+    if asks_for Order Container words then completed OtherOrder Container words else words
 
 -- The words without `--auto`, and with the file system and the order that they leave out, where they ask for that.
 abbrev pub filled_in : List Text → List Text
 filled_in words =
     if asks_to_fill_in words
-    then other_completed (completed Order (completed FileSystem (filter (λ word. not (is_auto_word word)) words)))
+    then other_completed (completed Order Auto (completed FileSystem Auto (filter (λ word. not (is_auto_word word)) words)))
     else words

@@ -5,7 +5,7 @@ use Rattle.std.specs.List.{AllPass, AllZip, IsDistinct, list_all}
 use Rattle.std.specs.Char.{is_ascii_digit}
 use Rattle.std.specs.Str.{bytes_eq}
 use Rattle.std.specs.Str.Parse.{digits_value}
-use Rattle.shop_words.specs.Table.{Text, ValuesView, address, any, one_of, number, KindView, positional, needed, optional, flag, ParameterView, FormView, aux, format, forms, high, in_place, name_of_file, out_file, parameter, places, read_as, save_as, stored, whole}
+use Rattle.shop_words.specs.Table.{Text, ValuesView, address, any, one_of, number, KindView, positional, needed, optional, flag, ParameterView, FormView, aux, format, forms, high, in_place, name_of_file, out_file, parameter, places, read_as, save_as, short, stored, whole}
 use Rattle.shop_words.specs.Hexadecimal.{bytes_named, hex_number}
 
 -- `-`
@@ -74,11 +74,16 @@ abbrev pub address_named : Text → Option ℕ
 address_named [] = None
 address_named (x ∷ xs) = if x == 36 then hex_number xs else address_behind x xs
 
+-- the word has no more bytes
+abbrev pub is_short : ℕ → Text → Bool
+is_short most word = nat_le (length word) most
+
 abbrev pub IsOfValues : ValuesView → Text → Type 0
 IsOfValues any value = Unit {0}
 IsOfValues (one_of words) value = Contains words value
 IsOfValues (number greatest) value = is_number greatest value ≡ true
 IsOfValues address value = IsSome (address_named value)
+IsOfValues (short most) value = is_short most value ≡ true
 
 -- it is an option, which takes the value
 abbrev pub TakesValue : KindView → Text → Type 0

@@ -17,6 +17,7 @@ pub data ValuesView : Type 0 where
   one_of : List Text → ValuesView
   number : ℕ → ValuesView
   address : ValuesView
+  short : ℕ → ValuesView
 
 pub data KindView : Type 0 where
   positional : KindView
@@ -37,6 +38,7 @@ values_view values.Any = any
 values_view (values.OneOf words) = one_of (map (λ w. w.now) words.now)
 values_view (values.Number greatest) = number greatest
 values_view values.Address = address
+values_view (values.Short most) = short most
 
 abbrev pub kind_view : Kind → KindView
 kind_view kinds.Positional = positional
@@ -290,6 +292,42 @@ identify_form = record {
   parameters = image ∷ [];
 }
 
+-- the most bytes of a comment
+abbrev pub most_comment : ℕ
+most_comment = 65472
+
+-- `--comment TEXT` and `--protect`
+abbrev pub comment : ParameterView
+comment = parameter (codes "comment") (optional (short most_comment))
+
+abbrev pub protect : ParameterView
+protect = parameter (codes "protect") flag
+
+abbrev pub wrap_form : FormView
+wrap_form = record {
+  name = codes "wrap";
+  parameters = image ∷ order ∷ out ∷ comment ∷ volume ∷ protect ∷ [];
+}
+
+abbrev pub unwrap_form : FormView
+unwrap_form = record {
+  name = codes "unwrap";
+  parameters = image ∷ out ∷ [];
+}
+
+-- `path` and `--format FORM` of a survey
+abbrev pub path : ParameterView
+path = parameter (codes "path") positional
+
+abbrev pub survey_format : ParameterView
+survey_format = parameter (codes "format") (optional (one_of (codes "lines" ∷ codes "json" ∷ [])))
+
+abbrev pub survey_form : FormView
+survey_form = record {
+  name = codes "survey";
+  parameters = path ∷ survey_format ∷ [];
+}
+
 -- the forms of all commands
 abbrev pub forms : List FormView
-forms = catalog_form ∷ list_form ∷ compare_form ∷ map_form ∷ check_form ∷ read_form ∷ extract_form ∷ convert_form ∷ plan_form ∷ optimize_form ∷ lock_form ∷ unlock_form ∷ delete_form ∷ rename_form ∷ save_form ∷ verify_form ∷ identify_form ∷ []
+forms = catalog_form ∷ list_form ∷ compare_form ∷ map_form ∷ check_form ∷ read_form ∷ extract_form ∷ convert_form ∷ plan_form ∷ optimize_form ∷ lock_form ∷ unlock_form ∷ delete_form ∷ rename_form ∷ save_form ∷ verify_form ∷ identify_form ∷ wrap_form ∷ unwrap_form ∷ survey_form ∷ []

@@ -4,7 +4,7 @@ ghost use Rattle.clap.specs.Matches.{found_of};
 ghost use Rattle.clap.specs.Simple.{subcommand_rows_of};
 ghost use Rattle.clap.specs.Walk.{rows_of};
 ghost use Rattle.shop_jobs.specs.Job.{ask_view, job_view};
-ghost use Rattle.shop_words.specs.Job.{ask_by, found_job, job_by, rows_say};
+ghost use Rattle.shop_words.specs.Job.{ask_by, found_job, job_by, place_by, rows_say};
 
 use crate::changing::{edit_in, optimize_in, rename_in};
 use crate::converting::convert_in;
@@ -14,6 +14,8 @@ use crate::looking::{
 };
 use crate::reading::said;
 use crate::saving::save_in;
+use crate::surveying::survey_in;
+use crate::wrapping::{unwrap_in, wrap_in};
 use clap::ArgMatches;
 use shop_jobs::{Ask, Edit, Job};
 use std::alloc::{AllocError, Global};
@@ -41,7 +43,22 @@ fn ask_in(alloc: Global, command: &str, matches: &ArgMatches<'_>) -> Result<Opti
         "save" => save_in(alloc, matches),
         "verify" => verify_in(alloc, matches),
         "identify" => Ok(Some(Ask::Identify)),
+        "wrap" => wrap_in(alloc, matches),
+        "unwrap" => unwrap_in(alloc, matches),
+        "survey" => Ok(survey_in(matches)),
         _ => Ok(None),
+    }
+}
+
+// Where the image is, or what a survey looks at.
+fn place_said<'a>(command: &str, matches: &ArgMatches<'a>) -> Option<&'a str>
+    ensures { option_map (λ s. s.now) result
+        ≡ place_by command.now (rows_say (rows_of (found_of matches.now))) }
+{
+    if command == "survey" {
+        said(matches, "path")
+    } else {
+        said(matches, "image")
     }
 }
 
@@ -54,7 +71,7 @@ fn command_job(
     ensures { IfOk result (λ job. option_map job_view job
         ≡ job_by command.now (rows_say (rows_of (found_of matches.now)))) }
 {
-    let Some(image) = said(matches, "image") else {
+    let Some(image) = place_said(command, matches) else {
         return Ok(None);
     };
     let Some(ask) = ask_in(alloc, command, matches)? else {

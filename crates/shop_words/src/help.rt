@@ -8,6 +8,7 @@ pub enum Help {
     NewName,
     FileSystem,
     Order,
+    ImageOrder,
     To,
     Out,
     OutOrInPlace,
@@ -42,6 +43,13 @@ pub enum Help {
     NewFile,
     SaveAs,
     High,
+    Container,
+    Comment,
+    ToldVolume,
+    Protect,
+    Payload,
+    Path,
+    SurveyFormat,
 }
 
 impl Help {
@@ -54,6 +62,9 @@ impl Help {
             Help::FileSystem =>
                 "File system of the volume, auto for the one that identify names: auto, dos or prodos",
             Help::Order =>
+                "Order of the sectors in the image, auto for the one that identify names, 2img for that of a 2IMG file: \
+                    auto, 2img, dos, prodos or nibble",
+            Help::ImageOrder =>
                 "Order of the sectors in the image, auto for the one that identify names: auto, dos, prodos or nibble",
             Help::To => "Order of the sectors in the image that is written: dos, prodos or nibble",
             Help::Out => "File that the image is written to",
@@ -103,6 +114,16 @@ impl Help {
                     AppleSingle file",
             Help::High =>
                 "Highest bit of each byte of a text, on or off; on for DOS 3.3 and off for ProDOS if left out",
+            Help::Container =>
+                "New file that the image is written to, with a header in front of it",
+            Help::Comment => "Comment that stands behind the image, of up to 65472 bytes",
+            Help::ToldVolume =>
+                "Volume number of DOS 3.3 that the header tells, 0 to 255; none if left out",
+            Help::Protect => "Let the header say that the image is not to be written",
+            Help::Payload => "New file that the image is written to",
+            Help::Path =>
+                "File, or folder of which all files are looked at; '-' is a list of paths on standard input, one a line",
+            Help::SurveyFormat => "What a line is: lines of words, or json; lines if left out",
             Help::Bodies => "Read the sectors of each file too, and tell those that can't be read",
             Help::Whole => "Take all bytes of the file's sectors, and not its content alone",
             Help::Stored =>
@@ -137,6 +158,9 @@ pub fn of(command: &str) -> &'static str {
             "Tell whether a certificate shows that no shorter plan brings a volume into order",
         "identify" =>
             "Tell in which file systems and orders an image can be read, and which is best",
+        "wrap" => "Put an image into a 2IMG file of its own, as emulators take it",
+        "unwrap" => "Take the image out of a 2IMG file",
+        "survey" => "Tell which files are disk images, what is on each, and which are the same",
         _ => "",
     }
 }

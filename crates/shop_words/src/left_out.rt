@@ -35,7 +35,7 @@ ghost use Rattle.shop_words.specs.LeftOut.{
 };
 ghost use Rattle.shop_words.specs.Table.{form_view};
 
-use crate::auto::{AutoOption, asks_auto};
+use crate::auto::{AutoOption, StandIn, asks_for};
 use crate::table::{Form, Parameter, table};
 use std::alloc::{AllocError, Global};
 
@@ -159,35 +159,48 @@ fn end_of_options(words: &[String]) -> usize
     end
 }
 
-// Puts an option whose value is `auto` behind the last option.
-fn put_option(alloc: Global, words: &mut Vec<String>, option: AutoOption) -> Result<(), AllocError>
+// Puts an option whose value is a stand-in behind the last option.
+fn put_option(
+    alloc: Global,
+    words: &mut Vec<String>,
+    option: AutoOption,
+    stand_in: StandIn,
+) -> Result<(), AllocError>
     ensures { OnOk result (map string_bytes words.new.items
-        ≡ with_option option (map string_bytes words.old.items)) }
+        ≡ with_option option stand_in (map string_bytes words.old.items)) }
 {
     let end = end_of_options(words.as_slice());
-    words.insert(end, "auto".to_string(alloc)?)?;
+    words.insert(end, stand_in.word().to_string(alloc)?)?;
     words.insert(end, option.word().to_string(alloc)?)?;
     Ok(())
 }
 
-// Puts an option whose value is `auto` behind the last option, where the words leave it out.
-fn complete(alloc: Global, words: &mut Vec<String>, option: AutoOption) -> Result<(), AllocError>
+// Puts an option whose value is a stand-in behind the last option, where the words leave it out.
+fn complete(
+    alloc: Global,
+    words: &mut Vec<String>,
+    option: AutoOption,
+    stand_in: StandIn,
+) -> Result<(), AllocError>
     ensures { OnOk result (map string_bytes words.new.items
-        ≡ completed option (map string_bytes words.old.items)) }
+        ≡ completed option stand_in (map string_bytes words.old.items)) }
 {
     if leaves_out(option, words.as_slice()) {
-        put_option(alloc, words, option)?;
+        put_option(alloc, words, option, stand_in)?;
     }
     Ok(())
 }
 
-// Puts `--other-order auto` behind the last option, where the words leave it out and the order of the image is `auto`.
+// Puts `--other-order` behind the last option, where the words leave it out and the order of the image is a stand-in: it
+// is that one too.
 fn complete_other(alloc: Global, words: &mut Vec<String>) -> Result<(), AllocError>
     ensures { OnOk result (map string_bytes words.new.items
         ≡ other_completed (map string_bytes words.old.items)) }
 {
-    if asks_auto(words.as_slice(), AutoOption::Order) {
-        complete(alloc, words, AutoOption::OtherOrder)?;
+    if asks_for(words.as_slice(), AutoOption::Order, StandIn::Auto) {
+        complete(alloc, words, AutoOption::OtherOrder, StandIn::Auto)?;
+    } else if asks_for(words.as_slice(), AutoOption::Order, StandIn::Container) {
+        complete(alloc, words, AutoOption::OtherOrder, StandIn::Container)?;
     }
     Ok(())
 }
@@ -195,9 +208,14 @@ fn complete_other(alloc: Global, words: &mut Vec<String>) -> Result<(), AllocErr
 // Whether the command with this name may leave out the file system and the order.
 fn may_leave_both(command: &str) -> bool
     ensures { result ≡ (bytes_eq command.now (codes "list") || bytes_eq command.now (codes "compare")
-        || bytes_eq command.now (codes "map") || bytes_eq command.now (codes "extract")) }
+        || bytes_eq command.now (codes "map") || bytes_eq command.now (codes "extract")
+        || bytes_eq command.now (codes "wrap")) }
 {
-    command == "list" || command == "compare" || command == "map" || command == "extract"
+    command == "list"
+        || command == "compare"
+        || command == "map"
+        || command == "extract"
+        || command == "wrap"
 }
 
 // Whether the words are those of a command that may leave out the file system and the order.
@@ -255,7 +273,7 @@ fn without_auto(mut words: Vec<String>) -> Vec<String>
 
 /// The words without `--auto`, with `auto` for the file system and the order that they leave out,
 /// where they ask for that: by `--auto` beside other words, or as those of a command that may leave
-/// both out. Where the order is `auto`, so is that of another image that they leave out.
+/// both out. Where the order is `auto` or `2img`, so is that of another image that they leave out.
 ///
 /// # Errors
 /// Want of memory.
@@ -271,8 +289,8 @@ pub fn filled_in(alloc: Global, words: Vec<String>) -> Result<Vec<String>, Alloc
         return Ok(words);
     }
     let mut words = without_auto(words);
-    complete(alloc, &mut words, AutoOption::FileSystem)?;
-    complete(alloc, &mut words, AutoOption::Order)?;
+    complete(alloc, &mut words, AutoOption::FileSystem, StandIn::Auto)?;
+    complete(alloc, &mut words, AutoOption::Order, StandIn::Auto)?;
     complete_other(alloc, &mut words)?;
     Ok(words)
 }

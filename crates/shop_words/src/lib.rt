@@ -42,11 +42,13 @@ mod notes;
 mod reading;
 mod refusal;
 mod saving;
+mod surveying;
 mod table;
 mod version;
 mod words;
+mod wrapping;
 
-pub use auto::{AutoOption, asks_auto, in_place};
+pub use auto::{AutoOption, StandIn, asks_for, in_place};
 pub use escaping::{all_escaped, escaped};
 pub use explain::{asks_explain, without_explain};
 pub use fault::WordsFault;

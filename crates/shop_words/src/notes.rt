@@ -6,6 +6,9 @@ Without words it lists the DOS 3.3 volume of an image in DOS order on standard i
 --auto may stand with any command: the --fs and the --order that are left out are auto, which takes what identify
 names, and is refused as REFUSED Ambiguous or Unknown where it names none.
 A wrong --order is done as said, and a change then destroys files: take --auto, or ask identify first.
+--order 2img reads the image in a 2IMG file, in the order that its header tells, and --auto does so where the file
+begins as such a file does. What stands around the image stays as it is. REFUSED Container tells what is wrong with
+the header, and REFUSED Protected that it forbids a change.
 --version tells the version. What a command takes, and what it may refuse: a2shop COMMAND --help
 
 Status:
@@ -313,11 +316,61 @@ const IDENTIFY: &str = "\
 Example:
   a2shop identify disk.dsk
 
+Of a 2IMG file a first line tells what its header says, and the readings are those of the image in it.
+
 Status:
   0  the last line names the best file system and order
   1  no way to read the image is best
-  3  REFUSED Length  the length of the image allows no way to read it
+  3  REFUSED Length         the length of the image allows no way to read it
+     REFUSED Container WHY  the file begins like a 2IMG file, and its header says what can't be
   4  FAILED Input or Memory: the file or memory failed";
+
+const WRAP: &str = "\
+Examples:
+  a2shop wrap disk.po --order prodos --out disk.2mg
+  a2shop wrap disk.dsk --order dos --comment Games --volume 254 --protect --out disk.2mg
+
+--order is auto where it is left out. The new file has a header of 64 bytes in the 2IMG file format, the
+image, and the comment behind it. With --protect emulators do not write the image, and no command here
+changes it.
+
+Status:
+  0  the new file is written
+  3  REFUSED Exists  something stands at the path of --out
+     REFUSED Length  the image has another length than one in its order
+  4  FAILED Input or Memory: a file or memory failed";
+
+const UNWRAP: &str = "\
+Example:
+  a2shop unwrap disk.2mg --out disk.po
+
+The order of the image is told by identify.
+
+Status:
+  0  the image is written
+  3  REFUSED Exists         something stands at the path of --out
+     REFUSED Container WHY  the file is no 2IMG file, or its header says what can't be
+  4  FAILED Input or Memory: a file or memory failed";
+
+const SURVEY: &str = "\
+Examples:
+  a2shop survey images
+  a2shop survey images --format json
+  find . -name '*.dsk' | a2shop survey -
+
+A line tells of each file what is found, in the order of their paths:
+  BEST FS ORDER VOLUME files N lost N free N image SHA content SHA PATH  the best way to read the image
+  AMBIGUOUS image SHA PATH  no way to read the image is best
+  NONE image SHA PATH       it has the length of an image, and no volume
+  OTHER PATH                it is no image
+  UNREAD PATH               it can't be read, or a name in that folder is no UTF-8
+SHA is the SHA-256 of the file, and of what the files of the volume are called and hold. Then come the images
+with the same content as another: SAME K PATH, those of one K have one content. Links are not followed.
+
+Status:
+  0  all is told
+  1  a file is told as AMBIGUOUS, NONE or UNREAD
+  4  FAILED Input or Memory: the path or memory failed";
 
 /// The notes on the command with this name.
 pub fn of(command: &str) -> &'static str {
@@ -339,6 +392,9 @@ pub fn of(command: &str) -> &'static str {
         "save" => SAVE,
         "verify" => VERIFY,
         "identify" => IDENTIFY,
+        "wrap" => WRAP,
+        "unwrap" => UNWRAP,
+        "survey" => SURVEY,
         _ => "",
     }
 }

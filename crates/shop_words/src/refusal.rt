@@ -5,6 +5,7 @@ ghost use Rattle.shop_words.specs.Fault.{IsFaultBy};
 
 use crate::fault::WordsFault;
 use crate::grammar::{full_command, program};
+use crate::help::Help;
 use crate::hexadecimal::hex_value;
 use crate::reading::{address_named, has_flag, number_named, said};
 use crate::saving::PROGRAM_START;
@@ -100,6 +101,7 @@ enum Misfit<'a> {
     Value {
         name: &'static str,
         values: Values,
+        stand_ins: &'static str,
         value: &'a str,
     },
     /// The name of a file is to be the stored one, and is not in hexadecimal digits.
@@ -129,6 +131,7 @@ fn takes(values: Values, word: &str) -> bool {
         Values::OneOf(words) => words.iter().any(|one| *one == word),
         Values::Number { greatest } => number_named(word, greatest).is_some(),
         Values::Address => address_named(word).is_some(),
+        Values::Short { most } => word.len() <= most,
     }
 }
 
@@ -144,6 +147,7 @@ fn value_misfit<'a>(parameter: &Parameter, matches: &ArgMatches<'a>) -> Option<M
     Some(Misfit::Value {
         name: parameter.name,
         values,
+        stand_ins: stand_ins(parameter.help),
         value,
     })
 }
@@ -228,22 +232,26 @@ fn misfit_of<'a>(form: &Form, matches: &ArgMatches<'a>) -> Option<Misfit<'a>> {
         .or_else(|| target_misfit(form, matches))
 }
 
-/// Whether an option takes `auto` too, in whose place the program puts one of the words.
-fn takes_auto(name: &str) -> bool {
-    matches!(name, "fs" | "order" | "other-order")
+/// The words that an option takes too, in whose place the program puts one of its values.
+fn stand_ins(help: Help) -> &'static str {
+    match help {
+        Help::FileSystem | Help::ImageOrder => "auto, ",
+        Help::Order | Help::OtherOrder => "auto, 2img, ",
+        _ => "",
+    }
 }
 
 /// What an option takes, for the user.
-fn wanted(alloc: Global, name: &str, values: Values) -> Result<String, AllocError> {
+fn wanted(alloc: Global, stand_ins: &str, values: Values) -> Result<String, AllocError> {
     match values {
         Values::Any => Ok(String::new(alloc)),
         Values::OneOf(words) => {
             let words = words.join(alloc, ", ")?;
-            let auto = if takes_auto(name) { "auto, " } else { "" };
-            format!(in alloc; "[possible values: {auto}{words}]")
+            format!(in alloc; "[possible values: {stand_ins}{words}]")
         }
         Values::Number { greatest } => format!(in alloc; "[a number from 0 to {greatest}]"),
         Values::Address => "[a number from 0 to 65535, or from 0x0 to 0xFFFF]".to_string(alloc),
+        Values::Short { most } => format!(in alloc; "[a text of up to {most} bytes]"),
     }
 }
 
@@ -276,10 +284,11 @@ impl Misfit<'_> {
             Misfit::Value {
                 name,
                 values,
+                stand_ins,
                 value,
             } => {
                 let value = escaped(alloc, value)?;
-                let wanted = wanted(alloc, name, values)?;
+                let wanted = wanted(alloc, stand_ins, values)?;
                 format!(in alloc; "invalid value '{value}' for '--{name} <{name}>'\n  {wanted}")
             }
             Misfit::NoStoredName { word } => {

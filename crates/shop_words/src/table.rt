@@ -15,6 +15,8 @@ pub enum Values {
     Number { greatest: u64 },
     /// A number of two bytes, in decimal digits or, behind `0x` or `$`, in hexadecimal ones.
     Address,
+    /// Any word of up to so many bytes.
+    Short { most: usize },
 }
 
 /// How a parameter stands among the words of a command.
@@ -75,6 +77,12 @@ const ORDER: Parameter = Parameter {
     name: "order",
     kind: Kind::Needed(ORDERS),
     help: Help::Order,
+};
+
+const IMAGE_ORDER: Parameter = Parameter {
+    name: "order",
+    kind: Kind::Needed(ORDERS),
+    help: Help::ImageOrder,
 };
 
 const TO: Parameter = Parameter {
@@ -294,6 +302,48 @@ const MOST_WRITTEN: Parameter = Parameter {
     help: Help::MostWritten,
 };
 
+const CONTAINER: Parameter = Parameter {
+    name: "out",
+    kind: Kind::Needed(Values::Any),
+    help: Help::Container,
+};
+
+const COMMENT: Parameter = Parameter {
+    name: "comment",
+    kind: Kind::Optional(Values::Short { most: 65_472 }),
+    help: Help::Comment,
+};
+
+const TOLD_VOLUME: Parameter = Parameter {
+    name: "volume",
+    kind: Kind::Optional(Values::Number { greatest: 255 }),
+    help: Help::ToldVolume,
+};
+
+const PROTECT: Parameter = Parameter {
+    name: "protect",
+    kind: Kind::Flag,
+    help: Help::Protect,
+};
+
+const PAYLOAD: Parameter = Parameter {
+    name: "out",
+    kind: Kind::Needed(Values::Any),
+    help: Help::Payload,
+};
+
+const PATH: Parameter = Parameter {
+    name: "path",
+    kind: Kind::Positional,
+    help: Help::Path,
+};
+
+const SURVEY_FORMAT: Parameter = Parameter {
+    name: "format",
+    kind: Kind::Optional(Values::OneOf(&["lines", "json"])),
+    help: Help::SurveyFormat,
+};
+
 const FORMS: &[Form] = &[
     Form {
         name: "catalog",
@@ -444,6 +494,18 @@ const FORMS: &[Form] = &[
     Form {
         name: "identify",
         parameters: &[IMAGE],
+    },
+    Form {
+        name: "wrap",
+        parameters: &[IMAGE, IMAGE_ORDER, CONTAINER, COMMENT, TOLD_VOLUME, PROTECT],
+    },
+    Form {
+        name: "unwrap",
+        parameters: &[IMAGE, PAYLOAD],
+    },
+    Form {
+        name: "survey",
+        parameters: &[PATH, SURVEY_FORMAT],
     },
 ];
 

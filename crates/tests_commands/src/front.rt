@@ -1,6 +1,6 @@
 // Lists of words, and what is left of them.
 use shop_words::{
-    AutoOption, asks_auto, asks_explain, asks_version, filled_in, in_place, without_explain,
+    AutoOption, StandIn, asks_explain, asks_for, asks_version, filled_in, in_place, without_explain,
 };
 use std::alloc::{AllocError, Global};
 use std::test::Fail;
@@ -27,8 +27,14 @@ fn line_of(alloc: Global, words: &[String]) -> Result<String, AllocError> {
 #[test]
 fn an_order_takes_the_place_of_auto(rt: HostRuntime) -> Result<(), Fail> {
     let words = words_of(rt.alloc(), "read - auto --fs auto --order auto")?;
-    assert!(rt; asks_auto(words.as_slice(), AutoOption::Order));
-    let put = in_place(rt.alloc(), words.as_slice(), AutoOption::Order, "nibble")?;
+    assert!(rt; asks_for(words.as_slice(), AutoOption::Order, StandIn::Auto));
+    let put = in_place(
+        rt.alloc(),
+        words.as_slice(),
+        AutoOption::Order,
+        StandIn::Auto,
+        "nibble",
+    )?;
     assert!(rt;
         line_of(rt.alloc(), put.as_slice())?.as_str() == "read - auto --fs auto --order nibble "
     );
@@ -38,17 +44,38 @@ fn an_order_takes_the_place_of_auto(rt: HostRuntime) -> Result<(), Fail> {
 #[test]
 fn auto_may_be_one_word_with_its_option(rt: HostRuntime) -> Result<(), Fail> {
     let words = words_of(rt.alloc(), "check --fs=auto --order=dos auto --out auto")?;
-    assert!(rt; asks_auto(words.as_slice(), AutoOption::FileSystem));
-    assert!(rt; !asks_auto(words.as_slice(), AutoOption::Order));
+    assert!(rt; asks_for(words.as_slice(), AutoOption::FileSystem, StandIn::Auto));
+    assert!(rt; !asks_for(words.as_slice(), AutoOption::Order, StandIn::Auto));
     let put = in_place(
         rt.alloc(),
         words.as_slice(),
         AutoOption::FileSystem,
+        StandIn::Auto,
         "prodos",
     )?;
     assert!(rt;
         line_of(rt.alloc(), put.as_slice())?.as_str()
             == "check --fs=prodos --order=dos auto --out auto "
+    );
+    Ok(())
+}
+
+#[test]
+fn an_order_takes_the_place_of_that_of_a_container(rt: HostRuntime) -> Result<(), Fail> {
+    let words = words_of(rt.alloc(), "read 2img --order 2img --order=2img --to 2img")?;
+    assert!(rt; asks_for(words.as_slice(), AutoOption::Order, StandIn::Container));
+    assert!(rt; !asks_for(words.as_slice(), AutoOption::Order, StandIn::Auto));
+    assert!(rt; !asks_for(words.as_slice(), AutoOption::OtherOrder, StandIn::Container));
+    let put = in_place(
+        rt.alloc(),
+        words.as_slice(),
+        AutoOption::Order,
+        StandIn::Container,
+        "dos",
+    )?;
+    assert!(rt;
+        line_of(rt.alloc(), put.as_slice())?.as_str()
+            == "read 2img --order dos --order=dos --to 2img "
     );
     Ok(())
 }
@@ -100,6 +127,12 @@ fn what_is_left_out_is_auto(rt: HostRuntime) -> Result<(), Fail> {
             "extract a --into out",
             "extract a --into out --fs auto --order auto ",
         ),
+        (
+            "compare a b --fs dos --order 2img",
+            "compare a b --fs dos --order 2img --other-order 2img ",
+        ),
+        ("wrap a --out b", "wrap a --out b --order auto "),
+        ("unwrap a --out b", "unwrap a --out b "),
         ("catalog list", "catalog list "),
         ("frobnicate a --auto", "frobnicate a "),
         ("--auto", "--auto "),

@@ -2,7 +2,8 @@
 use crate::answer::Answer;
 use a2_device::Order;
 use a2_image::ImageError;
-use shop_replies::{Reply, most_bytes, open_disk, written};
+use disk_container::Shell;
+use shop_replies::{Refusal, Reply, most_bytes, open_disk, unwrap_reply, written};
 use std::test::Fail;
 
 #[test]
@@ -26,6 +27,32 @@ fn a_report_hands_its_certificate_on(rt: HostRuntime) -> Result<(), Fail> {
     let answer = Answer::of(rt.alloc(), reply);
     assert!(rt; answer.status == 0 && answer.text.as_slice() == b"a line\nA2CERT 1\n".as_slice());
     assert!(rt; answer.out.as_slice() == [7, 7, 7].as_slice());
+    Ok(())
+}
+
+#[test]
+fn an_image_is_handed_out_in_its_shell(rt: HostRuntime) -> Result<(), Fail> {
+    let shell = Shell {
+        front: Vec::from_slice(rt.alloc(), b"<")?,
+        back: Vec::from_slice(rt.alloc(), b">>")?,
+    };
+    let reply = Reply::made(vec![in rt.alloc(); 7; 3]?);
+    let answer = Answer::of(rt.alloc(), reply.in_shell(rt.alloc(), &shell));
+    assert!(rt; answer.status == 0 && answer.text.as_slice() == b"OK\n".as_slice());
+    assert!(rt; answer.out.as_slice() == [b'<', 7, 7, 7, b'>', b'>'].as_slice());
+    let told = Reply::refused(Refusal::Protected).in_shell(rt.alloc(), &shell);
+    let answer = Answer::of(rt.alloc(), told);
+    assert!(rt; answer.status == 3 && answer.text.as_slice() == b"REFUSED Protected\n".as_slice());
+    assert!(rt; answer.out.is_empty());
+    Ok(())
+}
+
+#[test]
+fn a_file_that_is_no_container_is_told(rt: HostRuntime) -> Result<(), Fail> {
+    let answer = Answer::of(rt.alloc(), unwrap_reply(vec![in rt.alloc(); 0; 143_360]?));
+    assert!(rt;
+        answer.status == 3 && answer.text.as_slice() == b"REFUSED Container Magic\n".as_slice()
+    );
     Ok(())
 }
 

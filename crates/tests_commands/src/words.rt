@@ -8,6 +8,7 @@ use std::process::Abort;
 use std::test::Fail;
 
 mod comparisons;
+mod containers;
 mod conversions;
 mod escapes;
 mod extractions;

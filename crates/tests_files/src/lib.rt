@@ -14,6 +14,8 @@ mod dos_reads;
 #[cfg(test)]
 mod folder;
 #[cfg(test)]
+mod foreign_files;
+#[cfg(test)]
 mod host_names;
 #[cfg(test)]
 mod jobs;

@@ -1,7 +1,10 @@
 //! 2IMG files around an image.
+use a2_device::Order;
 use disk_container::{
-    Container, ContainerFault, ContainerOrder, WrapError, begins_like_container, container_of, wrap,
+    Container, ContainerFault, MOST_BYTES, WrapError, begins_like_container, container_of,
+    keep_payload, take_shell, wrap,
 };
+use std::alloc::{AllocError, Global};
 use std::test::Fail;
 use test_volumes::Refusing;
 
@@ -16,19 +19,12 @@ static HEADER: [u8; 64] = [
 #[test]
 fn a_disk_is_wrapped_and_unwrapped(rt: HostRuntime) -> Result<(), Fail> {
     let image = vec![in rt.alloc(); 0x5a; 143_360]?;
-    let file = wrap(
-        rt.alloc(),
-        ContainerOrder::Dos,
-        Some(254),
-        b"Side A",
-        true,
-        &image,
-    )?;
+    let file = wrap(rt.alloc(), Order::Dos, Some(254), b"Side A", true, &image)?;
     assert!(rt; file.len() == 143_430);
     assert!(rt; &file.as_slice()[..64] == HEADER.as_slice());
     assert!(rt; &file.as_slice()[143_424..] == b"Side A".as_slice());
     let container = Container {
-        order: ContainerOrder::Dos,
+        order: Order::Dos,
         protected: true,
         volume: Some(254),
         start: 64,
@@ -56,7 +52,7 @@ fn has_fault(file: &mut [u8], at: usize, byte: u8, fault: ContainerFault) -> boo
 #[test]
 fn each_fault_is_told(rt: HostRuntime) -> Result<(), Fail> {
     let image = vec![in rt.alloc(); 0; 143_360]?;
-    let mut file = wrap(rt.alloc(), ContainerOrder::Dos, None, b"", false, &image)?;
+    let mut file = wrap(rt.alloc(), Order::Dos, None, b"", false, &image)?;
     assert!(rt; has_fault(&mut file, 3, 0x48, ContainerFault::Magic));
     assert!(rt; has_fault(&mut file, 8, 63, ContainerFault::Header));
     assert!(rt; has_fault(&mut file, 12, 3, ContainerFault::Format));
@@ -69,7 +65,7 @@ fn each_fault_is_told(rt: HostRuntime) -> Result<(), Fail> {
 #[test]
 fn what_can_t_be_wrapped_is_told(rt: HostRuntime) -> Result<(), Fail> {
     let image = vec![in rt.alloc(); 0; 143_359]?;
-    let order = ContainerOrder::Dos;
+    let order = Order::Dos;
     let error = wrap(rt.alloc(), order, None, b"", false, &image).err();
     assert!(rt; error == Some(WrapError::Length));
     let image = vec![in rt.alloc(); 0; 143_360]?;
@@ -80,5 +76,50 @@ fn what_can_t_be_wrapped_is_told(rt: HostRuntime) -> Result<(), Fail> {
         let error = wrap(&refusing, order, None, b"", false, &image).err();
         assert!(rt; error == Some(WrapError::Memory), "{before}");
     }
+    Ok(())
+}
+
+/// A container with a gap of two bytes behind its header, a payload of one byte over and over, and three bytes behind it.
+fn gapped(alloc: Global, payload: u8) -> Result<Vec<u8>, AllocError> {
+    let mut file = Vec::from_slice(alloc, HEADER.as_slice())?;
+    file[0x18] = 66;
+    file.extend_from_slice(b"ab")?;
+    file.resize(66 + 143_360, payload)?;
+    file.extend_from_slice(b"xyz")?;
+    Ok(file)
+}
+
+#[test]
+fn a_payload_is_taken_out_of_its_shell_and_put_back(rt: HostRuntime) -> Result<(), Fail> {
+    let mut file = gapped(rt.alloc(), 1)?;
+    let container = container_of(&file)?;
+    assert!(rt; container.start == 66 && container.size == 143_360);
+    let shell = take_shell(rt.alloc(), &mut file, container)?;
+    assert!(rt; file.len() == 143_360 && file.iter().all(|byte| *byte == 1));
+    assert!(rt; shell.front.len() == 66 && shell.back.as_slice() == b"xyz".as_slice());
+    let other = vec![in rt.alloc(); 2; 143_360]?;
+    let wanted = gapped(rt.alloc(), 2)?;
+    assert!(rt; shell.around(rt.alloc(), &other)?.as_slice() == wanted.as_slice());
+    let mut file = gapped(rt.alloc(), 3)?;
+    let container = container_of(&file)?;
+    keep_payload(&mut file, container);
+    assert!(rt; file.len() == 143_360 && file.iter().all(|byte| *byte == 3));
+    assert_eq!(rt; MOST_BYTES, 33_619_456);
+    Ok(())
+}
+
+#[test]
+fn a_container_stays_whole_without_memory(rt: HostRuntime) -> Result<(), Fail> {
+    let mut file = gapped(rt.alloc(), 1)?;
+    let container = container_of(&file)?;
+    for before in 1..3 {
+        let heap = Refusing::one(rt.alloc(), before);
+        let mut copy = Vec::from_slice(&heap, file.as_slice())?;
+        assert!(rt; take_shell(&heap, &mut copy, container).is_err());
+        assert!(rt; copy.as_slice() == file.as_slice());
+    }
+    let shell = take_shell(rt.alloc(), &mut file, container)?;
+    let refusing = Refusing::one(rt.alloc(), 0);
+    assert!(rt; shell.around(&refusing, file.as_slice()).is_err());
     Ok(())
 }

@@ -64,3 +64,5 @@ mod pro_slots;
 mod texts_memory;
 #[cfg(test)]
 mod tracks;
+#[cfg(test)]
+mod windows;

@@ -26,18 +26,3 @@ module _ {O : Type 0} (state : O → FolderState) (may_fail : O → FolderFailur
     failed = failed;
     half_made = λ honest. subst (λ (folder : FolderState). IsHalfMade next folder new) (none_made (state at)) (half honest);
   }
-
-  -- the second one
-  pub failed_second : (first next : Made) (old : FolderState) (at : O) → may_fail at failure
-      → (IsTrue old.honest → state at ≡ after_made (first ∷ []) old) → (IsTrue old.honest → IsHalfMade next (state at) new)
-      → HasFailedCall state may_fail (first ∷ next ∷ []) old new failure
-  failed_second first next old at failed before half = record {
-    first = first ∷ [];
-    next = next;
-    rest = [];
-    is = refl;
-    at = at;
-    before = before;
-    failed = failed;
-    half_made = λ honest. subst (λ (folder : FolderState). IsHalfMade next folder new) (before honest) (half honest);
-  }

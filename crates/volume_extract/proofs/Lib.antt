@@ -9,5 +9,4 @@ pub mod Ready
 pub mod Apart
 pub mod Ends
 pub mod TreeNames
-pub mod ReadableForms
 pub mod Calls

@@ -106,7 +106,7 @@ fn words_out_of_their_set_are_refused(rt: HostRuntime) {
         ),
         (
             "catalog a.dsk --fs dos --order DOS",
-            "invalid value 'DOS' for '--order <order>'\n  [possible values: auto, dos, prodos, nibble]",
+            "invalid value 'DOS' for '--order <order>'\n  [possible values: auto, 2img, dos, prodos, nibble]",
             CATALOG_USAGE,
         ),
         (

@@ -17,7 +17,11 @@ returns-in-Ok c =
     subst (λ (ask : Ask). IsReplyToBytes (ask_view ask) c.args.image.items c.args.extra.items reply) (sym c.in-Change.is)
     (inr (
       work,
-      subst (λ (extra : List ℕ). AsksFor volume (change_view c.in-Change.change) extra work) c.as_slice.ensures.value c.in-Ok.ensures.work,
+      subst (λ (extra : List ℕ). AsksFor volume (change_view c.in-Change.change) extra work) c.as_slice-in-Change.ensures.value c.in-Ok.ensures.work,
       subst (λ (said : Option (List ℕ)). IsVolumeReply volume said c.args.image.items (λ (reserved : List Bool). IsChangeReply work (changed_by volume reserved)) reply)
           c.as_deref-in-Ok.ensures.value c.image_change.ensures,
     ))
+
+pub returns-in-Identify : goal.returns-in-Identify
+returns-in-Identify c =
+    subst (λ (ask : Ask). IsReplyToBytes (ask_view ask) c.args.image.items c.args.extra.items c.identify_reply.result) (sym c.in-Identify.is) c.identify_reply.ensures

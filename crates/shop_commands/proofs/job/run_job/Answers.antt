@@ -9,9 +9,9 @@ use Rattle.shop_commands.proofs.job.run_job.Goals as goal
 answered : goal.returns-clause-answer
 answered g c =
     let ask = ask_view c.args.job.now.ask in
-    job_answered ask (g.I.Read.remaining c.args.image.now) (g.E.Read.remaining c.args.extra.now) c.order_to_read.result c.in-Ok.bytes.items c.in-Ok-extra_for.more.items c.reply_to.result c.deliver-2.result
+    job_answered ask (g.I.Read.remaining c.args.image.now) (g.E.Read.remaining c.args.extra.now) c.most_of_image.result c.in-Ok.bytes.items c.in-Ok-extra_for.more.items c.reply_to.result c.deliver-2.result
     (held (g.T.Write.contents c.args.text.now) (g.O.Write.contents c.args.out.now)) (held (g.T.Write.contents c.deliver-2.new.text) (g.O.Write.contents c.deliver-2.new.out))
-    (sym c.is_in_place.ensures ∙ c.if-is_in_place.false) c.order_to_read.ensures c.in-Ok.ensures.read
+    (sym c.is_in_place.ensures ∙ c.if-is_in_place.false) c.most_of_image.ensures c.in-Ok.ensures.read
     c.in-Ok-extra_for.ensures.read c.reply_to.ensures c.deliver-2.ensures.told
 
 pub returns-clause-answer : goal.returns-clause-answer

@@ -7,4 +7,4 @@ use Rattle.shop_words.proofs.auto.in_place.Given as goal
 
 abbrev pub invariant-loop-next : goal.invariant-loop-next
 invariant-loop-next l = shadow (Utf8 l.previous)
-    × (map string_bytes l.made.items ++ put_from l.option l.value string_bytes l.previous l.words l.next-index ≡ words_in_place l.option l.value (map string_bytes l.words))
+    × (map string_bytes l.made.items ++ put_from l.option l.stand_in l.value string_bytes l.previous l.words l.next-index ≡ words_in_place l.option l.stand_in l.value (map string_bytes l.words))

@@ -1,0 +1,11 @@
+mod Naming
+mod Ordering
+mod Hashed
+mod Lines
+mod Alike
+mod Groups
+mod Ends
+mod Keys
+mod Standings
+mod Told
+mod Chosen

@@ -1,0 +1,14 @@
+pub mod FileLine
+pub mod Ordered
+pub mod Naming
+pub mod Content
+pub mod Hashing
+pub mod Facts
+pub mod Surveyed
+pub mod Told
+pub mod Lines
+pub mod JsonLines
+pub mod JsonViews
+pub mod Same
+pub mod Grouping
+pub mod Survey

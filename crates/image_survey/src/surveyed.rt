@@ -1,0 +1,44 @@
+// What is found of the bytes of a file.
+use crate::content::Content;
+use crate::facts::VolumeFacts;
+use a2_device::Order;
+use shop_jobs::FileSystem;
+
+/// The best way to read an image, and its volume.
+#[derive(Debug, Drop)]
+pub struct BestReading {
+    pub file_system: FileSystem,
+    pub order: Order,
+    pub facts: VolumeFacts,
+}
+
+/// What is found of an image.
+#[derive(Debug, Drop)]
+pub enum ImageVerdict {
+    /// One way to read it is best.
+    Best(BestReading),
+    /// Some volume can be read, and no way is best; or the header of a container says another order.
+    Ambiguous,
+    /// No volume can be read.
+    NoVolume,
+}
+
+/// A file with an image.
+#[derive(Debug, Drop)]
+pub struct ImageFile {
+    /// The SHA-256 of all bytes of the file.
+    pub sha256: [u8; 32],
+    /// Whether the file is a container, so that the image is its payload.
+    pub container: bool,
+    pub verdict: ImageVerdict,
+}
+
+/// What is found of a file.
+#[derive(Debug, Drop)]
+pub enum Surveyed {
+    Image(ImageFile),
+    /// It is no image.
+    Other,
+    /// It can't be read.
+    Unread,
+}
