@@ -61,19 +61,34 @@ pub fn is_left_open(words: &[String]) -> bool {
         || asks_container(words, AutoOption::OtherOrder)
 }
 
+// The words with a value in the place of each stand-in of an option, where there is one.
+fn put(
+    alloc: Global,
+    words: Vec<String>,
+    option: AutoOption,
+    stand_in: StandIn,
+    value: &str,
+) -> Result<Vec<String>, AllocError> {
+    if asks_for(words.as_slice(), option, stand_in) {
+        in_place(alloc, words.as_slice(), option, stand_in, value)
+    } else {
+        Ok(words)
+    }
+}
+
 // The words with an order in the place of what stands for it.
 fn put_order(
     alloc: Global,
-    words: &[String],
+    words: Vec<String>,
     option: AutoOption,
     order: Order,
 ) -> Result<Vec<String>, AllocError> {
     let order = order_word(order);
-    let words = in_place(alloc, words, option, StandIn::Auto, order)?;
+    let words = put(alloc, words, option, StandIn::Auto, order)?;
     if wraps(words.as_slice()) {
         return Ok(words);
     }
-    in_place(alloc, words.as_slice(), option, StandIn::Container, order)
+    put(alloc, words, option, StandIn::Container, order)
 }
 
 // The words with a file system and an order in the place of what stands for them.
@@ -86,13 +101,8 @@ fn put_in_place(alloc: Global, words: &[String], ways: Ways) -> Result<Vec<Strin
         StandIn::Auto,
         file_system,
     )?;
-    let words = put_order(
-        alloc,
-        words.as_slice(),
-        AutoOption::OtherOrder,
-        ways.other_order,
-    )?;
-    put_order(alloc, words.as_slice(), AutoOption::Order, ways.order)
+    let words = put_order(alloc, words, AutoOption::OtherOrder, ways.other_order)?;
+    put_order(alloc, words, AutoOption::Order, ways.order)
 }
 
 // The job of words, or that it was told why there is none.

@@ -1,5 +1,5 @@
-// A job that puts the files of a volume into a new folder, done and ended: the folder takes its place
-// once all is in it and told.
+// A job that puts the files of a volume into a new folder, done and ended: the folder takes its
+// place once all is in it and told.
 ghost use Rattle.std.specs.Prelude.{◌≡◌, Some};
 ghost use Rattle.shop_jobs.specs.Job.{ask_view};
 ghost use Rattle.shop_jobs.specs.Paths.{volume_of as read_as};
@@ -37,7 +37,8 @@ fn start_folder<'a>(rt: &'a HostRuntime, job: &Job) -> Result<JobFolder<'a>, Sto
     }
 }
 
-// How a job ended whose files were not put into its folder, or not told; nothing of the folder stays.
+// How a job ended whose files were not put into its folder, or not told; nothing of the folder
+// stays.
 fn end_without<T: Write>(error: NotExtracted, text: &mut T) -> Ending {
     match error {
         NotExtracted::Refused(reply) => Ending::written(reply.tell(text)),
@@ -46,8 +47,8 @@ fn end_without<T: Write>(error: NotExtracted, text: &mut T) -> Ending {
     }
 }
 
-// Puts the files of the volume on a device into a folder, tells of them, and lets the folder take its
-// place.
+// Puts the files of the volume on a device into a folder, tells of them, and lets the folder take
+// its place.
 fn extract_units<D: Device, T: Write>(
     rt: &HostRuntime,
     job: &Job,
@@ -94,8 +95,8 @@ fn extract_bytes<T: Write>(
     }
 }
 
-/// Puts the files of the volume of a job into its folder, tells of them, and lets the folder take its
-/// place. The image is read as a whole where its units do not stand in its file as they are.
+/// Puts the files of the volume of a job into its folder, tells of them, and lets the folder take
+/// its place. The image is read as a whole where its units do not stand in its file as they are.
 pub fn extract_job<T: Write>(
     rt: &HostRuntime,
     job: &Job,

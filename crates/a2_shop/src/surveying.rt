@@ -6,8 +6,8 @@ use shop_files::{Ending, Unwritten, foreign_of, tell_foreign};
 use shop_jobs::{Job, SurveyForm, is_on_standard_input};
 use shop_replies::{Failure, read_front};
 use std::alloc::AllocError;
-use std::fs::{self, File};
-use std::io::{ErrorKind, Read, Write};
+use std::fs::{self, File, Metadata};
+use std::io::{self, ErrorKind, Read, Write};
 
 /// A file that is told of, by its path; or a folder with a name in it that can't be read.
 #[derive(Debug, PartialEq, Eq, PartialOrd, Ord, Drop)]
@@ -16,17 +16,38 @@ struct Item {
     is_unread: bool,
 }
 
-// The bytes of a regular file, up to one past the most of a container.
-fn bytes_of(rt: &HostRuntime, path: &str) -> Result<Vec<u8>, Failure> {
-    let Ok(mut file) = File::open(rt, path) else {
-        return Err(Failure::Input);
-    };
-    read_front(rt.alloc(), &mut file, MOST_BYTES as u32)
+// Why a call of the system failed: for want of memory, or else.
+fn failure_of(error: &io::Error) -> Failure {
+    if error.kind() == ErrorKind::OutOfMemory {
+        Failure::Memory
+    } else {
+        Failure::Input
+    }
 }
 
-// Whether a path leads to a regular file.
-fn is_file(rt: &HostRuntime, path: &str) -> bool {
-    matches!(fs::metadata(rt, path), Ok(found) if found.is_file())
+// The bytes of a regular file, up to one past the most of a container.
+fn bytes_of(rt: &HostRuntime, path: &str) -> Result<Vec<u8>, Failure> {
+    match File::open(rt, path) {
+        Ok(mut file) => read_front(rt.alloc(), &mut file, MOST_BYTES as u32),
+        Err(error) => Err(failure_of(&error)),
+    }
+}
+
+// What a path leads to.
+fn found_at(rt: &HostRuntime, path: &str) -> Result<Metadata, Failure> {
+    match fs::metadata(rt, path) {
+        Ok(found) => Ok(found),
+        Err(error) => Err(failure_of(&error)),
+    }
+}
+
+// The bytes of a file, if it is a regular one: a pipe might wait for ever.
+fn regular_bytes(rt: &HostRuntime, path: &str) -> Result<Vec<u8>, Failure> {
+    if found_at(rt, path)?.is_file() {
+        bytes_of(rt, path)
+    } else {
+        Err(Failure::Input)
+    }
 }
 
 /// A survey on its way.
@@ -63,12 +84,9 @@ impl Surveying<'_> {
         self.tell(path, &found, text)
     }
 
-    // Tells of one more file; of what is no regular one, that it can't be read: a pipe might wait for ever.
+    // Tells of one more file, or that it can't be read.
     fn tell_file<T: Write>(&mut self, path: &str, text: &mut T) -> Result<(), Stop> {
-        if !is_file(self.rt, path) {
-            return self.tell(path, &Surveyed::Unread, text);
-        }
-        match bytes_of(self.rt, path) {
+        match regular_bytes(self.rt, path) {
             Ok(bytes) => self.tell_bytes(path, bytes, text),
             Err(Failure::Memory) => Err(Stop::Failed(Failure::Memory)),
             Err(_) => self.tell(path, &Surveyed::Unread, text),
@@ -107,8 +125,8 @@ fn add_unread(rt: &HostRuntime, folder: &str, items: &mut Vec<Item>) -> Result<(
     Ok(())
 }
 
-// Adds what a name in a folder leads to, without following a link: a file to the items, a folder to those that are still
-// to be looked through.
+// Adds what a name in a folder leads to, without following a link: a file to the items, a folder to
+// those that are still to be looked through.
 fn add_entry(
     rt: &HostRuntime,
     path: String,
@@ -126,6 +144,7 @@ fn add_entry(
             })?;
         }
         Ok(_) => {}
+        Err(error) if error.kind() == ErrorKind::OutOfMemory => return Err(AllocError),
         Err(_) => {
             items.push(Item {
                 path,
@@ -144,8 +163,10 @@ fn add_folder(
     folders: &mut Vec<String>,
 ) -> Result<(), AllocError> {
     let place = if folder.is_empty() { "/" } else { folder };
-    let Ok(entries) = fs::read_dir(rt, place) else {
-        return add_unread(rt, folder, items);
+    let entries = match fs::read_dir(rt, place) {
+        Ok(entries) => entries,
+        Err(error) if error.kind() == ErrorKind::OutOfMemory => return Err(AllocError),
+        Err(_) => return add_unread(rt, folder, items),
     };
     for entry in entries {
         match entry {
@@ -180,8 +201,7 @@ fn input_of(rt: &HostRuntime) -> Result<Vec<u8>, Stop> {
     let mut list = Vec::new(rt.alloc());
     match rt.stdin().read_to_end(&mut list) {
         Ok(_) => Ok(list),
-        Err(error) if error.kind() == ErrorKind::OutOfMemory => Err(Stop::Failed(Failure::Memory)),
-        Err(_) => Err(Stop::Failed(Failure::Input)),
+        Err(error) => Err(Stop::Failed(failure_of(&error))),
     }
 }
 
@@ -204,8 +224,8 @@ fn survey_folder<T: Write>(
     path: &str,
     text: &mut T,
 ) -> Result<(), Stop> {
-    if fs::read_dir(surveying.rt, path).is_err() {
-        return Err(Stop::Failed(Failure::Input));
+    if let Err(error) = fs::read_dir(surveying.rt, path) {
+        return Err(Stop::Failed(failure_of(&error)));
     }
     let items = items_of(surveying.rt, path)?;
     tell_items(surveying, items.as_slice(), text)
@@ -217,17 +237,15 @@ fn survey_path<T: Write>(
     path: &str,
     text: &mut T,
 ) -> Result<(), Stop> {
-    match fs::metadata(surveying.rt, path) {
-        Ok(found) if found.is_dir() => survey_folder(surveying, path, text),
-        Ok(found) if found.is_file() => {
-            let bytes = bytes_of(surveying.rt, path)?;
-            surveying.tell_bytes(path, bytes, text)
-        }
-        _ => Err(Stop::Failed(Failure::Input)),
+    if found_at(surveying.rt, path)?.is_dir() {
+        return survey_folder(surveying, path, text);
     }
+    let bytes = regular_bytes(surveying.rt, path)?;
+    surveying.tell_bytes(path, bytes, text)
 }
 
-/// Tells of the files that a job looks at, then which images are the same and how many files there are.
+/// Tells of the files that a job looks at, then which images are the same and how many files there
+/// are.
 pub fn survey_job<T: Write>(
     rt: &HostRuntime,
     job: &Job,

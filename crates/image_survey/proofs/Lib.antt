@@ -9,3 +9,4 @@ mod Keys
 mod Standings
 mod Told
 mod Chosen
+mod Shared

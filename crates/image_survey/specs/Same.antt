@@ -54,3 +54,11 @@ pub record AreSameLines (images : List Candidate) (lines : List SameLine) : Type
   pub groups : List (List ℕ)
   pub are : AreGroups images groups
   pub is : lines ≡ lines_from 1 groups
+
+-- a line tells that an image is the same as another
+abbrev pub IsToldSame : List SameLine → ℕ → Type 0
+IsToldSame lines n = (group : ℕ) × Contains lines (record { group = group; image = n })
+
+-- so it is told exactly of the images whose content another has
+abbrev pub TellsShared : List Candidate → List SameLine → ℕ → Type 0
+TellsShared images lines n = AreSameLines images lines → (IsToldSame lines n ↔ IsShared images (length images) n)

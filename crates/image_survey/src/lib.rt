@@ -10,7 +10,8 @@
 //!
 //! What always holds: what is found of a file follows from its bytes alone; of a survey it is known of how many files of
 //! each kind was told, and of each image that may be the same as another its path and its content, and nothing else is
-//! kept of a file.
+//! kept of a file; and exactly the images whose content another has are told to be the same
+//! (`each_image_with_the_content_of_another_is_told`).
 #![tactic(auto)]
 
 mod content;
@@ -23,6 +24,7 @@ mod json_row;
 mod json_string;
 mod json_totals;
 mod kept;
+mod law;
 mod line;
 mod ordered;
 mod same;
@@ -33,5 +35,6 @@ pub use content::Content;
 pub use error::SurveyError;
 pub use facts::VolumeFacts;
 pub use image::survey_image;
+pub use law::each_image_with_the_content_of_another_is_told;
 pub use survey::Survey;
 pub use surveyed::{BestReading, ImageFile, ImageVerdict, Surveyed};
