@@ -3,66 +3,66 @@ _a2shop() {
   local word=${COMP_WORDS[COMP_CWORD]} before=${COMP_WORDS[COMP_CWORD-1]}
   COMPREPLY=()
   if [ "$COMP_CWORD" -eq 1 ]; then
-    mapfile -t COMPREPLY < <(compgen -W "catalog list compare map check read extract convert plan optimize lock unlock delete rename save verify identify help --help --version" -- "$word")
+    mapfile -t COMPREPLY < <(compgen -W "catalog list compare map check read extract convert plan optimize lock unlock delete rename save verify identify wrap unwrap survey help --help --version" -- "$word")
     return
   fi
   case "${COMP_WORDS[1]} $before" in
     'catalog --fs') mapfile -t COMPREPLY < <(compgen -W "auto dos prodos" -- "$word"); return ;;
-    'catalog --order') mapfile -t COMPREPLY < <(compgen -W "auto dos prodos nibble" -- "$word"); return ;;
+    'catalog --order') mapfile -t COMPREPLY < <(compgen -W "auto 2img dos prodos nibble" -- "$word"); return ;;
     'list --fs') mapfile -t COMPREPLY < <(compgen -W "auto dos prodos" -- "$word"); return ;;
-    'list --order') mapfile -t COMPREPLY < <(compgen -W "auto dos prodos nibble" -- "$word"); return ;;
+    'list --order') mapfile -t COMPREPLY < <(compgen -W "auto 2img dos prodos nibble" -- "$word"); return ;;
     'list --format') return ;;
     'list --most') return ;;
     'compare --fs') mapfile -t COMPREPLY < <(compgen -W "auto dos prodos" -- "$word"); return ;;
-    'compare --order') mapfile -t COMPREPLY < <(compgen -W "auto dos prodos nibble" -- "$word"); return ;;
+    'compare --order') mapfile -t COMPREPLY < <(compgen -W "auto 2img dos prodos nibble" -- "$word"); return ;;
     'compare --other-order') return ;;
     'compare --most') return ;;
     'map --fs') mapfile -t COMPREPLY < <(compgen -W "auto dos prodos" -- "$word"); return ;;
-    'map --order') mapfile -t COMPREPLY < <(compgen -W "auto dos prodos nibble" -- "$word"); return ;;
+    'map --order') mapfile -t COMPREPLY < <(compgen -W "auto 2img dos prodos nibble" -- "$word"); return ;;
     'map --reserve') return ;;
     'check --fs') mapfile -t COMPREPLY < <(compgen -W "auto dos prodos" -- "$word"); return ;;
-    'check --order') mapfile -t COMPREPLY < <(compgen -W "auto dos prodos nibble" -- "$word"); return ;;
+    'check --order') mapfile -t COMPREPLY < <(compgen -W "auto 2img dos prodos nibble" -- "$word"); return ;;
     'check --reserve') return ;;
     'read --fs') mapfile -t COMPREPLY < <(compgen -W "auto dos prodos" -- "$word"); return ;;
-    'read --order') mapfile -t COMPREPLY < <(compgen -W "auto dos prodos nibble" -- "$word"); return ;;
+    'read --order') mapfile -t COMPREPLY < <(compgen -W "auto 2img dos prodos nibble" -- "$word"); return ;;
     'read --as') return ;;
     'read --out') return ;;
     'extract --fs') mapfile -t COMPREPLY < <(compgen -W "auto dos prodos" -- "$word"); return ;;
-    'extract --order') mapfile -t COMPREPLY < <(compgen -W "auto dos prodos nibble" -- "$word"); return ;;
+    'extract --order') mapfile -t COMPREPLY < <(compgen -W "auto 2img dos prodos nibble" -- "$word"); return ;;
     'extract --into') return ;;
     'extract --names') return ;;
     'extract --most') return ;;
-    'convert --order') mapfile -t COMPREPLY < <(compgen -W "auto dos prodos nibble" -- "$word"); return ;;
+    'convert --order') mapfile -t COMPREPLY < <(compgen -W "auto 2img dos prodos nibble" -- "$word"); return ;;
     'convert --to') mapfile -t COMPREPLY < <(compgen -W "dos prodos nibble" -- "$word"); return ;;
     'convert --out') mapfile -t COMPREPLY < <(compgen -f -- "$word"); return ;;
     'convert --volume') return ;;
     'plan --fs') mapfile -t COMPREPLY < <(compgen -W "auto dos prodos" -- "$word"); return ;;
-    'plan --order') mapfile -t COMPREPLY < <(compgen -W "auto dos prodos nibble" -- "$word"); return ;;
+    'plan --order') mapfile -t COMPREPLY < <(compgen -W "auto 2img dos prodos nibble" -- "$word"); return ;;
     'plan --reserve') return ;;
     'optimize --fs') mapfile -t COMPREPLY < <(compgen -W "auto dos prodos" -- "$word"); return ;;
-    'optimize --order') mapfile -t COMPREPLY < <(compgen -W "auto dos prodos nibble" -- "$word"); return ;;
+    'optimize --order') mapfile -t COMPREPLY < <(compgen -W "auto 2img dos prodos nibble" -- "$word"); return ;;
     'optimize --out') mapfile -t COMPREPLY < <(compgen -f -- "$word"); return ;;
     'optimize --reserve') return ;;
     'optimize --stop-after') return ;;
     'optimize --cert') mapfile -t COMPREPLY < <(compgen -f -- "$word"); return ;;
     'lock --fs') mapfile -t COMPREPLY < <(compgen -W "auto dos prodos" -- "$word"); return ;;
-    'lock --order') mapfile -t COMPREPLY < <(compgen -W "auto dos prodos nibble" -- "$word"); return ;;
+    'lock --order') mapfile -t COMPREPLY < <(compgen -W "auto 2img dos prodos nibble" -- "$word"); return ;;
     'lock --out') mapfile -t COMPREPLY < <(compgen -f -- "$word"); return ;;
     'lock --reserve') return ;;
     'unlock --fs') mapfile -t COMPREPLY < <(compgen -W "auto dos prodos" -- "$word"); return ;;
-    'unlock --order') mapfile -t COMPREPLY < <(compgen -W "auto dos prodos nibble" -- "$word"); return ;;
+    'unlock --order') mapfile -t COMPREPLY < <(compgen -W "auto 2img dos prodos nibble" -- "$word"); return ;;
     'unlock --out') mapfile -t COMPREPLY < <(compgen -f -- "$word"); return ;;
     'unlock --reserve') return ;;
     'delete --fs') mapfile -t COMPREPLY < <(compgen -W "auto dos prodos" -- "$word"); return ;;
-    'delete --order') mapfile -t COMPREPLY < <(compgen -W "auto dos prodos nibble" -- "$word"); return ;;
+    'delete --order') mapfile -t COMPREPLY < <(compgen -W "auto 2img dos prodos nibble" -- "$word"); return ;;
     'delete --out') mapfile -t COMPREPLY < <(compgen -f -- "$word"); return ;;
     'delete --reserve') return ;;
     'rename --fs') mapfile -t COMPREPLY < <(compgen -W "auto dos prodos" -- "$word"); return ;;
-    'rename --order') mapfile -t COMPREPLY < <(compgen -W "auto dos prodos nibble" -- "$word"); return ;;
+    'rename --order') mapfile -t COMPREPLY < <(compgen -W "auto 2img dos prodos nibble" -- "$word"); return ;;
     'rename --out') mapfile -t COMPREPLY < <(compgen -f -- "$word"); return ;;
     'rename --reserve') return ;;
     'save --fs') mapfile -t COMPREPLY < <(compgen -W "auto dos prodos" -- "$word"); return ;;
-    'save --order') mapfile -t COMPREPLY < <(compgen -W "auto dos prodos nibble" -- "$word"); return ;;
+    'save --order') mapfile -t COMPREPLY < <(compgen -W "auto 2img dos prodos nibble" -- "$word"); return ;;
     'save --from') mapfile -t COMPREPLY < <(compgen -f -- "$word"); return ;;
     'save --as') return ;;
     'save --high') return ;;
@@ -72,9 +72,15 @@ _a2shop() {
     'save --date') return ;;
     'save --reserve') return ;;
     'verify --fs') mapfile -t COMPREPLY < <(compgen -W "auto dos prodos" -- "$word"); return ;;
-    'verify --order') mapfile -t COMPREPLY < <(compgen -W "auto dos prodos nibble" -- "$word"); return ;;
+    'verify --order') mapfile -t COMPREPLY < <(compgen -W "auto 2img dos prodos nibble" -- "$word"); return ;;
     'verify --from') mapfile -t COMPREPLY < <(compgen -f -- "$word"); return ;;
     'verify --reserve') return ;;
+    'wrap --order') mapfile -t COMPREPLY < <(compgen -W "auto dos prodos nibble" -- "$word"); return ;;
+    'wrap --out') return ;;
+    'wrap --comment') return ;;
+    'wrap --volume') return ;;
+    'unwrap --out') return ;;
+    'survey --format') return ;;
   esac
   if [[ $word != -* ]]; then
     mapfile -t COMPREPLY < <(compgen -f -- "$word")
@@ -98,6 +104,9 @@ _a2shop() {
     save) mapfile -t COMPREPLY < <(compgen -W "--fs --order --from --as --high --out --in-place --type --aux --date --data-disk --reserve --auto --explain --help" -- "$word") ;;
     verify) mapfile -t COMPREPLY < <(compgen -W "--fs --order --from --data-disk --reserve --reclaim --auto --explain --help" -- "$word") ;;
     identify) mapfile -t COMPREPLY < <(compgen -W " --auto --explain --help" -- "$word") ;;
+    wrap) mapfile -t COMPREPLY < <(compgen -W "--order --out --comment --volume --protect --auto --explain --help" -- "$word") ;;
+    unwrap) mapfile -t COMPREPLY < <(compgen -W "--out --auto --explain --help" -- "$word") ;;
+    survey) mapfile -t COMPREPLY < <(compgen -W "--format --auto --explain --help" -- "$word") ;;
   esac
 }
 complete -o filenames -F _a2shop a2shop
