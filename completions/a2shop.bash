@@ -3,7 +3,7 @@ _a2shop() {
   local word=${COMP_WORDS[COMP_CWORD]} before=${COMP_WORDS[COMP_CWORD-1]}
   COMPREPLY=()
   if [ "$COMP_CWORD" -eq 1 ]; then
-    mapfile -t COMPREPLY < <(compgen -W "catalog list compare map check read extract convert plan optimize lock unlock delete rename save verify identify wrap unwrap survey help --help --version" -- "$word")
+    mapfile -t COMPREPLY < <(compgen -W "catalog list compare map check read extract convert plan optimize lock unlock delete rename save verify identify wrap unwrap survey create reclaim help --help --version" -- "$word")
     return
   fi
   case "${COMP_WORDS[1]} $before" in
@@ -81,6 +81,18 @@ _a2shop() {
     'wrap --volume') return ;;
     'unwrap --out') return ;;
     'survey --format') return ;;
+    'create --fs') mapfile -t COMPREPLY < <(compgen -W "dos prodos" -- "$word"); return ;;
+    'create --order') return ;;
+    'create --out') return ;;
+    'create --blocks') return ;;
+    'create --name') return ;;
+    'create --date') return ;;
+    'create --volume') return ;;
+    'create --boot') return ;;
+    'reclaim --fs') mapfile -t COMPREPLY < <(compgen -W "auto dos prodos" -- "$word"); return ;;
+    'reclaim --order') mapfile -t COMPREPLY < <(compgen -W "auto 2img dos prodos nibble" -- "$word"); return ;;
+    'reclaim --out') mapfile -t COMPREPLY < <(compgen -f -- "$word"); return ;;
+    'reclaim --reserve') return ;;
   esac
   if [[ $word != -* ]]; then
     mapfile -t COMPREPLY < <(compgen -f -- "$word")
@@ -107,6 +119,8 @@ _a2shop() {
     wrap) mapfile -t COMPREPLY < <(compgen -W "--order --out --comment --volume --protect --auto --explain --help" -- "$word") ;;
     unwrap) mapfile -t COMPREPLY < <(compgen -W "--out --auto --explain --help" -- "$word") ;;
     survey) mapfile -t COMPREPLY < <(compgen -W "--format --auto --explain --help" -- "$word") ;;
+    create) mapfile -t COMPREPLY < <(compgen -W "--fs --order --out --blocks --name --date --volume --data-disk --boot --auto --explain --help" -- "$word") ;;
+    reclaim) mapfile -t COMPREPLY < <(compgen -W "--fs --order --out --in-place --data-disk --reserve --auto --explain --help" -- "$word") ;;
   esac
 }
 complete -o filenames -F _a2shop a2shop

@@ -27,7 +27,8 @@ impl<F: PositionedFile> FileDevice<F> {
     pub fn new(file: F, kind: UnitKind, places: u32) -> Self
         requires long { unit_bytes kind * places ≡ (F.state file).size }
         requires none { (F.state file).standing ≡ 0 }
-        ensures { ⟦<FileDevice<F> as Device>⟧.state result ≡ file_device_state kind places 0 0 (F.state file) }
+        ensures state { ⟦<FileDevice<F> as Device>⟧.state result ≡ file_device_state kind places 0 0 (F.state file) }
+        ensures file { result.file ≡ file }
     {
         FileDevice {
             file,

@@ -4,8 +4,10 @@ ghost use Rattle.a2_media.specs.ImageDevice.{unit_bytes};
 ghost use Rattle.a2_device.specs.Order.{IsImageLength};
 ghost use Rattle.a2_media.specs.declared.opening.FileError.TheVariants.{Io};
 ghost use Rattle.a2_media.specs.System.{IsDeviceOf, IsInPlace};
+ghost use Rattle.a2_media.specs.Window.{image_extent};
 
 use crate::UnitKind;
+use crate::file::PositionedFile;
 use crate::file_units::FileDevice;
 use crate::system::SystemFile;
 use crate::window::{Extent, Window};
@@ -74,6 +76,7 @@ fn places_in(order: Order, kind: UnitKind, bytes: u64) -> Result<u32, FileError>
 // Where the image stands in a file of so many bytes: where that is said, if it is inside, or else all of it.
 fn extent_in(said: Option<Extent>, bytes: u64) -> Result<Extent, FileError>
     ensures inside { IfOk result (λ extent. extent.start + extent.size ≤ bytes) }
+    ensures taken { IfOk result (λ extent. extent ≡ image_extent said bytes) }
     ensures refused { IfErr result (λ error. error ≡ FileError.Io) }
 {
     match said {
@@ -96,6 +99,8 @@ fn device_of(
     requires in_place { IsInPlace order kind }
     ensures opened { IfOk result (λ device.
         IsDeviceOf order kind (⟦<FileDevice<Window<SystemFile>> as Device>⟧.state device)) }
+    ensures window { IfOk result (λ device.
+        device.file.extent ≡ image_extent part (⟦<SystemFile as PositionedFile>⟧.state device.file.file).size) }
     ensures refused { IfErr result (λ error. error ≢ FileError.InPlace) }
 {
     let found = file.metadata()?;
@@ -125,6 +130,8 @@ impl FileDevice<Window<SystemFile>> {
     ) -> Result<FileDevice<Window<SystemFile>>, FileError>
         ensures opened { IfOk result (λ device.
             IsDeviceOf order kind (⟦<FileDevice<Window<SystemFile>> as Device>⟧.state device)) }
+        ensures window { IfOk result (λ device.
+            device.file.extent ≡ image_extent part (⟦<SystemFile as PositionedFile>⟧.state device.file.file).size) }
         ensures in_place { IsErrOf result FileError.InPlace ↔ (¬ IsInPlace order kind) }
     {
         if !is_in_place(order, kind) {

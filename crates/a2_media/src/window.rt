@@ -29,8 +29,10 @@ impl<F: PositionedFile> Window<F> {
     pub fn new(file: F, extent: Extent) -> Self
         requires inside { extent.start + extent.size ≤ (F.state file).size }
         requires few { (F.state file).size < 2 ^ 64 }
-        ensures { ⟦<Window<F> as PositionedFile>⟧.state result
+        ensures state { ⟦<Window<F> as PositionedFile>⟧.state result
             ≡ window_state extent.start extent.size (F.state file) }
+        ensures file { result.file ≡ file }
+        ensures extent { result.extent ≡ extent }
     {
         Window { file, extent }
     }

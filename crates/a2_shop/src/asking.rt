@@ -25,12 +25,17 @@ const UNSETTLED: Ways = Ways {
     other_order: Order::Dos,
 };
 
-// Whether the words are those of the command that makes containers: the image of one is in none.
-fn wraps(words: &[String]) -> bool {
+// Whether the words are those of a command.
+fn is_command(words: &[String], name: &str) -> bool {
     match words.first() {
-        Some(command) => command.as_str() == "wrap",
+        Some(command) => command.as_str() == name,
         None => false,
     }
+}
+
+// Whether the words are those of the command that makes containers: the image of one is in none.
+fn wraps(words: &[String]) -> bool {
+    is_command(words, "wrap")
 }
 
 /// Whether an option is `auto`.
@@ -52,8 +57,13 @@ pub fn is_container(words: &[String], option: AutoOption, bytes: &[u8]) -> bool 
     asks_container(words, option)
 }
 
-/// Whether the words leave to the images how they are read.
+/// Whether the words leave to the images how they are read. A volume that is made has no image.
 pub fn is_left_open(words: &[String]) -> bool {
+    !is_command(words, "create") && leaves_open(words)
+}
+
+// Whether an option of the words leaves to an image how it is read.
+fn leaves_open(words: &[String]) -> bool {
     asks_auto(words, AutoOption::FileSystem)
         || asks_auto(words, AutoOption::Order)
         || asks_auto(words, AutoOption::OtherOrder)

@@ -66,17 +66,27 @@ fn copy_of(rt: &HostRuntime, path: Option<&str>) -> Option<String> {
     path?.to_string(rt.alloc()).ok()
 }
 
-/// Looks where the files of a job lead. Two roles that one file has, of which one is written, are
+/// Looks where the files of a job lead.
+pub fn job_files<'a>(
+    rt: &HostRuntime,
+    job: &'a Job,
+    found: &mut Found,
+) -> Result<JobFiles<'a>, Stop> {
+    note_paths(rt, job, found);
+    match JobFiles::of(rt, job) {
+        Ok(files) => Ok(files),
+        Err(_) => Err(Stop::Failed(Failure::Memory)),
+    }
+}
+
+/// The same of a job that has an image. Two roles that one file has, of which one is written, are
 /// refused as words are.
 pub fn files_of<'a>(
     rt: &HostRuntime,
     job: &'a Job,
     found: &mut Found,
 ) -> Result<JobFiles<'a>, Stop> {
-    note_paths(rt, job, found);
-    let Ok(files) = JobFiles::of(rt, job) else {
-        return Err(Stop::Failed(Failure::Memory));
-    };
+    let files = job_files(rt, job, found)?;
     match files.clash(is_in_place(job)) {
         Some(clash) => Err(Stop::Clash(clash)),
         None => Ok(files),

@@ -6,11 +6,12 @@
 //! the image stands in a container, the job done, its files ended and its answer told. Each stage
 //! has its file: `words.rt`, `asking.rt`, `inputs.rt`, `settling.rt`, `doing.rt` and `ending.rt`;
 //! a job that makes a folder is done and ended in `extracting.rt`, one that surveys a folder in
-//! `surveying.rt`, and `stop.rt` has what ends the line early. `streams.rt` takes the descriptors
+//! `surveying.rt`, one that makes a volume in `creating.rt`, and `stop.rt` has what ends the line early. `streams.rt` takes the descriptors
 //! of closed streams, so that no file gets one.
 #![tactic(auto)]
 
 mod asking;
+mod creating;
 mod doing;
 mod ending;
 mod extracting;

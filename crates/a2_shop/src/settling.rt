@@ -5,6 +5,7 @@ use crate::stop::Stop;
 use a2_device::Order;
 use disk_container::{Container, MOST_BYTES, begins_like_container, container_of, take_shell};
 use image_readings::{Choice, best_reading, file_system_word, order_word};
+use shop_commands::is_protected;
 use shop_files::{Found, ImageUse, JobFiles, foreign_of, other_bytes, warn_of_order};
 use shop_jobs::{Ask, FileSystem, Job, image_order, volume_of};
 use shop_replies::{Refusal, Side};
@@ -113,15 +114,6 @@ fn order_of_other(
     Ok(order)
 }
 
-// Whether a job changes its image, or writes another over it.
-fn writes_image(asked: &Job, files: &JobFiles<'_>) -> bool {
-    match &asked.ask {
-        Ask::Change { .. } => true,
-        Ask::Convert { .. } => files.image_use(false) == ImageUse::Replace,
-        _ => false,
-    }
-}
-
 // The image of a job, taken out of its container where it is read as one, which lets it be written
 // where the job does that.
 fn open_image(
@@ -132,8 +124,9 @@ fn open_image(
     image: &mut Vec<u8>,
 ) -> Result<Option<OpenContainer>, Stop> {
     let container = open_container(rt, words, AutoOption::Order, image)?;
+    let replaces = files.image_use(false) == ImageUse::Replace;
     match said_by(&container) {
-        Some(says) if says.protected && writes_image(asked, files) => {
+        Some(says) if is_protected(asked, replaces, says) => {
             Err(Stop::Refused(Refusal::Protected))
         }
         _ => Ok(container),

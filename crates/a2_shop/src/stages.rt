@@ -1,5 +1,6 @@
 // The program, stage by stage.
 use crate::asking::asked_job;
+use crate::creating::create_job;
 use crate::doing::{Done, do_job, fault_files, is_content};
 use crate::ending::{Outputs, end, explain_answer};
 use crate::extracting::extract_job;
@@ -102,6 +103,9 @@ fn run_stages<T: Write>(
     let asked = asked_job(rt, words, text)?;
     if let Ask::Survey { form } = &asked.ask {
         return survey_job(rt, &asked, *form, found.is_wanted, text);
+    }
+    if let Ask::Create { options, .. } = &asked.ask {
+        return create_job(rt, &asked, options, found, text);
     }
     let files = files_of(rt, &asked, found)?;
     let mut inputs = open_inputs(rt, words, &asked, &files, found)?;

@@ -90,18 +90,19 @@ pub static REFUSALS: [Explanation; 34] = [
     },
     Explanation {
         front: "REFUSED Name",
-        meaning: "No file may have the new name, or the name of the new file. Nothing was written.",
+        meaning: "No file may have the new name, or the name of the new file; or no volume the name behind `--name` of \
+            `a2shop create`. Nothing was written.",
         advice: "A name of DOS 3.3 has 1 to 30 characters from the space to the tilde and no comma, begins with a \
             capital letter and does not end with a space. A name of ProDOS has 1 to 15 letters, digits and periods and \
-            begins with a letter; it is the last of the file's path, without a slash. To `a2shop rename` give that \
-            name alone, to `a2shop save` the whole path.",
+            begins with a letter, that of a volume too; it is the last of the file's path, without a slash. To \
+            `a2shop rename` give that name alone, to `a2shop save` the whole path.",
     },
     Explanation {
         front: "REFUSED Exists",
         meaning: "The directory has an entry with the new name, or with the name of the new file: a file, a directory, \
-            or the very file that was to be renamed. Letters of either case are the same to ProDOS. Of `a2shop read` \
-            it is the path behind `--out` at which something stands, a link too. No file is replaced by another, and \
-            nothing was written.",
+            or the very file that was to be renamed. Letters of either case are the same to ProDOS. Of `a2shop read`, \
+            `wrap`, `unwrap` and `create` it is the path behind `--out` at which something stands, a link too. No file \
+            is replaced by another, and nothing was written.",
         advice: "Choose another name, or first rename or delete the entry that has it: `a2shop catalog` shows them. To \
             save a file anew, delete the old one first.",
     },
@@ -131,7 +132,7 @@ pub static REFUSALS: [Explanation; 34] = [
         meaning: "Fewer places are free on the volume than the file takes. It takes a sector or block for each of its \
             lists or indexes too, beside those of its bytes. Nothing was written.",
         advice: "Delete files that are not needed; the line `FREE` of `a2shop catalog` tells how many places are free. \
-            Where places are lost, `a2shop optimize --reclaim` marks them as free.",
+            Where places are lost, `a2shop reclaim` marks them as free.",
     },
     Explanation {
         front: "REFUSED NoFreePlace",
@@ -190,8 +191,9 @@ pub static REFUSALS: [Explanation; 34] = [
     },
     Explanation {
         front: "REFUSED NoSector",
-        meaning: "A sector of the disk can't be found on its track, so the disk can't be written in another order. A \
-            track of disk bytes may be damaged, copy-protected or never formatted.",
+        meaning: "A sector of the disk can't be found on its track, so the disk can't be written in another order, or \
+            its system not be copied to a new one. A track of disk bytes may be damaged, copy-protected or never \
+            formatted.",
         advice: "Read the disk again, if you can. `a2shop catalog`, `check` and `read` still work on what can be read.",
     },
     Explanation {

@@ -13,3 +13,6 @@ pub mod Elsewhere
 pub mod PlacedWrites
 pub mod Savings
 pub mod MadeSaving
+pub mod EditedStores
+pub mod LostMarks
+pub mod MadeReclaim

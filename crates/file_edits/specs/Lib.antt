@@ -7,3 +7,4 @@ pub mod Saved
 pub mod Saving
 pub mod Slots
 pub mod Placing
+pub mod Reclaimed

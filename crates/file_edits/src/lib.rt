@@ -1,4 +1,5 @@
-//! Commands that change the files of a volume, over any device that has its units and any format that is edited.
+//! Commands that change the files of a volume, or mark its lost places free, over any device that has its units and any
+//! format that is edited.
 //!
 //! A file is locked, unlocked or renamed by one write into its entry (`locking`, `naming`), and deleted by two writes
 //! or more (`deleting`). What an edit is, what it asks of a format and what it does to the list of the volume's files
@@ -11,6 +12,9 @@
 //! slot to which the path leads (`specs/Slots.antt`, `slots`). The writes are all made ready (`specs/Placing.antt`,
 //! `preparing`) before the first is made (`saving`). What saving leaves and why it is refused is told by
 //! `specs/Saved.antt`.
+//!
+//! Lost places are marked free by one write for each unit of the map that has marks of them, and nothing else is
+//! changed (`reclaiming`). What these writes are and what they leave is told by `specs/Reclaimed.antt`.
 //!
 //! What always holds: all room is taken and all is weighed before the first write; a refusal leaves the device as it
 //! was; where a read or a write fails, the files are those of before or those of after.
@@ -25,6 +29,7 @@ mod locking;
 mod naming;
 mod places;
 mod preparing;
+mod reclaiming;
 mod saving;
 mod slots;
 
@@ -38,4 +43,5 @@ pub use deletion::{
 pub use locking::{lock, unlock};
 pub use naming::rename;
 pub use places::first_places;
+pub use reclaiming::reclaim;
 pub use saving::save;

@@ -12,8 +12,9 @@ use Rattle.shop_reads.specs.Reserving.{NamesPlaces, OfReserved}
 use Rattle.shop_changes.specs.EditOutcome.{IsEditOutcome}
 use Rattle.shop_changes.specs.EditRules.{ChangedMeaning}
 use Rattle.shop_changes.specs.OptimizeOutcome.{IsOptimizeOutcome}
+use Rattle.shop_changes.specs.ReclaimOutcome.{IsReclaimOutcome}
 use Rattle.shop_changes.specs.SaidFile.{IsSaidOutcome}
-use Rattle.shop_changes.specs.Work.{WorkView, Optimize, EditOf, Save}
+use Rattle.shop_changes.specs.Work.{WorkView, Optimize, EditOf, Reclaim, Save}
 use Rattle.shop_changes.specs.declared.outcome.Outcome.{Outcome}
 use Rattle.shop_changes.specs.declared.outcome.Outcome.TheVariants.{Unfinished}
 
@@ -22,6 +23,7 @@ abbrev pub IsWorkOutcome : WorkView → ChangedMeaning → DeviceState → Devic
 IsWorkOutcome (Optimize reclaim limit) format old new outcome = IsOptimizeOutcome reclaim limit format.units old new outcome
 IsWorkOutcome (EditOf edit name) format old new outcome = IsEditOutcome edit name format.files format.edits format.units old new outcome
 IsWorkOutcome (Save path said) format old new outcome = IsSaidOutcome path said format.edits.save format.units old new outcome
+IsWorkOutcome Reclaim format old new outcome = IsReclaimOutcome format.units old new outcome
 
 -- there was no memory for the work, and the device is as it was
 abbrev pub LacksMemory : DeviceState → DeviceState → Outcome → Type 0

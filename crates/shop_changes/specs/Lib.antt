@@ -9,5 +9,6 @@ pub mod Outcome
 pub mod OptimizeOutcome
 pub mod EditOutcome
 pub mod SaveOutcome
+pub mod ReclaimOutcome
 pub mod SaidFile
 pub mod Changing

@@ -10,6 +10,7 @@ ghost use Rattle.vol_format.specs.Fits.{Fits};
 use crate::editing::edit_in_place;
 use crate::optimizing::optimize_in_place;
 use crate::outcome::Outcome;
+use crate::reclaiming::reclaim_in_place;
 use crate::said_file::save_said;
 use crate::work::Work;
 use a2_device::Device;
@@ -48,6 +49,10 @@ fn change_by<D: Device, F: SavableFormat>(
         }
         Work::Save { path, said } => {
             let outcome = save_said(alloc, &mut device, format, path, said);
+            (outcome, device)
+        }
+        Work::Reclaim => {
+            let outcome = reclaim_in_place(alloc, &mut device, format);
             (outcome, device)
         }
     }

@@ -1,5 +1,5 @@
 //! What becomes of a volume that is changed, on any device that has its units: its files are brought into order, a file
-//! of it is changed, or a new one is saved to it.
+//! of it is changed, a new one is saved to it, or its lost places are marked free.
 //!
 //! `change_in_place` does `Work` and hands the device back with an `Outcome`, which `Outcome::tell` tells; the words
 //! may reserve places, and `change_volume` is told them.
@@ -7,7 +7,7 @@
 //! The model. `specs/Work.antt` is the work as contracts see it, and `specs/EditRules.antt` what a format of volumes is
 //! to it. What a change of a file and a new file are, by their writes and what these leave, stands in
 //! `specs/Edits.antt` and `specs/Saves.antt`. What became of the work is an `Outcome` (`specs/Outcome.antt`):
-//! `OptimizeOutcome`, `EditOutcome` and `SaveOutcome` say it of each work by what the optimizer and the commands
+//! `OptimizeOutcome`, `EditOutcome`, `SaveOutcome` and `ReclaimOutcome` say it of each work by what the optimizer and the commands
 //! promise, and `specs/Changing.antt` of all of them.
 //!
 //! A new file is said in words and bytes, and these give a file (`specs/SaidFile.antt`): the bytes as they are, or what
@@ -29,6 +29,7 @@ mod given_words;
 mod law;
 mod optimizing;
 mod outcome;
+mod reclaiming;
 mod report_line;
 mod said_file;
 mod saving;

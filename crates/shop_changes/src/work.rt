@@ -12,4 +12,6 @@ pub enum Work<'a> {
     Edit { edit: &'a Edit, name: FileName<'a> },
     /// A new file is saved to it.
     Save { path: &'a [u8], said: SaidFile<'a> },
+    /// Its lost places are marked free.
+    Reclaim,
 }

@@ -3,12 +3,12 @@ use Rattle.std.proofs.Common.{◌≡◌, ◌≢◌, ◌∙◌, ℕ, ◌+◌, Boo
 use Rattle.std.proofs.lemmas.Bool.{false≢true}
 use Rattle.std.proofs.lemmas.Option.{same_Some}
 use Rattle.std.specs.Io.KnownBytes.{Appends, Keeps}
-use Rattle.std.specs.Prelude.{◌⊎◌, Option, Some, None, IfSome, IsSome, codes}
+use Rattle.std.specs.Prelude.{◌⊎◌, Option, Some, None, IfSome, IsSome, codes, option_map}
 use Rattle.file_forms.specs.declared.form.GivenForm.{GivenForm}
 use Rattle.shop_changes.specs.GivenFile.{most_input}
 use Rattle.shop_changes.specs.SaidFile.{SaidView}
-use Rattle.shop_jobs.specs.Job.{AskView, AttributesView, ChangeOf, ChangeView, Convert, EditOf, EditView, ExtractFrom, Identify, JobView, LookAt, LookView, Catalog, Entries, Check, Map, Compare, Read, Plan, Verify, Optimize, Save, Survey, Unwrap, Wrap}
-use Rattle.shop_jobs.specs.Paths.{from_of, is_in_place, new_file_of}
+use Rattle.shop_jobs.specs.Job.{AskView, AttributesView, ChangeOf, ChangeView, Convert, Create, EditOf, EditView, ExtractFrom, Identify, JobView, LookAt, LookView, Catalog, Entries, Check, Map, Compare, Read, Plan, Verify, Optimize, Reclaim, Save, Survey, Unwrap, Wrap}
+use Rattle.shop_jobs.specs.Paths.{HasImage, from_of, is_in_place, new_file_of}
 use Rattle.shop_jobs.specs.declared.job.FileSystem.{FileSystem}
 use Rattle.shop_jobs.specs.declared.job.VolumeOptions.{VolumeOptions}
 use Rattle.shop_words.specs.Job.{asked_job}
@@ -34,12 +34,13 @@ use Rattle.shop_image.specs.ChangeReply.{IsChangeReply}
 use Rattle.shop_image.specs.LookReply.{IsImageLook}
 use Rattle.shop_image.specs.VolumeReply.{IsVolumeReply}
 use Rattle.shop_image.proofs.Fronts.{saved-take, volume-told, volume-whole, with_said_bytes}
-use Rattle.shop_image.proofs.NotMade.{edited_image, said_image, sided_made, sided_same, volume_made}
+use Rattle.shop_image.proofs.NotMade.{edited_image, reclaimed_image, said_image, sided_made, sided_same, volume_made}
 use Rattle.image_readings.proofs.Fronts.{identify-whole}
 use Rattle.image_readings.proofs.NotMade.{identify_not_made}
 use Rattle.shop_replies.specs.Reading.{IsReadFailure, most_beside, most_of_image}
 use Rattle.shop_replies.specs.declared.refusal.Side.{Side}
-use Rattle.shop_commands.specs.Answer.{AreToldNoJob, AsksFor, HandsOutFor, IsAnswer, IsCommandAnswer, IsSaid, IsInPlaceAnswer, IsReplyToBytes, IsWordsAnswer, MakesImage, TellsNoJob, beside, unread_reply}
+use Rattle.shop_commands.specs.Answer.{AreToldNoJob, AsksFor, HandsOutFor, IsAnswer, IsCommandAnswer, IsSaid, IsInPlaceAnswer, IsReplyToBytes, IsWordsAnswer, MakesImage, ReadsExtra, ReadsImage, TellsNoJob, beside, unread_reply}
+use Rattle.shop_commands.proofs.Created.{create-take, created_image}
 
 -- what is told of the work of a change
 abbrev IsWorkTold : VolumeOptions → Option (List ℕ) → List ℕ → WorkView → Reply → Type 0
@@ -65,6 +66,7 @@ asked-whole : (volume : VolumeOptions) (reserve : Option (List ℕ)) (image : Li
     → (other : WorkView) × AsksFor volume change bytes other × IsWorkTold volume reserve image other reply
 asked-whole volume reserve image (Optimize reclaim stop_after cert) front bytes reply taken work asks told = (work, asks, told)
 asked-whole volume reserve image (EditOf name edit) front bytes reply taken work asks told = (work, asks, told)
+asked-whole volume reserve image Reclaim front bytes reply taken work asks told = (work, asks, told)
 asked-whole volume reserve image (Save name attributes form from) front bytes reply taken work (said, is, asks) told = (
   works.Save name (with_said_bytes said bytes),
   (with_said_bytes said bytes, said-whole volume.file_system attributes form front bytes said is, refl),
@@ -84,6 +86,7 @@ reply-whole (Survey form) image more bytes reply taken is = is
 reply-whole (Convert words) image more bytes reply taken is = convert-whole words.order words.to words.volume image reply is
 reply-whole (Wrap words out) image more bytes reply taken is = wrap-whole words image reply is
 reply-whole (Unwrap out) image more bytes reply taken is = unwrap-whole image reply is
+reply-whole (Create words boot out) image more bytes reply taken is = create-take words boot more bytes reply taken is
 reply-whole (LookAt volume reserve look) image more bytes reply taken looked = record {
   plain = looked.plain;
   is = volume-told volume reserve image (λ (reserved : List Bool). IsLookReply look more (shown_by volume reserved))
@@ -98,18 +101,33 @@ reply-whole (ChangeOf volume reserve change target) image more bytes reply taken
     inr (asked-whole volume reserve image change more bytes reply taken work asks
     (volume-whole volume reserve image (λ (reserved : List Bool). IsChangeReply work (changed_by volume reserved)) reply told))
 
+-- the reply to what was read of an image, of which a job that has none reads nothing
+reply-front : (ask : AskView) (front image more : List ℕ) (reply : Reply) → (HasImage ask → front ≡ front_for ask image) → IsReplyToBytes ask front more reply
+    → IsReplyToBytes ask (front_for ask image) more reply
+reply-front (Create words boot out) front image more reply taken is = is
+reply-front Identify front image more reply taken is = subst (λ (bytes : List ℕ). IsReplyToBytes Identify bytes more reply) (taken tt) is
+reply-front (Survey form) front image more reply taken is = subst (λ (bytes : List ℕ). IsReplyToBytes (Survey form) bytes more reply) (taken tt) is
+reply-front (Convert words) front image more reply taken is = subst (λ (bytes : List ℕ). IsReplyToBytes (Convert words) bytes more reply) (taken tt) is
+reply-front (Wrap words out) front image more reply taken is = subst (λ (bytes : List ℕ). IsReplyToBytes (Wrap words out) bytes more reply) (taken tt) is
+reply-front (Unwrap out) front image more reply taken is = subst (λ (bytes : List ℕ). IsReplyToBytes (Unwrap out) bytes more reply) (taken tt) is
+reply-front (LookAt volume reserve look) front image more reply taken is =
+    subst (λ (bytes : List ℕ). IsReplyToBytes (LookAt volume reserve look) bytes more reply) (taken tt) is
+reply-front (ExtractFrom volume options into) front image more reply taken is =
+    subst (λ (bytes : List ℕ). IsReplyToBytes (ExtractFrom volume options into) bytes more reply) (taken tt) is
+reply-front (ChangeOf volume reserve change target) front image more reply taken is =
+    subst (λ (bytes : List ℕ). IsReplyToBytes (ChangeOf volume reserve change target) bytes more reply) (taken tt) is
+
 if_known : {P Q : List ℕ → Type 0} (known : Option (List ℕ)) → ((bytes : List ℕ) → P bytes → Q bytes) → IfSome known P → IfSome known Q
 if_known None each is = tt
 if_known (Some bytes) each is = each bytes is
 
-pub job_answered : (ask : AskView) (known extra : Option (List ℕ)) (most : ℕ) (front more : List ℕ) (reply : Reply) (status : ℕ) (old new : Held)
-    → is_in_place ask ≡ false → most ≡ most_of_image ask → IfSome known (λ image. front ≡ take (most + 1) image)
+pub job_answered : (ask : AskView) (known extra : Option (List ℕ)) (front more : List ℕ) (reply : Reply) (status : ℕ) (old new : Held)
+    → is_in_place ask ≡ false → (HasImage ask → IfSome known (λ image. front ≡ take (most_of_image ask + 1) image))
     → IfSome (beside (from_of ask) extra) (λ bytes. more ≡ take (most_beside ask + 1) bytes) → IsReplyToBytes ask front more reply
     → IsDelivered reply status old new → IfSome known (λ image. IsAnswer ask image extra status old new)
-job_answered ask None extra most front more reply status old new outside same taken taken' is told = tt
-job_answered ask (Some image) extra most front more reply status old new outside same taken taken' is told =
-    let whole : front ≡ front_for ask image = subst (λ n. front ≡ take (n + 1) image) same taken in
-    let of_front : IsReplyToBytes ask (front_for ask image) more reply = subst (λ bytes. IsReplyToBytes ask bytes more reply) whole is in
+job_answered ask None extra front more reply status old new outside taken taken' is told = tt
+job_answered ask (Some image) extra front more reply status old new outside taken taken' is told =
+    let of_front : IsReplyToBytes ask (front_for ask image) more reply = reply-front ask front image more reply taken is in
     (reply, inl (inr (outside, if_known (beside (from_of ask) extra) (λ (bytes : List ℕ) read. reply-whole ask image more bytes reply read of_front) taken')), told)
 
 -- a job in place
@@ -120,10 +138,10 @@ placed_answered ask (Some image) extra status old new placed told = (refused ref
 
 -- a job whose bytes could not be read
 pub unread_answered : (ask : AskView) (known extra : Option (List ℕ)) (side : Side) (failure : Failure) (reply : Reply) (status : ℕ) (old new : Held)
-    → is_in_place ask ≡ false → IsReadFailure failure → reply ≡ unread_reply ask side failure
+    → ReadsImage ask ⊎ ReadsExtra ask → IsReadFailure failure → reply ≡ unread_reply ask side failure
     → IsDelivered reply status old new → IfSome known (λ image. IsAnswer ask image extra status old new)
-unread_answered ask None extra side failure reply status old new outside is same told = tt
-unread_answered ask (Some image) extra side failure reply status old new outside is same told = (reply, inr (outside, (failure, side, is, same)), told)
+unread_answered ask None extra side failure reply status old new reads is same told = tt
+unread_answered ask (Some image) extra side failure reply status old new reads is same told = (reply, inr (reads, (failure, side, is, same)), told)
 
 -- and it hands nothing out
 unread_not_made : (ask : AskView) (side : Side) (failure : Failure) → ¬ IsMade (unread_reply ask side failure)
@@ -140,6 +158,7 @@ unread_not_made (ChangeOf volume reserve change target) side failure made = fals
 unread_not_made (Convert words) side failure made = false≢true made
 unread_not_made (Wrap words out) side failure made = false≢true made
 unread_not_made (Unwrap out) side failure made = false≢true made
+unread_not_made (Create words boot out) side failure made = false≢true made
 unread_not_made Identify side failure made = false≢true made
 unread_not_made (Survey form) side failure made = false≢true made
 
@@ -165,6 +184,7 @@ makes_image (Survey form) image more reply outside is made = absurd (refused_not
 makes_image (Convert words) image more reply outside is made = tt
 makes_image (Wrap words out) image more reply outside is made = tt
 makes_image (Unwrap out) image more reply outside is made = tt
+makes_image (Create words boot out) image more reply outside is made = tt
 makes_image (LookAt volume reserve look) image more reply outside looked made = (looked_made volume reserve look image more reply looked made).0
 makes_image (ExtractFrom volume options into) image more reply outside is made = absurd (refused_not_made refusals.Folder reply is made)
 makes_image (ChangeOf volume reserve change target) image more reply outside is made = outside
@@ -182,6 +202,13 @@ save_makes_image : (volume : VolumeOptions) (reserve : Option (List ℕ)) (image
 save_makes_image volume reserve image name said reply is made =
     volume_made volume reserve image (λ (reserved : List Bool). IsChangeReply (works.Save name said) (changed_by volume reserved)) reply (IsMadeReply reply)
     (λ reserved device told. said_image name said (changed_by volume reserved).edits.save (changed_by volume reserved).units device reply told made) is made
+
+-- so do lost places that are marked free
+reclaim_makes_image : (volume : VolumeOptions) (reserve : Option (List ℕ)) (image : List ℕ) (reply : Reply)
+    → IsWorkTold volume reserve image works.Reclaim reply → IsMade reply → IsMadeReply reply
+reclaim_makes_image volume reserve image reply is made =
+    volume_made volume reserve image (λ (reserved : List Bool). IsChangeReply works.Reclaim (changed_by volume reserved)) reply (IsMadeReply reply)
+    (λ reserved device told. reclaimed_image (changed_by volume reserved).units device reply told made) is made
 
 ok_handed : (reply : Reply) (status : ℕ) (old new : Option (List ℕ)) → IsMadeReply reply → HandsOut reply status old new
     → Appends old new (codes "OK\n") × ((status ≡ 0) ⊎ (status ≡ 4))
@@ -201,6 +228,8 @@ hands_for (Wrap words out') image more reply status old new is made out =
     ok_handed reply status old new (wrapped_image words image reply is made) out
 hands_for (Unwrap out') image more reply status old new is made out =
     ok_handed reply status old new (unwrapped_image image reply is made) out
+hands_for (Create words boot out') image more reply status old new is made out =
+    ok_handed reply status old new (created_image words (option_map (λ path. more) boot) reply is made) out
 hands_for (LookAt volume reserve look) image more reply status old new is made out =
     ok_handed reply status old new (looked_made volume reserve look image more reply is made).1 out
 hands_for (ExtractFrom volume options into) image more reply status old new is made out = (reply, made, out)
@@ -209,6 +238,10 @@ hands_for (ChangeOf volume reserve (EditOf name edit) target) image more reply s
 hands_for (ChangeOf volume reserve (EditOf name edit) target) image more reply status old new (inr (work, asks, told)) made out =
     ok_handed reply status old new
     (edit_makes_image volume reserve image edit (named_by name) reply (subst (λ (w : WorkView). IsWorkTold volume reserve image w reply) asks told) made) out
+hands_for (ChangeOf volume reserve Reclaim target) image more reply status old new (inl (refusal, told, refuses)) made out = absurd refuses
+hands_for (ChangeOf volume reserve Reclaim target) image more reply status old new (inr (work, asks, told)) made out =
+    ok_handed reply status old new
+    (reclaim_makes_image volume reserve image reply (subst (λ (w : WorkView). IsWorkTold volume reserve image w reply) asks told) made) out
 hands_for (ChangeOf volume reserve (Save name attributes form from) target) image more reply status old new (inl (refusal, told, refuses)) made out =
     absurd (refused_not_made refusal reply told made)
 hands_for (ChangeOf volume reserve (Save name attributes form from) target) image more reply status old new (inr (work, (said, is, asks), told)) made out =

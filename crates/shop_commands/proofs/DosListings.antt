@@ -1,7 +1,7 @@
 -- What is told of a job that lists a DOS 3.3 disk, in the words of its format.
 use Rattle.std.proofs.Common.{◌≡◌, ◌⊎◌, ℕ, List, [], true, false, inl, inr, subst, sym, ⊎_elim}
 use Rattle.std.specs.Prelude.{Option, Some, None, IfSome}
-use Rattle.shop_jobs.specs.Job.{AskView, Catalog, ChangeOf, Check, Compare, Convert, Entries, ExtractFrom, Identify, LookAt, Map, Plan, Read, Survey, Unwrap, Verify, Wrap}
+use Rattle.shop_jobs.specs.Job.{AskView, Catalog, ChangeOf, Check, Compare, Convert, Create, Entries, ExtractFrom, Identify, LookAt, Map, Plan, Read, Survey, Unwrap, Verify, Wrap}
 use Rattle.shop_replies.specs.declared.reply.Reply.{Reply}
 use Rattle.shop_replies.specs.Reply.{Held}
 use Rattle.shop_image.specs.DosCatalogReply.{IsDosCatalogReply}
@@ -36,6 +36,7 @@ answer-dos (ExtractFrom volume options into) image extra status old new answer =
 answer-dos (ChangeOf volume reserve change target) image extra status old new answer = tt
 answer-dos (Convert words) image extra status old new answer = tt
 answer-dos (Wrap words out) image extra status old new answer = tt
+answer-dos (Create words boot out) image extra status old new answer = tt
 answer-dos (Unwrap out) image extra status old new answer = tt
 answer-dos Identify image extra status old new answer = tt
 answer-dos (Survey form) image extra status old new answer = tt

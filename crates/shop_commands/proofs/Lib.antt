@@ -1,3 +1,4 @@
+mod Created
 pub mod Answered
 pub mod DosListings
 pub mod Plans

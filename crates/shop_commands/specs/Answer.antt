@@ -1,5 +1,5 @@
 -- What the program answers to a job on an image, and to words.
-use Rattle.std.specs.Prelude.{◌≡◌, ◌⊎◌, ℕ, true, false, List, [], ◌++◌, Option, Some, None, IfSome, IsSome, codes, option_map, string_bytes}
+use Rattle.std.specs.Prelude.{◌≡◌, ◌⊎◌, ℕ, Bool, true, false, List, [], ◌++◌, Option, Some, None, IfSome, IsSome, codes, option_map, string_bytes}
 use Rattle.std.specs.Io.KnownBytes.{Appends, Keeps}
 use Rattle.disk_container.specs.declared.container.Container.{Container}
 use Rattle.disk_container.specs.Container.{HasParts, IsContainer}
@@ -8,8 +8,8 @@ use Rattle.file_forms.specs.declared.form.GivenForm.{GivenForm}
 use Rattle.shop_changes.specs.GivenWords.{kind_named}
 use Rattle.shop_changes.specs.SaidFile.{SaidView}
 use Rattle.pro_dates.specs.SaidDates.{IsDateOf, NamesDate}
-use Rattle.shop_jobs.specs.Job.{AskView, AttributesView, Catalog, ChangeOf, ChangeView, Compare, Convert, EditOf, ExtractFrom, Identify, JobView, LookAt, Optimize, Save, Survey, Unwrap, Wrap}
-use Rattle.shop_jobs.specs.Paths.{from_of, is_in_place, new_file_of}
+use Rattle.shop_jobs.specs.Job.{AskView, AttributesView, Catalog, ChangeOf, ChangeView, Compare, Convert, Create, EditOf, ExtractFrom, Identify, JobView, LookAt, Optimize, Reclaim, Save, Survey, Unwrap, Wrap}
+use Rattle.shop_jobs.specs.Paths.{HasImage, from_of, is_in_place, new_file_of}
 use Rattle.shop_jobs.specs.declared.job.FileSystem.{FileSystem}
 use Rattle.shop_jobs.specs.declared.job.FileSystem.TheVariants as systems
 use Rattle.shop_jobs.specs.declared.job.VolumeOptions.{VolumeOptions}
@@ -36,6 +36,7 @@ use Rattle.shop_image.specs.DosCatalogReply.{IsDosCatalogReply}
 use Rattle.shop_image.specs.LookReply.{IsImageLook}
 use Rattle.shop_image.specs.VolumeReply.{IsVolumeReply}
 use Rattle.image_readings.specs.IdentifyReply.{IsIdentifyReply}
+use Rattle.shop_commands.specs.CreateReply.{IsCreateReply}
 
 -- after how many writes to stop; without a limit there are never so many
 abbrev pub limit_of : Option ℕ → ℕ
@@ -73,6 +74,7 @@ AsksFor volume (Optimize reclaim stop_after cert) bytes work = work ≡ works.Op
 AsksFor volume (EditOf name edit) bytes work = work ≡ works.EditOf edit (named_by name)
 AsksFor volume (Save name attributes form from) bytes work =
     (said : SaidView) × IsSaid volume.file_system attributes form bytes said × (work ≡ works.Save name said)
+AsksFor volume Reclaim bytes work = work ≡ works.Reclaim
 
 -- the words of a change are refused: those of a saving alone
 abbrev pub RefusesWords : VolumeOptions → ChangeView → Refusal → Type 0
@@ -82,14 +84,16 @@ RefusesWords volume change refusal = ⊥
 -- ---- what is told
 
 -- What is told of each job on these bytes of an image, with these bytes of the file beside it: of a look what it tells of
--- the volume; of an extraction and of a survey that there is no folder; of a change that its words are refused, or what the
--- work that it asks for tells of the volume.
+-- the volume; of a new volume what is told of its words, with the other bytes as those of the image whose system is copied;
+-- of an extraction and of a survey that there is no folder; of a change that its words are refused, or what the work that it
+-- asks for tells of the volume.
 abbrev pub IsReplyToBytes : AskView → List ℕ → List ℕ → Reply → Type 0
 IsReplyToBytes Identify image extra reply = IsIdentifyReply image reply
 IsReplyToBytes (Convert words) image extra reply = IsConvertReply words.order words.to words.volume image reply
 IsReplyToBytes (Survey form) image extra reply = reply ≡ refused refusals.Folder
 IsReplyToBytes (Wrap words out) image extra reply = IsWrapReply words image reply
 IsReplyToBytes (Unwrap out) image extra reply = IsUnwrapReply image reply
+IsReplyToBytes (Create words boot out) image extra reply = IsCreateReply words (option_map (λ path. extra) boot) reply
 IsReplyToBytes (LookAt volume reserve look) image extra reply = IsImageLook look extra volume reserve image reply
 IsReplyToBytes (ExtractFrom volume options into) image extra reply = reply ≡ refused refusals.Folder
 IsReplyToBytes (ChangeOf volume reserve change target) image extra reply =
@@ -124,6 +128,16 @@ abbrev pub AreOfContainer : Parts → Container → Type 0
 AreOfContainer parts container =
     IsContainer (joined parts) container × HasParts (joined parts) container parts.front parts.payload parts.back
 
+-- the job writes the image: it changes it, or its output file takes the place of the image's
+abbrev pub WritesImage : AskView → Bool → Type 0
+WritesImage (ChangeOf volume reserve change target) replaces = Unit {0}
+WritesImage (Convert words) replaces = replaces ≡ true
+WritesImage ask replaces = ⊥
+
+-- the container of the image says that it is not to be written, and the job writes it
+abbrev pub IsProtected : AskView → Bool → Container → Type 0
+IsProtected ask replaces container = (container.protected ≡ true) × WritesImage ask replaces
+
 -- the bytes of the file beside the image, where they are known; a job that names no such file has none
 abbrev pub beside : Option Text → Option (List ℕ) → Option (List ℕ)
 beside None extra = Some []
@@ -138,9 +152,9 @@ IsReplyTo ask image extra reply =
 
 -- ---- what is read and written
 
--- the job reads the image
+-- the job reads the image, where it has one
 abbrev pub ReadsImage : AskView → Type 0
-ReadsImage ask = is_in_place ask ≡ false
+ReadsImage ask = HasImage ask × (is_in_place ask ≡ false)
 
 -- the job reads a file beside the image
 abbrev pub ReadsExtra : AskView → Type 0
@@ -168,19 +182,22 @@ MakesImage (Survey form) = ⊥
 MakesImage (Convert words) = Unit {0}
 MakesImage (Wrap words out) = Unit {0}
 MakesImage (Unwrap out) = Unit {0}
+MakesImage (Create words boot out) = Unit {0}
 MakesImage (LookAt volume reserve look) = IsSome (new_file_of look)
 MakesImage (ExtractFrom volume options into) = ⊥
 MakesImage (ChangeOf volume reserve change target) = is_in_place (ChangeOf volume reserve change target) ≡ false
 
 -- the image of a job is handed out, once its text is told: `OK` for a conversion, a container that is made or unwrapped, a
--- file that is read, an edit or a saving, else that of the optimizer's reply
+-- new volume, a file that is read, an edit, a saving or lost places marked free, else that of the optimizer's reply
 abbrev pub HandsOutFor : AskView → ℕ → Option (List ℕ) → Option (List ℕ) → Type 0
 HandsOutFor (Convert words) status old new = Appends old new (codes "OK\n") × ((status ≡ 0) ⊎ (status ≡ 4))
 HandsOutFor (Wrap words out) status old new = Appends old new (codes "OK\n") × ((status ≡ 0) ⊎ (status ≡ 4))
 HandsOutFor (Unwrap out) status old new = Appends old new (codes "OK\n") × ((status ≡ 0) ⊎ (status ≡ 4))
+HandsOutFor (Create words boot out) status old new = Appends old new (codes "OK\n") × ((status ≡ 0) ⊎ (status ≡ 4))
 HandsOutFor (LookAt volume reserve look) status old new = Appends old new (codes "OK\n") × ((status ≡ 0) ⊎ (status ≡ 4))
 HandsOutFor (ChangeOf volume reserve (EditOf name edit) target) status old new = Appends old new (codes "OK\n") × ((status ≡ 0) ⊎ (status ≡ 4))
 HandsOutFor (ChangeOf volume reserve (Save name attributes form from) target) status old new = Appends old new (codes "OK\n") × ((status ≡ 0) ⊎ (status ≡ 4))
+HandsOutFor (ChangeOf volume reserve Reclaim target) status old new = Appends old new (codes "OK\n") × ((status ≡ 0) ⊎ (status ≡ 4))
 HandsOutFor ask status old new = HandsImage status old new
 
 -- what is told where bytes could not be read; a comparison says of which of its images
@@ -194,7 +211,8 @@ unread_reply ask side failure = of_side ask side (failed failure)
 -- the bytes of a job that reads them could not be read
 abbrev pub IsUnread : AskView → Reply → Type 0
 IsUnread ask reply =
-    ReadsImage ask × ((failure : Failure) × (side : Side) × IsReadFailure failure × (reply ≡ unread_reply ask side failure))
+    (ReadsImage ask ⊎ ReadsExtra ask)
+    × ((failure : Failure) × (side : Side) × IsReadFailure failure × (reply ≡ unread_reply ask side failure))
 
 -- a job was answered by one reply, told and handed out behind what the writers had: the reply to its bytes, or that they
 -- could not be read

@@ -1,3 +1,4 @@
+pub mod CreateReply
 pub mod Answer
 pub mod OnDevice
 pub mod Extracting

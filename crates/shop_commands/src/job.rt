@@ -1,9 +1,21 @@
 // Jobs, from an image's reader to the text and the output file.
-ghost use Rattle.std.specs.Prelude.{◌≡◌, ◌⊎◌, ◌↔◌, ◌+◌, take, IfOk, IfErr, IfSome, IsSome, IsTrue};
+ghost use Rattle.std.specs.Prelude.{
+  ◌≡◌,
+  ◌⊎◌,
+  ◌↔◌,
+  ◌+◌,
+  take,
+  IfOk,
+  IfErr,
+  IfSome,
+  IsSome,
+  IsTrue,
+  option_map,
+};
 ghost use Rattle.shop_jobs.specs.Job.{ask_view};
-ghost use Rattle.shop_jobs.specs.Paths.{from_of};
+ghost use Rattle.shop_jobs.specs.Paths.{HasImage, from_of};
 ghost use Rattle.shop_replies.specs.Reply.{held};
-ghost use Rattle.shop_replies.specs.Reading.{IsReadFailure, most_beside};
+ghost use Rattle.shop_replies.specs.Reading.{IsReadFailure, most_beside, most_of_image};
 ghost use Rattle.shop_commands.specs.Answer.{
   HandsOutFor,
   IsAnswer,
@@ -12,6 +24,7 @@ ghost use Rattle.shop_commands.specs.Answer.{
   IsReplyToBytes,
   IsReplyToPayload,
   ExtractsVolume,
+  IsProtected,
   IsStatus,
   MakesImage,
   ReadsExtra,
@@ -22,11 +35,12 @@ ghost use Rattle.shop_commands.specs.Answer.{
   unread_reply as unread,
 };
 
+use crate::creating::create_reply;
 use crate::work::change_work;
-use disk_container::Shell;
+use disk_container::{Container, Shell};
 use image_readings::identify_reply;
 use shop_image::{image_change, image_look};
-use shop_jobs::{Ask, Job, Look, from_path, is_in_place};
+use shop_jobs::{Ask, Job, Look, from_path, has_image, is_in_place};
 use shop_replies::{
     Failure, Refusal, Reply, Side, convert_reply, most_beside, most_of_image, read_front,
     unwrap_reply, wrap_reply,
@@ -34,12 +48,26 @@ use shop_replies::{
 use std::alloc::Global;
 use std::io::{Read, Write};
 
+// The bytes of the image; a job that has none has no bytes.
+fn image_for<I: Read>(alloc: Global, job: &Job, image: &mut I) -> Result<Vec<u8>, Failure>
+    ensures read { HasImage (ask_view job.now.ask) → IfSome (I.remaining image.old) (λ bytes.
+        IfOk result (λ read. read.items ≡ take (most_of_image (ask_view job.now.ask) + 1) bytes)) }
+    ensures kept { (image.new ≡ image.old) ⊎ HasImage (ask_view job.now.ask) }
+    ensures failed { IfErr result (λ failure. HasImage (ask_view job.now.ask) × IsReadFailure failure) }
+{
+    if has_image(job) {
+        read_front(alloc, image, most_of_image(job))
+    } else {
+        Ok(Vec::new(alloc))
+    }
+}
+
 // The bytes of the file beside the image; a job that names no such file has none.
 fn extra_for<E: Read>(alloc: Global, job: &Job, extra: &mut E) -> Result<Vec<u8>, Failure>
     ensures read { IfSome (beside (from_of (ask_view job.now.ask)) (E.remaining extra.old)) (λ bytes.
         IfOk result (λ read. read.items ≡ take (most_beside (ask_view job.now.ask) + 1) bytes)) }
     ensures kept { (extra.new ≡ extra.old) ⊎ IsSome (from_of (ask_view job.now.ask)) }
-    ensures failed { IfErr result IsReadFailure }
+    ensures failed { IfErr result (λ failure. IsSome (from_of (ask_view job.now.ask)) × IsReadFailure failure) }
 {
     match from_path(job) {
         Some(_) => read_front(alloc, extra, most_beside(job)),
@@ -74,6 +102,29 @@ pub fn extracts(job: &Job) -> bool
     matches!(&job.ask, Ask::Extract { .. })
 }
 
+/// Whether the container of a job's image says that it is not to be written, and the job writes it: it changes the image,
+/// or where its output file takes the place of the image's, writes another over it.
+pub fn is_protected(job: &Job, replaces: bool, container: Container) -> bool
+    ensures { IsTrue result ↔ IsProtected (ask_view job.now.ask) replaces container }
+{
+    let writes = match &job.ask {
+        Ask::Change { .. } => true,
+        Ask::Convert { .. } => replaces,
+        _ => false,
+    };
+    container.protected && writes
+}
+
+// The bytes of a file, where one is named.
+fn bytes_named(path: Option<&str>, bytes: Vec<u8>) -> Option<Vec<u8>>
+    ensures { option_map (λ v. v.items) result ≡ option_map (λ path. bytes.items) (option_map (λ s. s.now) path.entry) }
+{
+    match path {
+        Some(_) => Some(bytes),
+        None => None,
+    }
+}
+
 /// The reply to a job on the bytes of its image, and on those of a file beside it. A job that puts files into a folder
 /// or surveys one is refused with `Folder`: here there is none.
 pub fn reply_to(alloc: Global, job: &Job, image: Vec<u8>, extra: Vec<u8>) -> Reply
@@ -89,6 +140,9 @@ pub fn reply_to(alloc: Global, job: &Job, image: Vec<u8>, extra: Vec<u8>) -> Rep
         } => convert_reply(image, *order, *to, *volume),
         Ask::Wrap { options, .. } => wrap_reply(alloc, image.as_slice(), options),
         Ask::Unwrap { .. } => unwrap_reply(image),
+        Ask::Create { options, boot, .. } => {
+            create_reply(alloc, options, bytes_named(boot.as_deref(), extra))
+        }
         Ask::Look {
             volume,
             reserve,
@@ -154,7 +208,7 @@ pub fn run_job<I: Read, E: Read, T: Write, O: Write>(
     if is_in_place(job) {
         return Reply::refused(Refusal::InPlace).deliver(text, out);
     }
-    let bytes = match read_front(alloc, image, most_of_image(job)) {
+    let bytes = match image_for(alloc, job, image) {
         Ok(bytes) => bytes,
         Err(failure) => return unread_reply(job, Side::First, failure).deliver(text, out),
     };

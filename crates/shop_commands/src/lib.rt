@@ -1,7 +1,8 @@
 //! Commands of the workshop, from words to bytes.
 //!
 //! A job is taken apart once, by what it asks. `reply_to` turns the bytes of an image into one `Reply`: a look and a
-//! change are those of `shop_image`, a conversion is that of `shop_replies`, and `identify` that of `image_readings`;
+//! change are those of `shop_image`, a conversion is that of `shop_replies`, `identify` that of `image_readings`, and a
+//! new volume is made by `create_reply` (`specs/CreateReply.antt`);
 //! `change_work` makes the work of a change, or refuses its words. `run_job` reads the bytes, writes the text of the
 //! reply once and hands its image to the output file. `job_of_words` is the job that words ask for, or tells why there
 //! is none: the program runs it, and `run_command` is `job_of_words` followed by `run_job`. Of a container the payload is
@@ -17,6 +18,7 @@
 #![tactic(auto)]
 
 mod command;
+mod creating;
 mod extracting;
 mod job;
 mod law;
@@ -25,8 +27,11 @@ mod telling;
 mod work;
 
 pub use command::{job_of_words, run_command, tell_words_fault};
+pub use creating::create_reply;
 pub use extracting::{NotExtracted, extract_on_device};
-pub use job::{extracts, only_reads, reply_to, reply_to_payload, run_job, unread_reply};
+pub use job::{
+    extracts, is_protected, only_reads, reply_to, reply_to_payload, run_job, unread_reply,
+};
 pub use law::a_changed_container_is_one;
 pub use on_device::{read_job_on_device, run_job_in_place};
 pub use work::change_work;

@@ -100,5 +100,6 @@ pub fn change_work<'a>(
             path: name.as_bytes(),
             said: said_by(volume.file_system, attributes, *form, extra)?,
         }),
+        Change::Reclaim => Ok(Work::Reclaim),
     }
 }

@@ -4,7 +4,7 @@ use Rattle.std.specs.declared.alloc.Global.{Global}
 use Rattle.shop_files.specs.declared.target.Target.{Target}
 use Rattle.shop_files.specs.declared.target.Target.TheVariants.{Nowhere}
 use Rattle.shop_jobs.specs.Job.{AskView, JobView}
-use Rattle.shop_jobs.specs.Paths.{IsOnStandardInput, MakesNewFile, certificate_of, from_of, out_of}
+use Rattle.shop_jobs.specs.Paths.{HasImage, IsOnStandardInput, MakesNewFile, certificate_of, from_of, out_of}
 use Rattle.shop_files.specs.Written.{GoesTo, IsUntouched}
 use Rattle.shop_files.specs.declared.aside.Placing.{Placing}
 use Rattle.shop_files.specs.declared.aside.Placing.TheVariants.{Free, Over}
@@ -29,9 +29,11 @@ pub record IsNamed (path : Option (List ℕ)) (file : NamedFile) : Type 0 where
   pub same : option_map (λ s. s.now) file.path ≡ path
   pub nowhere : path ≡ None → file.target ≡ Nowhere
 
--- the path of the image: none where it comes from standard input
+-- the path of the image: none where it comes from standard input, and where there is no image
 abbrev pub IsImagePath : JobView → Option (List ℕ) → Type 0
-IsImagePath job path = (IsOnStandardInput job × (path ≡ None)) ⊎ ((¬ IsOnStandardInput job) × (path ≡ Some job.image))
+IsImagePath job path =
+    ((IsOnStandardInput job ⊎ ¬ HasImage job.ask) × (path ≡ None))
+    ⊎ ((¬ IsOnStandardInput job) × HasImage job.ask × (path ≡ Some job.image))
 
 -- Each file has the path that the job names for it, and it is not asked which file standard input is where the image
 -- has a path.

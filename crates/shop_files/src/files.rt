@@ -10,7 +10,9 @@ use crate::clash::{Clash, Roles};
 use crate::identity::{FileIdentity, is_same_file};
 use crate::image::ImageUse;
 use crate::{Node, Output, Placing, Target, target_of};
-use shop_jobs::{Job, certificate_path, from_path, is_on_standard_input, makes_new_file, out_path};
+use shop_jobs::{
+    Job, certificate_path, from_path, has_image, is_on_standard_input, makes_new_file, out_path,
+};
 use std::alloc::Global;
 use std::io::ErrorKind;
 use std::{fs, io};
@@ -118,7 +120,7 @@ impl<'a> JobFiles<'a> {
         ensures failed { IfErr result (λ error. error_kind error ≡ ErrorKind.OutOfMemory) }
     {
         let is_input = is_on_standard_input(job);
-        let path = (!is_input).then_some(job.image.as_str());
+        let path = (has_image(job) && !is_input).then_some(job.image.as_str());
         Ok(JobFiles {
             image: NamedFile::of(rt, path)?,
             input: if is_input { input_node(rt) } else { None },

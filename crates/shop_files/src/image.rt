@@ -2,11 +2,12 @@
 ghost use Rattle.std.specs.Prelude.{◌≡◌, ◌≢◌, ◌↔◌, ◌⊎◌, IfErr, IfOk, IsErrOf, IsTrue};
 ghost use Rattle.shop_replies.specs.Reading.{IsReadFailure};
 ghost use Rattle.shop_replies.specs.Volume.{HasUnitsOf, kind_of};
+ghost use Rattle.a2_media.specs.Window.{image_extent};
 ghost use Rattle.shop_files.specs.Images.{StandsInItsFile};
 
 use crate::{ImageFault, Node};
 use a2_device::Device;
-use a2_media::{Extent, FileDevice, FileError, SystemFile, UnitKind, Window};
+use a2_media::{Extent, FileDevice, FileError, PositionedFile, SystemFile, UnitKind, Window};
 use shop_jobs::{FileSystem, VolumeOptions};
 use shop_replies::{Failure, read_front};
 use std::fs::{self, File, OpenOptions, TryLockError};
@@ -125,6 +126,8 @@ impl OpenImage {
         ensures units { IfOk result (λ device.
             HasUnitsOf volume.file_system
             (⟦<FileDevice<Window<SystemFile>> as Device>⟧.state device)) }
+        ensures window { IfOk result (λ device.
+            device.file.extent ≡ image_extent part (⟦<SystemFile as PositionedFile>⟧.state device.file.file).size) }
     {
         let OpenImage::File(file) = self else {
             return Err(FileError::InPlace);

@@ -7,3 +7,4 @@ mod Optimized
 mod Edited
 mod Saved
 mod Told
+mod Reclaimed

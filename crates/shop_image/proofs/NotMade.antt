@@ -20,6 +20,7 @@ use Rattle.shop_replies.specs.Reply.{IsMade, IsMadeReply}
 use Rattle.shop_replies.proofs.NotMade.{failed_not_made, refused_not_made, told_not_made}
 use Rattle.shop_changes.specs.EditRules.{EditRules}
 use Rattle.shop_image.specs.EditReply.{IsEdited}
+use Rattle.shop_image.specs.ReclaimReply.{IsReclaimed}
 use Rattle.shop_image.specs.SaveReply.{IsSaidSaved, IsSaved}
 use Rattle.shop_jobs.specs.Job.{LookView, Catalog, Entries, Check, Compare, Map, Read, Plan, Verify}
 use Rattle.shop_image.specs.LookReply.{sided}
@@ -53,6 +54,15 @@ pub edited_image : (edit : EditView) (name : FileNameView) (files : FileMeaning)
 edited_image edit name files edits format device reply is made = elim is [
   | inl done ↦ done.image
   | inr (inl refused) ↦ absurd (refused_not_made refused.0 reply refused.1 made)
+  | inr (inr (inl failed)) ↦ absurd (failed_not_made failures.Device reply failed.0 made)
+  | inr (inr (inr failed)) ↦ absurd (failed_not_made failures.Memory reply failed made)
+]
+
+-- so does one that marks lost places free
+pub reclaimed_image : (format : Meaning) (device : DeviceState) (reply : Reply) → IsReclaimed format device reply → IsMade reply → IsMadeReply reply
+reclaimed_image format device reply is made = elim is [
+  | inl done ↦ done.image
+  | inr (inl refused) ↦ absurd (refused_not_made refusals.Check reply refused.0 made)
   | inr (inr (inl failed)) ↦ absurd (failed_not_made failures.Device reply failed.0 made)
   | inr (inr (inr failed)) ↦ absurd (failed_not_made failures.Memory reply failed made)
 ]

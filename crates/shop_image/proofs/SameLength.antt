@@ -11,7 +11,7 @@ use Rattle.save_formats.specs.Saves.{SaveMeaning}
 use Rattle.shop_changes.specs.EditRules.{ChangedMeaning}
 use Rattle.shop_changes.specs.GivenFile.{GivenView}
 use Rattle.shop_changes.specs.SaidFile.{SaidView}
-use Rattle.shop_changes.specs.Work.{EditOf, Optimize, Save, WorkView}
+use Rattle.shop_changes.specs.Work.{EditOf, Optimize, Reclaim, Save, WorkView}
 use Rattle.shop_jobs.specs.declared.job.VolumeOptions.{VolumeOptions}
 use Rattle.shop_reads.proofs.NotMade.{unopened_told_not_made}
 use Rattle.shop_replies.proofs.NotMade.{failed_not_made, refused_not_made}
@@ -71,6 +71,12 @@ module _ (device : DeviceState) (reply : Reply) (form : ImageForm) (is_form : de
   change_length (EditOf edit name) rules is made = elim is [
     | inl done ↦ after_writes done.writes done.made
     | inr (inl refused) ↦ absurd (refused_not_made refused.0 reply refused.1 made)
+    | inr (inr (inl failed)) ↦ absurd (failed_not_made failures.Device reply failed.0 made)
+    | inr (inr (inr failed)) ↦ absurd (failed_not_made failures.Memory reply failed made)
+  ]
+  change_length Reclaim rules is made = elim is [
+    | inl done ↦ after_writes done.writes done.made
+    | inr (inl refused) ↦ absurd (refused_not_made refusals.Check reply refused.0 made)
     | inr (inr (inl failed)) ↦ absurd (failed_not_made failures.Device reply failed.0 made)
     | inr (inr (inr failed)) ↦ absurd (failed_not_made failures.Memory reply failed made)
   ]

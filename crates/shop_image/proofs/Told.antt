@@ -10,13 +10,14 @@ use Rattle.shop_jobs.specs.Job.{LookView}
 use Rattle.shop_reads.specs.GoingOn.{FailsForLackIn, ReadsFor, going_of}
 use Rattle.shop_changes.specs.Changing.{IsWorkOutcome, LacksMemory}
 use Rattle.shop_changes.specs.EditRules.{ChangedMeaning, changed_by}
-use Rattle.shop_changes.specs.Work.{WorkView, Optimize, EditOf, Save}
+use Rattle.shop_changes.specs.Work.{WorkView, Optimize, EditOf, Reclaim, Save}
 use Rattle.shop_changes.specs.declared.outcome.Outcome.{Outcome}
 use Rattle.shop_image.specs.ChangeReply.{IsChangeReply, TellsOutcome}
 use Rattle.shop_image.specs.VolumeReply.{IsVolumeIn, IsVolumeReply}
 use Rattle.shop_image.proofs.Edited.{edited_told}
 use Rattle.shop_image.proofs.Fresh.{IsFresh, failed_for_lack, image_fresh}
 use Rattle.shop_image.proofs.Optimized.{optimized}
+use Rattle.shop_image.proofs.Reclaimed.{reclaimed_told}
 use Rattle.shop_image.proofs.Saved.{said_told}
 
 module _ (volume : VolumeOptions) (reserve : Option (List ℕ)) (image : List ℕ) (device : DeviceState) (reserved : List Bool)
@@ -45,6 +46,7 @@ module _ (volume : VolumeOptions) (reserve : Option (List ℕ)) (image : List �
   work_told (Optimize reclaim limit) format new outcome is tells = optimized reclaim limit format.units device new fresh reply outcome is tells
   work_told (EditOf edit name) format new outcome is tells = edited_told device new fresh edit name format.files format.edits format.units outcome reply is tells
   work_told (Save path said) format new outcome is tells = said_told device new fresh path said format.edits.save format.units outcome reply is tells
+  work_told Reclaim format new outcome is tells = reclaimed_told device new fresh format.units outcome reply is tells
 
   -- and of a change
   pub changed : (work : WorkView) (new : DeviceState) (outcome : Outcome)

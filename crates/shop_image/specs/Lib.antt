@@ -4,5 +4,6 @@ pub mod ImageBytes
 pub mod OptimizeReply
 pub mod EditReply
 pub mod SaveReply
+pub mod ReclaimReply
 pub mod ChangeReply
 pub mod DosCatalogReply

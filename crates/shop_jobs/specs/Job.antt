@@ -4,6 +4,9 @@ use Rattle.a2_device.specs.declared.order.Order.{Order}
 use Rattle.file_forms.specs.declared.form.GivenForm.{GivenForm}
 use Rattle.shop_jobs.specs.declared.job.VolumeOptions.{VolumeOptions}
 use Rattle.shop_jobs.specs.declared.job.WrapOptions.{WrapOptions}
+use Rattle.shop_jobs.specs.declared.job.CreateOptions.{CreateOptions}
+use Rattle.shop_jobs.specs.declared.job.NewVolume.{NewVolume}
+use Rattle.shop_jobs.specs.declared.job.NewVolume.TheVariants as volumes
 use Rattle.shop_jobs.specs.declared.job.ListOptions.{ListOptions}
 use Rattle.shop_jobs.specs.declared.job.CompareOptions.{CompareOptions}
 use Rattle.shop_jobs.specs.declared.job.ExtractOptions.{ExtractOptions}
@@ -93,17 +96,19 @@ look_view (looks.Verify from reclaim) = Verify (string_bytes from) reclaim
 
 -- what is changed of a volume: of its order whether lost places are reclaimed, after how many writes to stop, and the
 -- path of the certificate's file; of a file its name and its edit; of a new file its name, what is said of it, the form in
--- which it is given, and the path of the file that gives it
+-- which it is given, and the path of the file that gives it; or that its lost places are marked free
 pub data ChangeView : Type 0 where
   Optimize : Bool → Option ℕ → Option Text → ChangeView
   EditOf : FileNameView → EditView → ChangeView
   Save : Text → AttributesView → Option GivenForm → Text → ChangeView
+  Reclaim : ChangeView
 
 abbrev pub change_view : Change → ChangeView
 change_view (changes.Optimize reclaim stop_after cert) = Optimize reclaim stop_after (option_map string_bytes cert)
 change_view (changes.Edit name edit) = EditOf (file_name_view name) (edit_view edit)
 change_view (changes.Save name attributes form from) =
     Save (string_bytes name) (attributes_view attributes) form (string_bytes from)
+change_view changes.Reclaim = Reclaim
 
 -- a conversion
 pub record ConversionView : Type 0 where
@@ -127,14 +132,40 @@ wrapping_view options = record {
   protect = options.protect;
 }
 
+-- what is said of a new volume: of a DOS 3.3 disk whether it is a data disk; of a ProDOS volume its blocks, and its name
+-- and its date where they are said
+pub data NewVolumeView : Type 0 where
+  DosVolume : Bool → NewVolumeView
+  ProdosVolume : ℕ → Option Text → Option Text → NewVolumeView
+
+abbrev pub new_volume_view : NewVolume → NewVolumeView
+new_volume_view (volumes.Dos data_disk) = DosVolume data_disk
+new_volume_view (volumes.Prodos blocks name date) =
+    ProdosVolume blocks (option_map string_bytes name) (option_map string_bytes date)
+
+-- how a new volume is made
+pub record CreationView : Type 0 where
+  pub volume : NewVolumeView
+  pub order : Order
+  pub number : ℕ
+
+abbrev pub creation_view : CreateOptions → CreationView
+creation_view options = record {
+  volume = new_volume_view options.volume;
+  order = options.order;
+  number = options.number;
+}
+
 -- what is asked: of an extraction how it is made, and the path of the folder; of a container that is made how, and of one
--- that is made or unwrapped the path of the new file
+-- that is made or unwrapped the path of the new file; of a new volume how it is made, the path of the image whose system is
+-- copied, and that of the new file
 pub data AskView : Type 0 where
   Identify : AskView
   Survey : SurveyForm → AskView
   Convert : ConversionView → AskView
   Wrap : WrappingView → Text → AskView
   Unwrap : Text → AskView
+  Create : CreationView → Option Text → Text → AskView
   LookAt : VolumeOptions → Option Text → LookView → AskView
   ExtractFrom : VolumeOptions → ExtractOptions → Text → AskView
   ChangeOf : VolumeOptions → Option Text → ChangeView → TargetView → AskView
@@ -146,6 +177,7 @@ ask_view (asks.Convert order to out volume) =
     Convert (record { order = order; to = to; out = string_bytes out; volume = volume })
 ask_view (asks.Wrap options out) = Wrap (wrapping_view options) (string_bytes out)
 ask_view (asks.Unwrap out) = Unwrap (string_bytes out)
+ask_view (asks.Create options boot out) = Create (creation_view options) (option_map string_bytes boot) (string_bytes out)
 ask_view (asks.Look volume reserve look) = LookAt volume (option_map string_bytes reserve) (look_view look)
 ask_view (asks.Extract volume options into) = ExtractFrom volume options (string_bytes into)
 ask_view (asks.Change volume reserve change target) =

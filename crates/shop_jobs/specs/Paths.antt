@@ -7,6 +7,7 @@ use Rattle.shop_jobs.specs.Job.{
   ChangeOf,
   Compare,
   Convert,
+  Create,
   ExtractFrom,
   Identify,
   InPlace,
@@ -25,11 +26,12 @@ use Rattle.shop_jobs.specs.Job.{
   Wrap,
 }
 
--- the path of the file that a job reads beside the image
+-- the path of the file that a job reads beside the image; of a new volume that of the image whose system is copied
 abbrev pub from_of : AskView → Option Text
 from_of (LookAt volume reserve (Verify from reclaim)) = Some from
 from_of (LookAt volume reserve (Compare other options)) = Some other
 from_of (ChangeOf volume reserve (Save name attributes form from) target) = Some from
+from_of (Create words boot out) = boot
 from_of ask = None
 
 abbrev pub file_of : TargetView → Option Text
@@ -46,18 +48,25 @@ abbrev pub out_of : AskView → Option Text
 out_of (Convert words) = Some words.out
 out_of (Wrap words out) = Some out
 out_of (Unwrap out) = Some out
+out_of (Create words boot out) = Some out
 out_of (ChangeOf volume reserve change target) = file_of target
 out_of (LookAt volume reserve look) = new_file_of look
 out_of (ExtractFrom volume options into) = None
 out_of Identify = None
 out_of (Survey form) = None
 
+-- a job that makes a volume has no image, and each other has one
+abbrev pub HasImage : AskView → Type 0
+HasImage (Create words boot out) = ⊥
+HasImage ask = Unit {0}
+
 -- the file that a job writes is to be a new one: a job that reads a file of its volume overwrites none, and so does one
--- that makes a container or takes an image out of one
+-- that makes a container, takes an image out of one or makes a volume
 abbrev pub MakesNewFile : AskView → Type 0
 MakesNewFile (LookAt volume reserve look) = IsSome (new_file_of look)
 MakesNewFile (Wrap words out) = Unit {0}
 MakesNewFile (Unwrap out) = Unit {0}
+MakesNewFile (Create words boot out) = Unit {0}
 MakesNewFile ask = ⊥
 
 -- the path of the folder that a job makes
@@ -92,6 +101,7 @@ volume_of (ChangeOf volume reserve change target) = Some volume
 volume_of (Convert words) = None
 volume_of (Wrap words out) = None
 volume_of (Unwrap out) = None
+volume_of (Create words boot out) = None
 volume_of Identify = None
 volume_of (Survey form) = None
 
@@ -103,6 +113,7 @@ reserve_of (ChangeOf volume reserve change target) = reserve
 reserve_of (Convert words) = None
 reserve_of (Wrap words out) = None
 reserve_of (Unwrap out) = None
+reserve_of (Create words boot out) = None
 reserve_of Identify = None
 reserve_of (Survey form) = None
 
@@ -114,5 +125,6 @@ named_order_of (ChangeOf volume reserve change target) = Some volume.order
 named_order_of (Convert words) = Some words.order
 named_order_of (Wrap words out) = Some words.order
 named_order_of (Unwrap out) = None
+named_order_of (Create words boot out) = None
 named_order_of Identify = None
 named_order_of (Survey form) = None

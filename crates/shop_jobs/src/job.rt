@@ -194,6 +194,36 @@ pub enum Change {
         /// The path of the file that gives it.
         from: String,
     },
+    /// Its lost places are marked free.
+    Reclaim,
+}
+
+/// What is said of a new volume by its file system.
+#[derive(Debug, PartialEq, Eq, Drop)]
+pub enum NewVolume {
+    /// A DOS 3.3 disk.
+    Dos {
+        /// Whether files may stand on tracks 1 and 2, where other disks have DOS.
+        data_disk: bool,
+    },
+    /// A ProDOS volume.
+    Prodos {
+        blocks: u16,
+        /// The name as it is said, if one is.
+        name: Option<String>,
+        /// The date and time of its creation, as they are said.
+        date: Option<String>,
+    },
+}
+
+/// How a new volume is made.
+#[derive(Debug, PartialEq, Eq, Drop)]
+pub struct CreateOptions {
+    pub volume: NewVolume,
+    /// The order of its image.
+    pub order: Order,
+    /// The volume number of a DOS 3.3 disk, and of tracks that are made.
+    pub number: u8,
 }
 
 /// How an image is put into a container.
@@ -249,6 +279,14 @@ pub enum Ask {
         /// The path of the new file.
         out: String,
     },
+    /// The image of a new volume without a file.
+    Create {
+        options: CreateOptions,
+        /// The path of the image whose system is copied, if one is.
+        boot: Option<String>,
+        /// The path of the new file.
+        out: String,
+    },
     /// What the image's volume holds.
     Look {
         volume: VolumeOptions,
@@ -276,7 +314,8 @@ pub enum Ask {
 /// A command with its words.
 #[derive(Debug, PartialEq, Eq, Drop)]
 pub struct Job {
-    /// The path of the image's file, of a survey that of a file or a folder; `-` is standard input.
+    /// The path of the image's file, of a survey that of a file or a folder; `-` is standard input. It is empty where a
+    /// volume is made, which needs no image.
     pub image: String,
     pub ask: Ask,
 }

@@ -2,6 +2,7 @@
 ghost use Rattle.std.specs.Prelude.{◌≡◌, ◌↔◌, IsTrue, option_map};
 ghost use Rattle.shop_jobs.specs.Job.{ask_view, job_view, target_view};
 ghost use Rattle.shop_jobs.specs.Paths.{
+  HasImage,
   IsOnStandardInput,
   MakesNewFile,
   OtherIsOnStandardInput,
@@ -65,6 +66,7 @@ pub fn from_path(job: &Job) -> Option<&str>
             change: Change::Save { from, .. },
             ..
         } => Some(from.as_str()),
+        Ask::Create { boot, .. } => boot.as_deref(),
         _ => None,
     }
 }
@@ -84,9 +86,10 @@ pub fn out_path(job: &Job) -> Option<&str>
     ensures { option_map (λ s. s.now) result ≡ out_of (ask_view job.now.ask) }
 {
     match &job.ask {
-        Ask::Convert { out, .. } | Ask::Wrap { out, .. } | Ask::Unwrap { out } => {
-            Some(out.as_str())
-        }
+        Ask::Convert { out, .. }
+        | Ask::Wrap { out, .. }
+        | Ask::Unwrap { out }
+        | Ask::Create { out, .. } => Some(out.as_str()),
         Ask::Look {
             look: Look::Read { out, .. },
             ..
@@ -96,8 +99,15 @@ pub fn out_path(job: &Job) -> Option<&str>
     }
 }
 
+/// Whether a job has an image, which it reads: one that makes a volume has none.
+pub fn has_image(job: &Job) -> bool
+    ensures { IsTrue result ↔ HasImage (ask_view job.now.ask) }
+{
+    !matches!(&job.ask, Ask::Create { .. })
+}
+
 /// Whether the file that a job writes is to be a new one: a job that reads a file of its volume overwrites none, and so
-/// does one that makes a container or takes an image out of one.
+/// does one that makes a container, takes an image out of one or makes a volume.
 pub fn makes_new_file(job: &Job) -> bool
     ensures { IsTrue result ↔ MakesNewFile (ask_view job.now.ask) }
 {
@@ -108,6 +118,7 @@ pub fn makes_new_file(job: &Job) -> bool
             ..
         } | Ask::Wrap { .. }
             | Ask::Unwrap { .. }
+            | Ask::Create { .. }
     )
 }
 
@@ -146,7 +157,8 @@ pub fn volume_of(job: &Job) -> Option<VolumeOptions>
         | Ask::Survey { .. }
         | Ask::Convert { .. }
         | Ask::Wrap { .. }
-        | Ask::Unwrap { .. } => None,
+        | Ask::Unwrap { .. }
+        | Ask::Create { .. } => None,
     }
 }
 
@@ -161,6 +173,7 @@ pub fn reserve_of(job: &Job) -> Option<&str>
         | Ask::Convert { .. }
         | Ask::Wrap { .. }
         | Ask::Unwrap { .. }
+        | Ask::Create { .. }
         | Ask::Extract { .. } => None,
     }
 }
@@ -175,6 +188,6 @@ pub fn image_order(job: &Job) -> Option<Order>
         }
         Ask::Convert { order, .. } => Some(*order),
         Ask::Wrap { options, .. } => Some(options.order),
-        Ask::Identify | Ask::Survey { .. } | Ask::Unwrap { .. } => None,
+        Ask::Identify | Ask::Survey { .. } | Ask::Unwrap { .. } | Ask::Create { .. } => None,
     }
 }

@@ -2,7 +2,7 @@
 use Rattle.std.specs.Prelude.{◌≡◌, ◌⊎◌, ℕ, Option, Some, None}
 use Rattle.a2_device.specs.declared.order.Order.{Order}
 use Rattle.disk_container.specs.Container.{most_bytes as most_around}
-use Rattle.shop_jobs.specs.Job.{AskView, Compare, LookAt, LookView}
+use Rattle.shop_jobs.specs.Job.{AskView, Compare, Create, LookAt, LookView}
 use Rattle.shop_jobs.specs.Paths.{named_order_of}
 use Rattle.shop_replies.specs.Disk.{most_bytes}
 use Rattle.shop_replies.specs.declared.refusal.Failure.{Failure}
@@ -21,12 +21,13 @@ most_in_order None = most_around
 abbrev pub most_of_image : AskView → ℕ
 most_of_image ask = most_in_order (named_order_of ask)
 
--- the most bytes that are taken of the file beside the image: of another image those of its order, of a certificate or of a
--- file that is saved 16,777,216
+-- the most bytes that are taken of the file beside the image: of another image, and of one whose system is copied, those of
+-- its order, of a certificate or of a file that is saved 16,777,216
 abbrev pub most_of_look : LookView → ℕ
 most_of_look (Compare other options) = most_bytes options.other_order
 most_of_look look = 16777216
 
 abbrev pub most_beside : AskView → ℕ
 most_beside (LookAt volume reserve look) = most_of_look look
+most_beside (Create words boot out) = most_bytes words.order
 most_beside ask = 16777216

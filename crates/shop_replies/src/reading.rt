@@ -23,7 +23,8 @@ pub fn most_of_image(job: &Job) -> u32
     }
 }
 
-/// The most bytes that are taken of the file beside the image of a job; of another image those of its order.
+/// The most bytes that are taken of the file beside the image of a job; of another image, and of one whose system is
+/// copied, those of its order.
 pub fn most_beside(job: &Job) -> u32
     ensures { result ≡ most_beside (ask_view job.now.ask) }
 {
@@ -32,6 +33,7 @@ pub fn most_beside(job: &Job) -> u32
             look: Look::Compare { options, .. },
             ..
         } => most_bytes(options.other_order) as u32,
+        Ask::Create { options, .. } => most_bytes(options.order) as u32,
         _ => MOST_GIVEN,
     }
 }

@@ -41,7 +41,7 @@ conversion_there image file (Some x) None number a b c = cc
 conversion_there image file (Some x) (Some y) None a b c = cc
 conversion_there image file (Some x) (Some y) (Some n) a b c = refl
 
-number_there : (said : Option Text) → ((v : Text) → said ≡ Some v → is_number 255 v ≡ true) → is_some (volume_number said) ≡ true
+pub number_there : (said : Option Text) → ((v : Text) → said ≡ Some v → is_number 255 v ≡ true) → is_some (volume_number said) ≡ true
 number_there None is = refl
 number_there (Some v) is = rw (is v refl) refl
 

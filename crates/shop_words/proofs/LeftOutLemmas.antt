@@ -1,15 +1,16 @@
 -- What `--auto` puts into words, by what the words show.
-use Rattle.std.proofs.Common.{◌≡◌, ◌∙◌, ap, ap₂, refl, sym, Bool, true, false, ℕ, ◌+◌, ◌<◌, ◌≤◌, suc, List, [], ◌∷◌, ◌++◌, map, take, drop, filter, length, get_or, drop-cons, add-one, arith}
+use Rattle.std.proofs.Common.{◌≡◌, ◌∙◌, ap, ap₂, refl, sym, Bool, true, false, ℕ, ◌+◌, ◌<◌, ◌≤◌, suc, List, [], ◌∷◌, ◌++◌, codes, map, take, drop, filter, length, get_or, drop-cons, add-one, arith}
 use Rattle.std.proofs.lemmas.List.{map-append, take-map, drop-map, drop_all}
 use Rattle.std.specs.Prelude.{◌||◌, ◌&&◌, not, cond, if◌then◌else◌, Some, slice_get}
 use Rattle.std.specs.List.{insert, list_any, position_or_len}
+use Rattle.std.specs.Str.{bytes_eq}
 use Rattle.shop_words.specs.declared.auto.AutoOption.{AutoOption}
 use Rattle.shop_words.specs.declared.auto.AutoOption.TheVariants.{FileSystem, Order}
 use Rattle.shop_words.specs.declared.auto.StandIn.{StandIn}
 use Rattle.shop_words.specs.declared.auto.StandIn.TheVariants.{Auto}
 use Rattle.shop_words.specs.Auto.{option_word, stand_in_word}
 use Rattle.shop_words.specs.Front.{Text}
-use Rattle.shop_words.specs.LeftOut.{asks_to_fill_in, completed, ends_options, filled_in, gives, is_auto_word, is_option_of, leaves_out, may_leave_out, other_completed, with_option}
+use Rattle.shop_words.specs.LeftOut.{asks_to_fill_in, completed, ends_options, filled_in, gives, is_auto_word, is_in_place_word, is_option_of, leaves_out, may_leave_both, may_leave_out, other_completed, takes_auto, with_option}
 
 pub any-map : {A B : Type 0} (p : B → Bool) (f : A → B) (xs : List A) → list_any p (map f xs) ≡ list_any (λ x. p (f x)) xs
 any-map p f [] = refl
@@ -67,11 +68,11 @@ module _ {X : Type 0} (p : X → Bool) (xs : List X) (n : ℕ) where
 
 module _ {S : Type 0} (view : S → Text) (words : List S) where
   abbrev is_beside_others : Bool
-  is_beside_others = list_any (λ word. is_auto_word (view word)) words && list_any (λ word. not (is_auto_word (view word))) words
+  is_beside_others = list_any (λ word. is_auto_word (view word)) words && takes_auto (map view words)
 
   asks_words : asks_to_fill_in (map view words) ≡ (is_beside_others || may_leave_out (map view words))
   asks_words =
-      ap₂ (λ a b. a && b || may_leave_out (map view words)) (any-map is_auto_word view words) (any-map (λ word. not (is_auto_word word)) view words)
+      ap (λ a. a && takes_auto (map view words) || may_leave_out (map view words)) (any-map is_auto_word view words)
 
   pub asked_beside : (beside : Bool) → beside ≡ is_beside_others → beside ≡ true → beside ≡ asks_to_fill_in (map view words)
   asked_beside beside is holds = holds ∙ sym (asks_words ∙ ap (λ b. b || may_leave_out (map view words)) (sym is ∙ holds))
@@ -107,3 +108,34 @@ left_out view option (word ∷ words) command shown has given first is has_is ho
     let named : is_option_of option (view word) ≡ true = ap (is_option_of option) (sym (is ∙ ap view same)) ∙ sym has_is ∙ holds in
     ap not (given_is ∙ sym (any-map (gives option) view (word ∷ words)))
     ∙ sym (ap (λ b. b && not (list_any (gives option) (map view (word ∷ words)))) named)
+
+-- ---- the command of the words, from a number on
+
+module _ {S : Type 0} (view : S → Text) (words : List S) (n : ℕ) where
+  pub command_found : (word : S) → n < length words → word ≡ get_or words n word → is_auto_word (view word) ≡ false
+      → takes_auto (map view words) ≡ takes_auto (map view (drop n words)) → not (bytes_eq (view word) (codes "create")) ≡ takes_auto (map view words)
+  command_found word within is other so_far =
+      sym (so_far ∙ ap (λ (later : List S). takes_auto (map view later)) (from_here (λ (s : S). true) words n word within is)
+      ∙ ap (λ b. if b then takes_auto (map view (drop (n + 1) words)) else not (bytes_eq (view word) (codes "create"))) other)
+
+  pub command_passed : (word : S) → n < length words → word ≡ get_or words n word → is_auto_word (view word) ≡ true
+      → takes_auto (map view words) ≡ takes_auto (map view (drop n words)) → takes_auto (map view words) ≡ takes_auto (map view (drop (n + 1) words))
+  command_passed word within is auto so_far =
+      so_far ∙ ap (λ (later : List S). takes_auto (map view later)) (from_here (λ (s : S). true) words n word within is)
+      ∙ ap (λ b. if b then takes_auto (map view (drop (n + 1) words)) else not (bytes_eq (view word) (codes "create"))) auto
+
+  pub no_command : length words ≤ n → takes_auto (map view words) ≡ takes_auto (map view (drop n words)) → false ≡ takes_auto (map view words)
+  no_command past so_far = sym (so_far ∙ ap (λ (later : List S). takes_auto (map view later)) (drop_all n words past))
+
+-- a command that may leave both out where nothing is changed in place
+pub left_to_image : {S : Type 0} (view : S → Text) (words : List S) (command : S) (shown named : Text) (both reclaims placed : Bool)
+    → Some command ≡ slice_get words 0 → shown ≡ view command → named ≡ view command → both ≡ may_leave_both shown → both ≡ false
+    → reclaims ≡ bytes_eq named (codes "reclaim") → reclaims ≡ true
+    → placed ≡ list_any (λ word. is_in_place_word (view word)) words → not placed ≡ may_leave_out (map view words)
+left_to_image view [] command shown named both reclaims placed first is is_named both_is fails reclaims_is holds placed_is = absurd (cc)
+left_to_image view (word ∷ words) command shown named both reclaims placed first is is_named both_is fails reclaims_is holds placed_is =
+    let same : command ≡ word = cc in
+    let no : may_leave_both (view word) ≡ false = ap may_leave_both (sym (is ∙ ap view same)) ∙ sym both_is ∙ fails in
+    let yes : bytes_eq (view word) (codes "reclaim") ≡ true = ap (λ text. bytes_eq text (codes "reclaim")) (sym (is_named ∙ ap view same)) ∙ sym reclaims_is ∙ holds in
+    ap not (placed_is ∙ sym (any-map is_in_place_word view (word ∷ words)))
+    ∙ sym (ap₂ (λ a b. a || (b && not (list_any is_in_place_word (map view (word ∷ words))))) no yes)

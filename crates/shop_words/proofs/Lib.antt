@@ -33,6 +33,8 @@ pub mod IdentifyLine
 pub mod WrapLine
 pub mod UnwrapLine
 pub mod SurveyLine
+pub mod CreateLine
+pub mod ReclaimLine
 pub mod Walk
 pub mod Left
 pub mod LeftOutLemmas

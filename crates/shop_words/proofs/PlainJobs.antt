@@ -21,7 +21,7 @@ use Rattle.shop_words.proofs.PlainValues.{Test, flag_same, leaves_off, option_sa
 
 -- the names by which a job is said, and those of its flags
 abbrev pub option_names : List Text
-option_names = codes "image" ∷ codes "fs" ∷ codes "order" ∷ codes "to" ∷ codes "out" ∷ codes "volume" ∷ codes "reserve" ∷ codes "name" ∷ codes "new" ∷ codes "stop-after" ∷ codes "cert" ∷ codes "from" ∷ codes "type" ∷ codes "aux" ∷ codes "date" ∷ codes "format" ∷ codes "most" ∷ codes "other" ∷ codes "other-order" ∷ codes "into" ∷ codes "names" ∷ codes "as" ∷ codes "high" ∷ codes "comment" ∷ codes "path" ∷ []
+option_names = codes "image" ∷ codes "fs" ∷ codes "order" ∷ codes "to" ∷ codes "out" ∷ codes "volume" ∷ codes "reserve" ∷ codes "name" ∷ codes "new" ∷ codes "stop-after" ∷ codes "cert" ∷ codes "from" ∷ codes "type" ∷ codes "aux" ∷ codes "date" ∷ codes "format" ∷ codes "most" ∷ codes "other" ∷ codes "other-order" ∷ codes "into" ∷ codes "names" ∷ codes "as" ∷ codes "high" ∷ codes "comment" ∷ codes "path" ∷ codes "blocks" ∷ codes "boot" ∷ []
 
 abbrev pub flag_names : List Text
 flag_names = codes "data-disk" ∷ codes "whole" ∷ codes "reclaim" ∷ codes "words" ∷ codes "in-place" ∷ codes "digests" ∷ codes "bodies" ∷ codes "stored" ∷ codes "places" ∷ codes "all" ∷ codes "texts" ∷ codes "protect" ∷ []
@@ -67,6 +67,8 @@ job_by-same command s t options flags =
       options (codes "high") refl,
       options (codes "comment") refl,
       options (codes "path") refl,
+      options (codes "blocks") refl,
+      options (codes "boot") refl,
       flags (codes "data-disk") refl,
       flags (codes "whole") refl,
       flags (codes "reclaim") refl,

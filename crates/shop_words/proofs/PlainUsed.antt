@@ -1,12 +1,13 @@
 -- What a plain list says under the name of an option that it has.
-use Rattle.std.proofs.Common.{◌≡◌, ◌∙◌, ℕ, ◌<◌, sym, ap, subst, refl, Bool, true, false, List, [], ◌∷◌, Some, None, codes, cond, ◌||◌, ◌==◌, map, not, length, find, All, Contains, arith, eqb-true, is_some, option_map, slice_index_or, zero, suc}
+use Rattle.std.proofs.Common.{◌≡◌, ◌∙◌, ℕ, ◌<◌, sym, ap, subst, refl, Bool, true, false, List, [], ◌∷◌, Some, None, codes, cond, ◌||◌, ◌&&◌, ◌==◌, map, not, length, find, All, Contains, arith, eqb-true, is_some, option_map, slice_index_or, zero, suc}
+use Rattle.std.proofs.lemmas.Bool.{and_parts}
 use Rattle.std.proofs.lemmas.List.Elements.{All-contains, All-head, All-tail}
 use Rattle.std.proofs.lemmas.List.Sums.{AllPass-from_list_all}
 use Rattle.std.proofs.lemmas.Slice.Eq.{bytes_eq-Decides}
 use Rattle.std.specs.List.{list_all}
 use Rattle.std.specs.Str.{bytes_eq}
-use Rattle.shop_words.specs.Table.{Text, address, any, one_of, number, short, KindView, positional, needed, optional, flag, parameter, ParameterView, FormView}
-use Rattle.shop_words.specs.Plain.{Use, address_named, alone, valued, use_name, is_needed, is_number, is_short, IsPlainLine, IsUseOf, TakesValue, use_value, value_of}
+use Rattle.shop_words.specs.Table.{Text, address, any, between, one_of, number, short, KindView, positional, needed, optional, flag, parameter, ParameterView, FormView}
+use Rattle.shop_words.specs.Plain.{Use, address_named, alone, valued, use_name, is_between, is_needed, is_number, is_short, IsPlainLine, IsUseOf, TakesValue, use_value, value_of}
 use Rattle.shop_words.specs.Job.{is_on}
 
 -- a test of an option's kind
@@ -27,6 +28,11 @@ abbrev pub takes_number : ℕ → KindTest
 takes_number greatest (needed (number n)) = n == greatest
 takes_number greatest (optional (number n)) = n == greatest
 takes_number greatest _ = false
+
+abbrev pub takes_between : ℕ → ℕ → KindTest
+takes_between least greatest (needed (between n m)) = n == least && m == greatest
+takes_between least greatest (optional (between n m)) = n == least && m == greatest
+takes_between least greatest _ = false
 
 abbrev pub takes_address : KindTest
 takes_address (needed address) = true
@@ -52,12 +58,14 @@ words_ensure test (needed any) value only takes = cc
 words_ensure test (needed (one_of words)) value only takes =
     All-contains (λ w. test w ≡ true) words value (AllPass-from_list_all test words only) takes
 words_ensure test (needed (number n)) value only takes = cc
+words_ensure test (needed (between least greatest)) value only takes = cc
 words_ensure test (needed address) value only takes = cc
 words_ensure test (needed (short m)) value only takes = cc
 words_ensure test (optional any) value only takes = cc
 words_ensure test (optional (one_of words)) value only takes =
     All-contains (λ w. test w ≡ true) words value (AllPass-from_list_all test words only) takes
 words_ensure test (optional (number n)) value only takes = cc
+words_ensure test (optional (between least greatest)) value only takes = cc
 words_ensure test (optional address) value only takes = cc
 words_ensure test (optional (short m)) value only takes = cc
 words_ensure test flag value only takes = absurd takes
@@ -67,14 +75,39 @@ number_ensures greatest positional value only takes = absurd takes
 number_ensures greatest (needed any) value only takes = cc
 number_ensures greatest (needed (one_of words)) value only takes = cc
 number_ensures greatest (needed (number n)) value only takes = subst (λ m. is_number m value ≡ true) (eqb-true n greatest only) takes
+number_ensures greatest (needed (between least greatest')) value only takes = cc
 number_ensures greatest (needed address) value only takes = cc
 number_ensures greatest (needed (short m)) value only takes = cc
 number_ensures greatest (optional any) value only takes = cc
 number_ensures greatest (optional (one_of words)) value only takes = cc
 number_ensures greatest (optional (number n)) value only takes = subst (λ m. is_number m value ≡ true) (eqb-true n greatest only) takes
+number_ensures greatest (optional (between least greatest')) value only takes = cc
 number_ensures greatest (optional address) value only takes = cc
 number_ensures greatest (optional (short m)) value only takes = cc
 number_ensures greatest flag value only takes = absurd takes
+
+between_ensure : (least greatest n m : ℕ) (value : Text) → (n == least && m == greatest) ≡ true → is_between n m value ≡ true
+    → is_between least greatest value ≡ true
+between_ensure least greatest n m value only takes =
+    let same = and_parts (n == least) (m == greatest) only in
+    subst (λ k. is_between k greatest value ≡ true) (eqb-true n least same.0)
+    (subst (λ k. is_between n k value ≡ true) (eqb-true m greatest same.1) takes)
+
+pub between_ensures : (least greatest : ℕ) → Ensures (takes_between least greatest) (is_between least greatest)
+between_ensures least greatest positional value only takes = absurd takes
+between_ensures least greatest (needed any) value only takes = cc
+between_ensures least greatest (needed (one_of words)) value only takes = cc
+between_ensures least greatest (needed (number n)) value only takes = cc
+between_ensures least greatest (needed (between n m)) value only takes = between_ensure least greatest n m value only takes
+between_ensures least greatest (needed address) value only takes = cc
+between_ensures least greatest (needed (short m)) value only takes = cc
+between_ensures least greatest (optional any) value only takes = cc
+between_ensures least greatest (optional (one_of words)) value only takes = cc
+between_ensures least greatest (optional (number n)) value only takes = cc
+between_ensures least greatest (optional (between n m)) value only takes = between_ensure least greatest n m value only takes
+between_ensures least greatest (optional address) value only takes = cc
+between_ensures least greatest (optional (short m)) value only takes = cc
+between_ensures least greatest flag value only takes = absurd takes
 
 abbrev pub names_address : Text → Bool
 names_address word = is_some (address_named word)
@@ -84,11 +117,13 @@ address_ensures positional value only takes = absurd takes
 address_ensures (needed any) value only takes = cc
 address_ensures (needed (one_of words)) value only takes = cc
 address_ensures (needed (number n)) value only takes = cc
+address_ensures (needed (between least greatest)) value only takes = cc
 address_ensures (needed address) value only takes = takes
 address_ensures (needed (short m)) value only takes = cc
 address_ensures (optional any) value only takes = cc
 address_ensures (optional (one_of words)) value only takes = cc
 address_ensures (optional (number n)) value only takes = cc
+address_ensures (optional (between least greatest)) value only takes = cc
 address_ensures (optional address) value only takes = takes
 address_ensures (optional (short m)) value only takes = cc
 address_ensures flag value only takes = absurd takes
@@ -98,11 +133,13 @@ short_ensures most positional value only takes = absurd takes
 short_ensures most (needed any) value only takes = cc
 short_ensures most (needed (one_of words)) value only takes = cc
 short_ensures most (needed (number n)) value only takes = cc
+short_ensures most (needed (between least greatest)) value only takes = cc
 short_ensures most (needed address) value only takes = cc
 short_ensures most (needed (short m)) value only takes = subst (λ n. is_short n value ≡ true) (eqb-true m most only) takes
 short_ensures most (optional any) value only takes = cc
 short_ensures most (optional (one_of words)) value only takes = cc
 short_ensures most (optional (number n)) value only takes = cc
+short_ensures most (optional (between least greatest)) value only takes = cc
 short_ensures most (optional address) value only takes = cc
 short_ensures most (optional (short m)) value only takes = subst (λ n. is_short n value ≡ true) (eqb-true m most only) takes
 short_ensures most flag value only takes = absurd takes

@@ -3,7 +3,7 @@ use Rattle.std.proofs.Common.{◌≡◌, refl, Bool, true, List, [], ◌∷◌, 
 use Rattle.clap.proofs.OnLiterals.{clap_on_literals}
 use Rattle.shop_words.specs.Table.{Text, survey_form, survey_format}
 use Rattle.shop_words.specs.Plain.{Use, IsPlainLine, value_of}
-use Rattle.shop_jobs.specs.Job.{AskView, Survey}
+use Rattle.shop_jobs.specs.Job.{Survey}
 use Rattle.shop_jobs.specs.declared.job.SurveyForm.{SurveyForm}
 use Rattle.std.specs.Prelude.{option_map}
 use Rattle.shop_words.specs.Job.{job_of, line_job, survey_form_named, survey_form_said}

@@ -1,6 +1,5 @@
 -- The plain lists of `wrap`.
 use Rattle.std.proofs.Common.{◌≡◌, ℕ, refl, Bool, true, List, [], ◌∷◌, Option, Some, None, codes, is_some, arith}
-use Rattle.std.specs.List.{list_all}
 use Rattle.clap.proofs.OnLiterals.{clap_on_literals}
 use Rattle.shop_words.specs.Table.{Text, wrap_form, comment, most_comment, order, out, protect, volume}
 use Rattle.shop_words.specs.Plain.{Use, IsPlainLine, is_number, is_short, value_of}
@@ -8,7 +7,7 @@ use Rattle.shop_words.specs.Job.{comment_said, is_on, job_of, line_job, order_na
 use Rattle.a2_device.specs.declared.order.Order.{Order}
 use Rattle.shop_words.proofs.PlainForms.{IsKnown, Knows, shape_named}
 use Rattle.shop_words.proofs.PlainJobs.{HasPlainDefaults, names_order}
-use Rattle.shop_words.proofs.PlainUsed.{named_only, needed_said, number_ensures, short_ensures, takes_number, takes_short, takes_words, value_passes, words_ensure}
+use Rattle.shop_words.proofs.PlainUsed.{needed_said, number_ensures, short_ensures, takes_number, takes_short, takes_words, value_passes, words_ensure}
 
 pub wrap_known : IsKnown wrap_form (shape_named (codes "wrap"))
 unfolding clap_on_literals

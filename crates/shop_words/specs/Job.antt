@@ -17,6 +17,7 @@ use Rattle.std.specs.Prelude.{
   Some,
   None,
   codes,
+  nat_le,
   option_map,
   option_and_then,
   if◌then◌else◌,
@@ -30,7 +31,7 @@ use Rattle.a2_device.specs.declared.order.Order.{Order}
 use Rattle.a2_device.specs.declared.order.Order.TheVariants as orders
 use Rattle.shop_words.specs.Grammar.{shop}
 use Rattle.shop_words.specs.Hexadecimal.{bytes_named}
-use Rattle.shop_words.specs.Table.{Text, FormView, greatest_number, most_comment, most_writes}
+use Rattle.shop_words.specs.Table.{Text, FormView, fewest_blocks, greatest_number, most_blocks, most_comment, most_writes}
 use Rattle.shop_words.specs.Plain.{Use, address_named, is_number, is_short, positional_names, value_of}
 use Rattle.apple_text.specs.declared.form.HighBit.{HighBit}
 use Rattle.apple_text.specs.declared.form.HighBit.TheVariants as high_bits
@@ -50,7 +51,7 @@ use Rattle.shop_jobs.specs.declared.job.FileSystem.TheVariants as file_systems
 use Rattle.shop_jobs.specs.declared.job.SurveyForm.{SurveyForm}
 use Rattle.shop_jobs.specs.declared.job.SurveyForm.TheVariants as survey_forms
 use Rattle.shop_jobs.specs.declared.job.VolumeOptions.{VolumeOptions}
-use Rattle.shop_jobs.specs.Job.{AskView, AttributesView, ByPath, ByStored, Catalog, ChangeOf, ChangeView, Check, Compare, Convert, Delete, EditOf, EditView, ExtractFrom, FileNameView, Identify, InPlace, JobView, Lock, Entries, LookAt, LookView, Map, Optimize, Plan, Read, Rename, Save, Survey, TargetView, ToFile, Unlock, Unwrap, Verify, Wrap, WrappingView}
+use Rattle.shop_jobs.specs.Job.{AskView, AttributesView, ByPath, ByStored, Catalog, ChangeOf, ChangeView, Check, Compare, Convert, Create, CreationView, Delete, DosVolume, EditOf, EditView, ExtractFrom, FileNameView, Identify, InPlace, JobView, Lock, Entries, LookAt, LookView, Map, NewVolumeView, Optimize, Plan, ProdosVolume, Read, Reclaim, Rename, Save, Survey, TargetView, ToFile, Unlock, Unwrap, Verify, Wrap, WrappingView}
 
 -- ---- what a word names
 
@@ -129,6 +130,29 @@ survey_form_named word =
 abbrev pub survey_form_said : Option Text → Option SurveyForm
 survey_form_said None = Some survey_forms.Lines
 survey_form_said (Some word) = survey_form_named word
+
+-- how many blocks a new volume has, 280 where none are said
+abbrev pub enough_blocks : ℕ → Option ℕ
+enough_blocks blocks = if nat_le fewest_blocks blocks then Some blocks else None
+
+abbrev pub blocks_said : Option Text → Option ℕ
+blocks_said None = Some 280
+blocks_said (Some word) = option_and_then enough_blocks (number_named most_blocks word)
+
+-- the order of the image of a new volume, that of its file system where none is said
+abbrev pub usual_order : FileSystem → Order
+usual_order file_systems.Dos = orders.Dos
+usual_order file_systems.Prodos = orders.Prodos
+
+abbrev pub order_said : FileSystem → Option Text → Option Order
+order_said file_system None = Some (usual_order file_system)
+order_said file_system (Some word) = order_named word
+
+-- the image whose system is copied, or that none is; to a data disk none is
+abbrev pub boot_said : Bool → Option Text → Option (Option Text)
+boot_said false boot = Some boot
+boot_said true None = Some None
+boot_said true (Some boot) = None
 
 -- ---- what is said under each parameter's name; a flag says `true`
 
@@ -384,6 +408,59 @@ unwrap_by said = option_map Unwrap (said (codes "out"))
 abbrev pub survey_by : Said → Option AskView
 survey_by said = option_map Survey (survey_form_said (said (codes "format")))
 
+-- ---- a new volume
+
+-- of a DOS 3.3 disk no blocks, no name and no date are said
+abbrev pub dos_volume : Option Text → Option Text → Option Text → Bool → Option NewVolumeView
+dos_volume None None None data_disk = Some (DosVolume data_disk)
+dos_volume _ _ _ data_disk = None
+
+abbrev pub prodos_volume : Option ℕ → Option Text → Option Text → Option NewVolumeView
+prodos_volume blocks name date = option_map (λ b. ProdosVolume b name date) blocks
+
+-- what is said of a new volume beside its file system
+pub record NewVolumeWords : Type 0 where
+  pub blocks : Option Text
+  pub name : Option Text
+  pub date : Option Text
+  pub order : Option Text
+  pub number : Option Text
+  pub data_disk : Bool
+
+abbrev pub new_volume_words : Said → NewVolumeWords
+new_volume_words said = record {
+  blocks = said (codes "blocks");
+  name = said (codes "name");
+  date = said (codes "date");
+  order = said (codes "order");
+  number = said (codes "volume");
+  data_disk = is_on (said (codes "data-disk"));
+}
+
+abbrev pub new_volume_of : NewVolumeWords → FileSystem → Option NewVolumeView
+new_volume_of words file_systems.Dos = dos_volume words.blocks words.name words.date words.data_disk
+new_volume_of words file_systems.Prodos = prodos_volume (blocks_said words.blocks) words.name words.date
+
+abbrev pub creation_of : Option NewVolumeView → Option Order → Option ℕ → Option CreationView
+creation_of (Some volume) (Some order) (Some number) = Some (record { volume = volume; order = order; number = number })
+creation_of _ _ _ = None
+
+abbrev pub creation_in : NewVolumeWords → FileSystem → Option CreationView
+creation_in words file_system =
+    creation_of (new_volume_of words file_system) (order_said file_system words.order) (volume_number words.number)
+
+abbrev pub creation_by : Said → Option CreationView
+creation_by said =
+    option_and_then (creation_in (new_volume_words said)) (option_and_then file_system_named (said (codes "fs")))
+
+abbrev pub create_of : Option Text → Option (Option Text) → Option CreationView → Option AskView
+create_of (Some out) (Some boot) (Some words) = Some (Create words boot out)
+create_of _ _ _ = None
+
+abbrev pub create_by : Said → Option AskView
+create_by said = create_of (said (codes "out")) (boot_said (is_on (said (codes "data-disk"))) (said (codes "boot")))
+    (creation_by said)
+
 -- what a command asks, by what is said under each name
 abbrev pub ask_by : Text → Said → Option AskView
 ask_by command said =
@@ -406,7 +483,9 @@ ask_by command said =
     if bytes_eq command (codes "identify") then Some Identify else
     if bytes_eq command (codes "wrap") then wrap_by said else
     if bytes_eq command (codes "unwrap") then unwrap_by said else
-    if bytes_eq command (codes "survey") then survey_by said else None
+    if bytes_eq command (codes "survey") then survey_by said else
+    if bytes_eq command (codes "create") then create_by said else
+    if bytes_eq command (codes "reclaim") then change_by (Some Reclaim) said else None
 
 -- ---- the job
 
@@ -414,9 +493,11 @@ abbrev pub job_of : Option Text → Option AskView → Option JobView
 job_of (Some image) (Some ask) = Some (record { image = image; ask = ask })
 job_of _ _ = None
 
--- where the image is, or what a survey looks at
+-- where the image is, or what a survey looks at; a volume is made of no image
 abbrev pub place_by : Text → Said → Option Text
-place_by command said = if bytes_eq command (codes "survey") then said (codes "path") else said (codes "image")
+place_by command said =
+    if bytes_eq command (codes "survey") then said (codes "path") else
+    if bytes_eq command (codes "create") then Some [] else said (codes "image")
 
 -- the job of a command: the image, and what is asked of it
 abbrev pub job_by : Text → Said → Option JobView

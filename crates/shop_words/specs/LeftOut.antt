@@ -52,17 +52,29 @@ with_option option stand_in words = let end = position_or_len ends_options words
 abbrev pub completed : AutoOption → StandIn → List Text → List Text
 completed option stand_in words = if leaves_out option words then with_option option stand_in words else words
 
--- the words are those of a command that may leave both out
-abbrev pub may_leave_out : List Text → Bool
-may_leave_out [] = false
-may_leave_out (command ∷ words) =
+abbrev pub is_in_place_word : Text → Bool
+is_in_place_word word = bytes_eq word (codes "--in-place")
+
+-- a command that leaves its image as it is may leave both out
+abbrev pub may_leave_both : Text → Bool
+may_leave_both command =
     bytes_eq command (codes "list") || bytes_eq command (codes "compare") || bytes_eq command (codes "map")
     || bytes_eq command (codes "extract") || bytes_eq command (codes "wrap")
 
--- one of the words is `--auto` and one is another, or both options may be left out
+-- the words are those of such a command, or of one that changes its image, but for that in place
+abbrev pub may_leave_out : List Text → Bool
+may_leave_out [] = false
+may_leave_out (command ∷ words) =
+    may_leave_both command || (bytes_eq command (codes "reclaim") && not (list_any is_in_place_word (command ∷ words)))
+
+-- the command of the words is the first that is not `--auto`; one that makes a volume has no image to ask
+abbrev pub takes_auto : List Text → Bool
+takes_auto [] = false
+takes_auto (word ∷ words) = if is_auto_word word then takes_auto words else not (bytes_eq word (codes "create"))
+
+-- one of the words is `--auto` and their command takes it, or both options may be left out
 abbrev pub asks_to_fill_in : List Text → Bool
-asks_to_fill_in words =
-    list_any is_auto_word words && list_any (λ word. not (is_auto_word word)) words || may_leave_out words
+asks_to_fill_in words = list_any is_auto_word words && takes_auto words || may_leave_out words
 
 -- the order of another image that they leave out is `auto` where that of the image is, and `2img` where that is
 abbrev pub other_completed : List Text → List Text

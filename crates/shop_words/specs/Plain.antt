@@ -5,7 +5,7 @@ use Rattle.std.specs.List.{AllPass, AllZip, IsDistinct, list_all}
 use Rattle.std.specs.Char.{is_ascii_digit}
 use Rattle.std.specs.Str.{bytes_eq}
 use Rattle.std.specs.Str.Parse.{digits_value}
-use Rattle.shop_words.specs.Table.{Text, ValuesView, address, any, one_of, number, KindView, positional, needed, optional, flag, ParameterView, FormView, aux, format, forms, high, in_place, name_of_file, out_file, parameter, places, read_as, save_as, short, stored, whole}
+use Rattle.shop_words.specs.Table.{Text, ValuesView, address, any, between, one_of, number, KindView, positional, needed, optional, flag, ParameterView, FormView, aux, blocks, boot, data_disk, date, file_system, format, forms, high, in_place, name_of_file, out_file, parameter, places, read_as, save_as, short, stored, volume_name, whole}
 use Rattle.shop_words.specs.Hexadecimal.{bytes_named, hex_number}
 
 -- `-`
@@ -61,6 +61,10 @@ abbrev pub is_number : ℕ → Text → Bool
 is_number greatest [] = false
 is_number greatest (x ∷ xs) = list_all is_ascii_digit (x ∷ xs) && nat_le (digits_value 10 (x ∷ xs)) greatest
 
+-- the same of a number that is not below the least
+abbrev pub is_between : ℕ → ℕ → Text → Bool
+is_between least greatest word = is_number greatest word && nat_le least (digits_value 10 word)
+
 -- the number of two bytes that a word writes: in hexadecimal digits behind `$` or `0x`, else in decimal ones
 abbrev pub decimal_address : Text → Option ℕ
 decimal_address word = if is_number 65535 word then Some (digits_value 10 word) else None
@@ -82,6 +86,7 @@ abbrev pub IsOfValues : ValuesView → Text → Type 0
 IsOfValues any value = Unit {0}
 IsOfValues (one_of words) value = Contains words value
 IsOfValues (number greatest) value = is_number greatest value ≡ true
+IsOfValues (between least greatest) value = is_between least greatest value ≡ true
 IsOfValues address value = IsSome (address_named value)
 IsOfValues (short most) value = is_short most value ≡ true
 
@@ -112,9 +117,17 @@ WritesBytes names words = AllZip (λ name word. name ≡ name_of_file.name → I
 abbrev pub UsesJson : List Use → Type 0
 UsesJson uses = find (λ u. bytes_eq (use_name u) format.name) uses ≡ Some (valued format.name (codes "json"))
 
+-- what is said of a new volume: the system is copied to no data disk, and of a DOS 3.3 disk no blocks, no name and no date
+-- are said
+pub record IsNewVolume (uses : List Use) : Type 0 where
+  pub started : IsSome (value_of boot.name uses) → value_of data_disk.name uses ≡ None
+  pub of_dos : value_of file_system.name uses ≡ Some (codes "dos")
+      → (value_of blocks.name uses ≡ None) × (value_of volume_name.name uses ≡ None) × (value_of date.name uses ≡ None)
+
 -- the positional words and uses are those of a plain list of the form; where the image may be changed in place, exactly one of `--out` and `--in-place` is used;
 -- with `--stored` the name of the file is in hexadecimal digits, and with `--places` the form is JSON; `--as` and `--whole` do not go together,
--- `--high` goes with `--as text` alone, and with `--as applesoft` the auxiliary type is $0801
+-- `--high` goes with `--as text` alone, and with `--as applesoft` the auxiliary type is $0801; of the command that makes a
+-- volume what is said is said of one
 pub record IsPlainLine (f : FormView) (positionals : List Text) (uses : List Use) : Type 0 where
   pub as_many : length positionals ≡ length (positional_names f)
   pub plain : AllPass is_plain_word positionals
@@ -129,6 +142,7 @@ pub record IsPlainLine (f : FormView) (positionals : List Text) (uses : List Use
   pub high_of_text : IsSome (value_of high.name uses) → value_of save_as.name uses ≡ Some (codes "text")
   pub loaded : value_of save_as.name uses ≡ Some (codes "applesoft") → (word : Text) → value_of aux.name uses ≡ Some word
       → address_named word ≡ Some 0x0801
+  pub created : Contains f.parameters boot → IsNewVolume uses
 
 -- the list that is printed from them
 abbrev pub line_words : FormView → List Text → List Use → List Text

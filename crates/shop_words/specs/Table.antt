@@ -16,6 +16,7 @@ pub data ValuesView : Type 0 where
   any : ValuesView
   one_of : List Text → ValuesView
   number : ℕ → ValuesView
+  between : ℕ → ℕ → ValuesView
   address : ValuesView
   short : ℕ → ValuesView
 
@@ -37,6 +38,7 @@ abbrev pub values_view : Values → ValuesView
 values_view values.Any = any
 values_view (values.OneOf words) = one_of (map (λ w. w.now) words.now)
 values_view (values.Number greatest) = number greatest
+values_view (values.Between least greatest) = between least greatest
 values_view values.Address = address
 values_view (values.Short most) = short most
 
@@ -328,6 +330,38 @@ survey_form = record {
   parameters = path ∷ survey_format ∷ [];
 }
 
+-- the fewest and the most blocks of a ProDOS volume
+abbrev pub fewest_blocks : ℕ
+fewest_blocks = 16
+
+abbrev pub most_blocks : ℕ
+most_blocks = 65535
+
+-- `--order ORDER`, `--blocks N`, `--name NAME` and `--boot FILE` of a new volume
+abbrev pub new_order : ParameterView
+new_order = parameter (codes "order") (optional (one_of order_words))
+
+abbrev pub blocks : ParameterView
+blocks = parameter (codes "blocks") (optional (between fewest_blocks most_blocks))
+
+abbrev pub volume_name : ParameterView
+volume_name = parameter (codes "name") (optional any)
+
+abbrev pub boot : ParameterView
+boot = parameter (codes "boot") (optional any)
+
+abbrev pub create_form : FormView
+create_form = record {
+  name = codes "create";
+  parameters = file_system ∷ new_order ∷ out ∷ blocks ∷ volume_name ∷ date ∷ volume ∷ data_disk ∷ boot ∷ [];
+}
+
+abbrev pub reclaim_form : FormView
+reclaim_form = record {
+  name = codes "reclaim";
+  parameters = image ∷ file_system ∷ order ∷ out_file ∷ in_place ∷ data_disk ∷ reserve ∷ [];
+}
+
 -- the forms of all commands
 abbrev pub forms : List FormView
-forms = catalog_form ∷ list_form ∷ compare_form ∷ map_form ∷ check_form ∷ read_form ∷ extract_form ∷ convert_form ∷ plan_form ∷ optimize_form ∷ lock_form ∷ unlock_form ∷ delete_form ∷ rename_form ∷ save_form ∷ verify_form ∷ identify_form ∷ wrap_form ∷ unwrap_form ∷ survey_form ∷ []
+forms = catalog_form ∷ list_form ∷ compare_form ∷ map_form ∷ check_form ∷ read_form ∷ extract_form ∷ convert_form ∷ plan_form ∷ optimize_form ∷ lock_form ∷ unlock_form ∷ delete_form ∷ rename_form ∷ save_form ∷ verify_form ∷ identify_form ∷ wrap_form ∷ unwrap_form ∷ survey_form ∷ create_form ∷ reclaim_form ∷ []

@@ -6,8 +6,9 @@ ghost use Rattle.clap.specs.Walk.{rows_of};
 ghost use Rattle.shop_jobs.specs.Job.{ask_view, job_view};
 ghost use Rattle.shop_words.specs.Job.{ask_by, found_job, job_by, place_by, rows_say};
 
-use crate::changing::{edit_in, optimize_in, rename_in};
+use crate::changing::{edit_in, optimize_in, reclaim_in, rename_in};
 use crate::converting::convert_in;
+use crate::creating::create_in;
 use crate::extracting::extract_in;
 use crate::looking::{
     catalog_in, check_in, compare_in, list_in, map_in, plan_in, read_in, verify_in,
@@ -46,19 +47,21 @@ fn ask_in(alloc: Global, command: &str, matches: &ArgMatches<'_>) -> Result<Opti
         "wrap" => wrap_in(alloc, matches),
         "unwrap" => unwrap_in(alloc, matches),
         "survey" => Ok(survey_in(matches)),
+        "create" => create_in(alloc, matches),
+        "reclaim" => reclaim_in(alloc, matches),
         _ => Ok(None),
     }
 }
 
-// Where the image is, or what a survey looks at.
+// Where the image is, or what a survey looks at; a volume is made of no image.
 fn place_said<'a>(command: &str, matches: &ArgMatches<'a>) -> Option<&'a str>
     ensures { option_map (λ s. s.now) result
         ≡ place_by command.now (rows_say (rows_of (found_of matches.now))) }
 {
-    if command == "survey" {
-        said(matches, "path")
-    } else {
-        said(matches, "image")
+    match command {
+        "survey" => said(matches, "path"),
+        "create" => Some(""),
+        _ => said(matches, "image"),
     }
 }
 

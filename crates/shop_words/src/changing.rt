@@ -89,3 +89,10 @@ pub fn rename_in(alloc: Global, matches: &ArgMatches<'_>) -> Result<Option<Ask>,
         None => Ok(None),
     }
 }
+
+pub fn reclaim_in(alloc: Global, matches: &ArgMatches<'_>) -> Result<Option<Ask>, AllocError>
+    ensures { IfOk result (λ ask. option_map ask_view ask
+        ≡ ask_by (codes "reclaim") (rows_say (rows_of (found_of matches.now)))) }
+{
+    change_in(alloc, matches, Some(Change::Reclaim))
+}

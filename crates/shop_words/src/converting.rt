@@ -13,7 +13,8 @@ use std::alloc::{AllocError, Global};
 /// The volume number where `--volume` is left out.
 const STANDARD_VOLUME: u8 = 254;
 
-fn volume_number(word: Option<&str>) -> Option<u8>
+/// The volume number of tracks that are made.
+pub fn volume_number(word: Option<&str>) -> Option<u8>
     ensures { result ≡ volume_number (option_map (λ s. s.now) word.entry) }
 {
     match word {

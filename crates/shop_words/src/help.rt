@@ -50,6 +50,14 @@ pub enum Help {
     Payload,
     Path,
     SurveyFormat,
+    NewFileSystem,
+    NewOrder,
+    Blocks,
+    VolumeName,
+    NewDate,
+    NewNumber,
+    NewDataDisk,
+    Boot,
 }
 
 impl Help {
@@ -124,6 +132,21 @@ impl Help {
             Help::Path =>
                 "File, or folder of which all files are looked at; '-' is a list of paths on standard input, one a line",
             Help::SurveyFormat => "What a line is: lines of words, or json; lines if left out",
+            Help::NewFileSystem => "File system of the volume: dos or prodos",
+            Help::NewOrder =>
+                "Order of the sectors in the image: dos, prodos or nibble; that of the file system if left out",
+            Help::Blocks =>
+                "How many blocks of 512 bytes a ProDOS volume has, 16 to 65535; 280, those of a disk, if left out",
+            Help::VolumeName =>
+                "Name of a ProDOS volume: up to 15 letters, digits and points, a letter first; UNTITLED if left out",
+            Help::NewDate =>
+                "Date and time of the creation of a ProDOS volume, as 1986-05-01T12:30; none if left out",
+            Help::NewNumber =>
+                "Volume number of a DOS 3.3 disk and of tracks that are made, 0 to 255; 254 if left out",
+            Help::NewDataDisk => "Tracks 1 and 2 may hold files too; such a disk starts no machine",
+            Help::Boot =>
+                "Image, in the same order, whose system is copied: tracks 0 to 2 of a DOS 3.3 disk, blocks 0 and 1 of \
+                    a ProDOS volume",
             Help::Bodies => "Read the sectors of each file too, and tell those that can't be read",
             Help::Whole => "Take all bytes of the file's sectors, and not its content alone",
             Help::Stored =>
@@ -161,6 +184,8 @@ pub fn of(command: &str) -> &'static str {
         "wrap" => "Put an image into a 2IMG file of its own, as emulators take it",
         "unwrap" => "Take the image out of a 2IMG file",
         "survey" => "Tell which files are disk images, what is on each, and which are the same",
+        "create" => "Make the image of a new volume without a file",
+        "reclaim" => "Mark the places of a volume free that are marked used and belong to no file",
         _ => "",
     }
 }

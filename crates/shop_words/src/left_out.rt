@@ -26,11 +26,14 @@ ghost use Rattle.shop_words.specs.LeftOut.{
   gives as means_to_give,
   has_option as form_has_option,
   is_auto_word as means_auto_word,
+  is_in_place_word as means_in_place_word,
   is_option_of as is_option_of_command,
   leaves_out as words_leave_out,
+  may_leave_both as command_may_leave_both,
   may_leave_out as words_may_leave_out,
   option_name,
   other_completed,
+  takes_auto as words_take_auto,
   with_option,
 };
 ghost use Rattle.shop_words.specs.Table.{form_view};
@@ -207,9 +210,7 @@ fn complete_other(alloc: Global, words: &mut Vec<String>) -> Result<(), AllocErr
 
 // Whether the command with this name may leave out the file system and the order.
 fn may_leave_both(command: &str) -> bool
-    ensures { result ≡ (bytes_eq command.now (codes "list") || bytes_eq command.now (codes "compare")
-        || bytes_eq command.now (codes "map") || bytes_eq command.now (codes "extract")
-        || bytes_eq command.now (codes "wrap")) }
+    ensures { result ≡ command_may_leave_both command.now }
 {
     command == "list"
         || command == "compare"
@@ -218,12 +219,29 @@ fn may_leave_both(command: &str) -> bool
         || command == "wrap"
 }
 
-// Whether the words are those of a command that may leave out the file system and the order.
+fn is_in_place_word(word: &String) -> bool
+    ensures { result ≡ means_in_place_word (string_bytes word.now) }
+{
+    word.as_str() == "--in-place"
+}
+
+// Whether one of the words is `--in-place`.
+fn has_in_place_word(words: &[String]) -> bool
+    ensures { result ≡ list_any (λ word. means_in_place_word (string_bytes word)) words.now }
+{
+    words.iter().any(|word| is_in_place_word(word))
+}
+
+// Whether the words are those of a command that may leave out the file system and the order. Where an image is changed
+// in place, none does.
 fn may_leave_out(words: &[String]) -> bool
     ensures { result ≡ words_may_leave_out (map string_bytes words.now) }
 {
     match words.first() {
-        Some(command) => may_leave_both(command.as_str()),
+        Some(command) => {
+            may_leave_both(command.as_str())
+                || command.as_str() == "reclaim" && !has_in_place_word(words)
+        }
         None => false,
     }
 }
@@ -235,28 +253,27 @@ fn has_auto_word(words: &[String]) -> bool
     words.iter().any(|word| is_auto_word(word))
 }
 
-fn is_other_word(word: &String) -> bool
-    ensures { result ≡ not (means_auto_word (string_bytes word.now)) }
+// Whether the command of the words takes `--auto`: the first of them that is another word, if it makes no volume.
+fn takes_auto(words: &[String]) -> bool
+    ensures { result ≡ words_take_auto (map string_bytes words.now) }
 {
-    !is_auto_word(word)
+    for word in words {
+        if !is_auto_word(word) {
+            return word.as_str() != "create";
+        }
+    }
+    false
 }
 
-// Whether one of the words is another.
-fn has_other_word(words: &[String]) -> bool
-    ensures { result ≡ list_any (λ word. not (means_auto_word (string_bytes word))) words.now }
-{
-    words.iter().any(|word| is_other_word(word))
-}
-
-// Whether one of the words is `--auto`, and one is another.
+// Whether one of the words is `--auto`, and their command takes it.
 fn has_auto_beside_others(words: &[String]) -> bool
     ensures { result ≡ (list_any (λ word. means_auto_word (string_bytes word)) words.now
-        && list_any (λ word. not (means_auto_word (string_bytes word))) words.now) }
+        && words_take_auto (map string_bytes words.now)) }
 {
-    has_auto_word(words) && has_other_word(words)
+    has_auto_word(words) && takes_auto(words)
 }
 
-// Whether one of the words is `--auto` and one is another, or both options may be left out.
+// Whether one of the words is `--auto` and their command takes it, or both options may be left out.
 fn asks_to_fill_in(words: &[String]) -> bool
     ensures { result ≡ words_ask_to_fill_in (map string_bytes words.now) }
 {
@@ -272,8 +289,8 @@ fn without_auto(mut words: Vec<String>) -> Vec<String>
 }
 
 /// The words without `--auto`, with `auto` for the file system and the order that they leave out,
-/// where they ask for that: by `--auto` beside other words, or as those of a command that may leave
-/// both out. Where the order is `auto` or `2img`, so is that of another image that they leave out.
+/// where they ask for that: by `--auto` beside the words of a command that takes it, or as those of a
+/// command that may leave both out. Where the order is `auto` or `2img`, so is that of another image that they leave out.
 ///
 /// # Errors
 /// Want of memory.

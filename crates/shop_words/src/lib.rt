@@ -29,6 +29,7 @@ mod asking;
 mod auto;
 mod changing;
 mod converting;
+mod creating;
 mod escaping;
 mod explain;
 mod extracting;

@@ -372,6 +372,43 @@ Status:
   1  a file is told as AMBIGUOUS, NONE or UNREAD
   4  FAILED Input or Memory: the path or memory failed";
 
+const CREATE: &str = "\
+Examples:
+  a2shop create --fs prodos --out new.po --name LETTERS
+  a2shop create --fs dos --out new.dsk --boot system.dsk
+  a2shop create --fs prodos --blocks 65535 --out hard.po
+
+A disk that is made without --boot starts no machine. With it the system of the owner's own disk is
+copied; a ProDOS volume starts one once the file PRODOS is saved to it too. Another order than that
+of the file system has a disk of 280 blocks alone.
+
+Status:
+  0  the image is written
+  3  REFUSED Exists    something stands at the path of --out
+     REFUSED Date      the word of --date is no date
+     REFUSED Name      no volume can have the name of --name
+     REFUSED Length    the order has no image of so many blocks, or the file of --boot has another length
+                       than an image in that order
+     REFUSED NoSector  a sector that is to be copied can't be read in the image of --boot
+  4  FAILED Input or Memory: the file of --boot or memory failed";
+
+const RECLAIM: &str = "\
+Examples:
+  a2shop reclaim disk.dsk --out clean.dsk
+  a2shop reclaim disk.po --in-place --auto
+
+--fs and --order are auto where they are left out, but not with --in-place. No file is moved or changed.
+With --data-disk on a disk that starts a machine the places of its system are freed. In an order that is
+not the disk's own, hundreds of places may belong to no file: look at check first.
+
+Status:
+  0  no place is lost
+  3  REFUSED InPlace  it is neither DOS 3.3 in DOS order nor ProDOS in ProDOS order, in a file
+     REFUSED Reserve  the word of --reserve is no list of places
+     REFUSED Length   the image has another length than one in its order
+     REFUSED Check    the volume has a fault; check tells which
+  4  FAILED Input, Device or Memory: a file, a sector of the image or memory failed";
+
 /// The notes on the command with this name.
 pub fn of(command: &str) -> &'static str {
     match command {
@@ -395,6 +432,8 @@ pub fn of(command: &str) -> &'static str {
         "wrap" => WRAP,
         "unwrap" => UNWRAP,
         "survey" => SURVEY,
+        "create" => CREATE,
+        "reclaim" => RECLAIM,
         _ => "",
     }
 }

@@ -118,6 +118,12 @@ enum Misfit<'a> {
     LoadedElsewhere,
     /// Both images are to be read from standard input.
     TwoInputs,
+    /// This is said of a new volume of ProDOS alone.
+    OfProdos {
+        name: &'static str,
+    },
+    /// The system is to be copied to a disk without one.
+    BootOfDataDisk,
     /// The image is to go to a file and to be changed in place.
     TwoTargets,
     /// The words do not say where the image goes.
@@ -130,6 +136,9 @@ fn takes(values: Values, word: &str) -> bool {
         Values::Any => true,
         Values::OneOf(words) => words.iter().any(|one| *one == word),
         Values::Number { greatest } => number_named(word, greatest).is_some(),
+        Values::Between { least, greatest } => {
+            matches!(number_named(word, greatest), Some(number) if number >= least)
+        }
         Values::Address => address_named(word).is_some(),
         Values::Short { most } => word.len() <= most,
     }
@@ -219,8 +228,25 @@ fn inputs_misfit<'a>(matches: &ArgMatches<'a>) -> Option<Misfit<'a>> {
     }
 }
 
-/// The first option of the command that does not take its value, or what is wrong with its name, its form, its images
-/// or with where its image goes.
+/// What is wrong with what is said of a new volume.
+fn volume_misfit<'a>(form: &Form, matches: &ArgMatches<'a>) -> Option<Misfit<'a>> {
+    if form.name != "create" {
+        return None;
+    }
+    if has_flag(matches, "data-disk") && said(matches, "boot").is_some() {
+        return Some(Misfit::BootOfDataDisk);
+    }
+    if said(matches, "fs") != Some("dos") {
+        return None;
+    }
+    ["blocks", "name", "date"]
+        .into_iter()
+        .find(|name| said(matches, name).is_some())
+        .map(|name| Misfit::OfProdos { name })
+}
+
+/// The first option of the command that does not take its value, or what is wrong with its name, its form, its images,
+/// its new volume or with where its image goes.
 fn misfit_of<'a>(form: &Form, matches: &ArgMatches<'a>) -> Option<Misfit<'a>> {
     form.parameters
         .iter()
@@ -229,6 +255,7 @@ fn misfit_of<'a>(form: &Form, matches: &ArgMatches<'a>) -> Option<Misfit<'a>> {
         .or_else(|| places_misfit(matches))
         .or_else(|| form_misfit(matches))
         .or_else(|| inputs_misfit(matches))
+        .or_else(|| volume_misfit(form, matches))
         .or_else(|| target_misfit(form, matches))
 }
 
@@ -250,6 +277,9 @@ fn wanted(alloc: Global, stand_ins: &str, values: Values) -> Result<String, Allo
             format!(in alloc; "[possible values: {stand_ins}{words}]")
         }
         Values::Number { greatest } => format!(in alloc; "[a number from 0 to {greatest}]"),
+        Values::Between { least, greatest } => {
+            format!(in alloc; "[a number from {least} to {greatest}]")
+        }
         Values::Address => "[a number from 0 to 65535, or from 0x0 to 0xFFFF]".to_string(alloc),
         Values::Short { most } => format!(in alloc; "[a text of up to {most} bytes]"),
     }
@@ -274,6 +304,8 @@ impl Misfit<'_> {
             | Misfit::HighWithoutText
             | Misfit::LoadedElsewhere
             | Misfit::TwoInputs
+            | Misfit::OfProdos { .. }
+            | Misfit::BootOfDataDisk
             | Misfit::TwoTargets => ErrorKind::ArgumentConflict,
             Misfit::NoTarget => ErrorKind::MissingRequiredArgument,
         }
@@ -313,6 +345,14 @@ impl Misfit<'_> {
             }
             Misfit::TwoInputs => {
                 "the arguments '<image>' and '<other>' cannot both be '-'".to_string(alloc)
+            }
+            Misfit::OfProdos { name } => {
+                format!(in alloc;
+                    "the argument '--{name} <{name}>' can only be used with '--fs prodos'"
+                )
+            }
+            Misfit::BootOfDataDisk => {
+                "the argument '--boot <boot>' cannot be used with '--data-disk'".to_string(alloc)
             }
             Misfit::TwoTargets => {
                 "the argument '--out <out>' cannot be used with '--in-place'".to_string(alloc)

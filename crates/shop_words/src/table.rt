@@ -13,6 +13,8 @@ pub enum Values {
     OneOf(&'static [&'static str]),
     /// Decimal digits, of a number up to the greatest.
     Number { greatest: u64 },
+    /// Decimal digits, of a number from the least to the greatest.
+    Between { least: u64, greatest: u64 },
     /// A number of two bytes, in decimal digits or, behind `0x` or `$`, in hexadecimal ones.
     Address,
     /// Any word of up to so many bytes.
@@ -344,6 +346,63 @@ const SURVEY_FORMAT: Parameter = Parameter {
     help: Help::SurveyFormat,
 };
 
+const NEW_ORDER: Parameter = Parameter {
+    name: "order",
+    kind: Kind::Optional(ORDERS),
+    help: Help::NewOrder,
+};
+
+const NEW_IMAGE: Parameter = Parameter {
+    name: "out",
+    kind: Kind::Needed(Values::Any),
+    help: Help::Payload,
+};
+
+const NEW_FILE_SYSTEM: Parameter = Parameter {
+    name: "fs",
+    kind: Kind::Needed(Values::OneOf(&["dos", "prodos"])),
+    help: Help::NewFileSystem,
+};
+
+const BLOCKS: Parameter = Parameter {
+    name: "blocks",
+    kind: Kind::Optional(Values::Between {
+        least: 16,
+        greatest: 65_535,
+    }),
+    help: Help::Blocks,
+};
+
+const VOLUME_NAME: Parameter = Parameter {
+    name: "name",
+    kind: Kind::Optional(Values::Any),
+    help: Help::VolumeName,
+};
+
+const NEW_NUMBER: Parameter = Parameter {
+    name: "volume",
+    kind: Kind::Optional(Values::Number { greatest: 255 }),
+    help: Help::NewNumber,
+};
+
+const NEW_DATE: Parameter = Parameter {
+    name: "date",
+    kind: Kind::Optional(Values::Any),
+    help: Help::NewDate,
+};
+
+const NEW_DATA_DISK: Parameter = Parameter {
+    name: "data-disk",
+    kind: Kind::Flag,
+    help: Help::NewDataDisk,
+};
+
+const BOOT: Parameter = Parameter {
+    name: "boot",
+    kind: Kind::Optional(Values::Any),
+    help: Help::Boot,
+};
+
 const FORMS: &[Form] = &[
     Form {
         name: "catalog",
@@ -506,6 +565,32 @@ const FORMS: &[Form] = &[
     Form {
         name: "survey",
         parameters: &[PATH, SURVEY_FORMAT],
+    },
+    Form {
+        name: "create",
+        parameters: &[
+            NEW_FILE_SYSTEM,
+            NEW_ORDER,
+            NEW_IMAGE,
+            BLOCKS,
+            VOLUME_NAME,
+            NEW_DATE,
+            NEW_NUMBER,
+            NEW_DATA_DISK,
+            BOOT,
+        ],
+    },
+    Form {
+        name: "reclaim",
+        parameters: &[
+            IMAGE,
+            FILE_SYSTEM,
+            ORDER,
+            OUT_FILE,
+            IN_PLACE,
+            DATA_DISK,
+            RESERVE,
+        ],
     },
 ];
 

@@ -10,6 +10,7 @@ use std::test::Fail;
 mod comparisons;
 mod containers;
 mod conversions;
+mod creations;
 mod escapes;
 mod extractions;
 mod moves;

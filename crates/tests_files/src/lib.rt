@@ -34,6 +34,8 @@ mod plan_lines;
 #[cfg(test)]
 mod prodos_files;
 #[cfg(test)]
+mod reclaims;
+#[cfg(test)]
 mod renames;
 #[cfg(test)]
 mod runs;

@@ -1,8 +1,7 @@
 -- What stands in a part of a file, and around it.
-use Rattle.std.proofs.Common.{◌≡◌, ◌∙◌, ℕ, ◌+◌, ◌-◌, ◌<◌, ◌≤◌, List, [], length, get_or, arith, rules, sym, ap, refl, subst, length-take, length-drop, take, take_all, drop, ◌++◌, ⊎_elim}
+use Rattle.std.proofs.Common.{◌≡◌, ◌∙◌, ℕ, ◌+◌, ◌-◌, ◌≤◌, List, [], length, arith, rules, sym, ap, refl, subst, length-take, length-drop, take, take_all, drop, ⊎_elim}
 use Rattle.std.specs.Prelude.{◌⊎◌, Err, Ok, OnErr, OnOk, Result, slice_range}
 use Rattle.std.proofs.lemmas.List.{drop_all, same_lists, places}
-use Rattle.std.proofs.lemmas.Bool.{cases_lt}
 use Rattle.a2_image.specs.Lending.{written}
 use Rattle.a2_media.specs.File.{FileState, after_write}
 use Rattle.a2_media.specs.System.{system_file}

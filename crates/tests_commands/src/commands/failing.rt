@@ -1,28 +1,9 @@
 // Readers and writers that fail.
 use crate::answer::{run_line, tells};
-use std::io::{self, ErrorKind, Read, Write};
+use crate::broken::Broken;
+use std::io::Read;
 use std::test::Fail;
 use test_volumes::hello;
-
-/// A stream whose every call fails.
-#[derive(Drop)]
-pub struct Broken;
-
-impl Read for Broken {
-    fn read(&mut self, _buf: &mut [u8]) -> io::Result<usize> {
-        Err(io::Error::from(ErrorKind::BrokenPipe))
-    }
-}
-
-impl Write for Broken {
-    fn write(&mut self, _buf: &[u8]) -> io::Result<usize> {
-        Err(io::Error::from(ErrorKind::BrokenPipe))
-    }
-
-    fn flush(&mut self) -> io::Result<()> {
-        Err(io::Error::from(ErrorKind::BrokenPipe))
-    }
-}
 
 const CONVERSION: &str = "convert a --order dos --to prodos --out b";
 

@@ -14,8 +14,8 @@ returns-clause-opened c =
       (
         c.in_ok-places.places,
         taken.1,
-        c.new-2.ensures
+        c.new-2.ensures.state
             ∙ ap (file_device_state c.args.kind c.in_ok-places.places 0 0)
-            (c.new-window.ensures ∙ ap (window_state start size) c.new.ensures ∙ system_window start size c.len-bytes.result ∙ ap system_file (sym taken.0)),
+            (c.new-window.ensures.state ∙ ap (window_state start size) c.new.ensures ∙ system_window start size c.len-bytes.result ∙ ap system_file (sym taken.0)),
       ),
     )

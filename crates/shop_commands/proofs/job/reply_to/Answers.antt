@@ -1,12 +1,13 @@
 use Rattle.std.proofs.Common.{Bool, List, ℕ, inr, subst, sym}
-use Rattle.std.specs.Prelude.{Option}
-use Rattle.shop_jobs.specs.Job.{ask_view, change_view}
+use Rattle.std.specs.Prelude.{Option, option_map}
+use Rattle.shop_jobs.specs.Job.{ask_view, change_view, creation_view}
 use Rattle.shop_jobs.specs.declared.job.Ask.{Ask}
 use Rattle.shop_changes.specs.EditRules.{changed_by}
 use Rattle.shop_changes.specs.Work.{work_view}
 use Rattle.shop_image.specs.ChangeReply.{IsChangeReply}
 use Rattle.shop_image.specs.VolumeReply.{IsVolumeReply}
 use Rattle.shop_commands.specs.Answer.{AsksFor, IsReplyToBytes}
+use Rattle.shop_commands.specs.CreateReply.{IsCreateReply}
 use Rattle.shop_commands.proofs.job.reply_to.Goals as goal
 
 pub returns-in-Ok : goal.returns-in-Ok
@@ -25,3 +26,11 @@ returns-in-Ok c =
 pub returns-in-Identify : goal.returns-in-Identify
 returns-in-Identify c =
     subst (λ (ask : Ask). IsReplyToBytes (ask_view ask) c.args.image.items c.args.extra.items c.identify_reply.result) (sym c.in-Identify.is) c.identify_reply.ensures
+
+pub returns-in-Create : goal.returns-in-Create
+returns-in-Create c =
+    let reply = c.create_reply.result in
+    let words = creation_view c.in-Create.options in
+    subst (λ (ask : Ask). IsReplyToBytes (ask_view ask) c.args.image.items c.args.extra.items reply) (sym c.in-Create.is)
+    (subst (λ (path : Option (List ℕ)). IsCreateReply words (option_map (λ path. c.args.extra.items) path) reply) c.as_deref.ensures.value
+    (subst (λ (boot : Option (List ℕ)). IsCreateReply words boot reply) c.bytes_named.ensures c.create_reply.ensures))

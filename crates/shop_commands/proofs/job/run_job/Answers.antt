@@ -1,4 +1,4 @@
-use Rattle.std.proofs.Common.{◌∙◌, sym}
+use Rattle.std.proofs.Common.{◌∙◌, inl, inr, sym}
 use Rattle.shop_jobs.specs.Job.{ask_view}
 use Rattle.shop_replies.specs.Reply.{held}
 use Rattle.shop_replies.specs.declared.refusal.Side.TheVariants.{First, Second}
@@ -9,9 +9,9 @@ use Rattle.shop_commands.proofs.job.run_job.Goals as goal
 answered : goal.returns-clause-answer
 answered g c =
     let ask = ask_view c.args.job.now.ask in
-    job_answered ask (g.I.Read.remaining c.args.image.now) (g.E.Read.remaining c.args.extra.now) c.most_of_image.result c.in-Ok.bytes.items c.in-Ok-extra_for.more.items c.reply_to.result c.deliver-2.result
+    job_answered ask (g.I.Read.remaining c.args.image.now) (g.E.Read.remaining c.args.extra.now) c.in-Ok.bytes.items c.in-Ok-extra_for.more.items c.reply_to.result c.deliver-2.result
     (held (g.T.Write.contents c.args.text.now) (g.O.Write.contents c.args.out.now)) (held (g.T.Write.contents c.deliver-2.new.text) (g.O.Write.contents c.deliver-2.new.out))
-    (sym c.is_in_place.ensures ∙ c.if-is_in_place.false) c.most_of_image.ensures c.in-Ok.ensures.read
+    (sym c.is_in_place.ensures ∙ c.if-is_in_place.false) c.in-Ok.ensures.read
     c.in-Ok-extra_for.ensures.read c.reply_to.ensures c.deliver-2.ensures.told
 
 pub returns-clause-answer : goal.returns-clause-answer
@@ -34,7 +34,7 @@ unread_image g c =
     unread_answered (ask_view c.args.job.now.ask) (g.I.Read.remaining c.args.image.now) (g.E.Read.remaining c.args.extra.now) First c.in-Err.failure c.unread_reply.result
     c.deliver-in-Err.result (held (g.T.Write.contents c.args.text.now) (g.O.Write.contents c.args.out.now))
     (held (g.T.Write.contents c.deliver-in-Err.new.text) (g.O.Write.contents c.deliver-in-Err.new.out))
-    (sym c.is_in_place.ensures ∙ c.if-is_in_place.false) c.in-Err.ensures.failed c.unread_reply.ensures c.deliver-in-Err.ensures.told
+    (inl (c.in-Err.ensures.failed.0, sym c.is_in_place.ensures ∙ c.if-is_in_place.false)) c.in-Err.ensures.failed.1 c.unread_reply.ensures c.deliver-in-Err.ensures.told
 
 pub returns-in-Err-clause-answer : goal.returns-in-Err-clause-answer
 returns-in-Err-clause-answer = unread_image
@@ -56,7 +56,7 @@ unread_extra g c =
     unread_answered (ask_view c.args.job.now.ask) (g.I.Read.remaining c.args.image.now) (g.E.Read.remaining c.args.extra.now) Second c.in-Err-extra_for.failure
     c.unread_reply-in-Err-extra_for.result c.deliver-in-Err-extra_for.result (held (g.T.Write.contents c.args.text.now) (g.O.Write.contents c.args.out.now))
     (held (g.T.Write.contents c.deliver-in-Err-extra_for.new.text) (g.O.Write.contents c.deliver-in-Err-extra_for.new.out))
-    (sym c.is_in_place.ensures ∙ c.if-is_in_place.false) c.in-Err-extra_for.ensures.failed c.unread_reply-in-Err-extra_for.ensures c.deliver-in-Err-extra_for.ensures.told
+    (inr (c.in-Err-extra_for.ensures.failed.0, sym c.is_in_place.ensures ∙ c.if-is_in_place.false)) c.in-Err-extra_for.ensures.failed.1 c.unread_reply-in-Err-extra_for.ensures c.deliver-in-Err-extra_for.ensures.told
 
 pub returns-in-Err-extra_for-clause-answer : goal.returns-in-Err-extra_for-clause-answer
 returns-in-Err-extra_for-clause-answer = unread_extra

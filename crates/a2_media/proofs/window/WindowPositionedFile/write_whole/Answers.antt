@@ -1,4 +1,4 @@
-use Rattle.std.proofs.Common.{◌≡◌, ◌⊎◌, ap, ⊎_elim, inl, inr}
+use Rattle.std.proofs.Common.{ap, ⊎_elim, inl, inr}
 use Rattle.std.proofs.lemmas.Result.{on_ok_weaker, on_err_weaker}
 use Rattle.a2_media.specs.lemmas.Windows.{around_either, written_through}
 use Rattle.a2_media.specs.Window.{window_state}
