@@ -6,8 +6,7 @@ use crate::explanation::Explanation;
 pub static FINDINGS: [Explanation; 31] = [
     Explanation {
         front: "2IMG",
-        meaning: "The file is a 2IMG file, and its header says this of the image in it. Where the last line names \
-            another order, the header is wrong.",
+        meaning: "The file is a 2IMG file, and its header says this of the image in it.",
         advice: "With a wrong header take the image out by `a2shop unwrap`, and put it into a new file by `a2shop wrap` \
             with the right order.",
     },

@@ -273,11 +273,52 @@ fn tell_unwritten(rt: &HostRuntime, found: &Found) -> io::Result<()> {
     eprintln!(rt; "{name}: {text} {IN_THE_WAY}")
 }
 
+// The third word of a line that begins with this one.
+fn order_named<'a>(line: &'a str, front: &str) -> Option<&'a str> {
+    let mut words = line.split(' ');
+    if words.next()? != front {
+        return None;
+    }
+    words.next()?;
+    words.next()
+}
+
+// Of a container that was identified, the order in its header and the one of the best way to read its image, where they
+// are not one.
+fn orders_apart(told: &[u8]) -> Option<(&str, &str)> {
+    let text = std::str::from_utf8(told).ok()?;
+    let (first, rest) = text.split_once('\n')?;
+    let header = order_named(first, "2IMG")?;
+    for line in rest.split('\n') {
+        if let Some(best) = order_named(line, "BEST") {
+            return if best == header {
+                None
+            } else {
+                Some((header, best))
+            };
+        }
+    }
+    None
+}
+
+// Tells that the header of a container names another order than the best way to read its image, if it does.
+fn tell_orders(rt: &HostRuntime, found: &Found, told: &[u8]) -> io::Result<()> {
+    let Some((header, best)) = orders_apart(told) else {
+        return Ok(());
+    };
+    let name = shown(rt, &found.path)?;
+    eprintln!(rt;
+        "{name}: the header says that the image is in {header} order, and it is best read in {best} order: the header \
+        is wrong."
+    )
+}
+
 // Tells on standard error which image was read, and what each of the words means that begin a line of what was told.
 fn tell(rt: &HostRuntime, found: &Found, told: &[u8]) -> io::Result<()> {
     tell_image(rt, found)?;
     tell_fault(rt, found)?;
     tell_unwritten(rt, found)?;
+    tell_orders(rt, found, told)?;
     tell_rows(rt, found, &REFUSALS, told)?;
     tell_rows(rt, found, &FINDINGS, told)
 }
