@@ -14,7 +14,7 @@ import random
 import subprocess
 import sys
 import tempfile
-from typing import NamedTuple, Optional
+from typing import NamedTuple, Optional, Union
 
 sys.path.insert(0, os.path.join(os.path.dirname(os.path.abspath(__file__)), "..", "samples"))
 import make_samples
@@ -33,7 +33,7 @@ class Saved(NamedTuple):
     path: str
     size: int
     seed: int
-    kind: Optional[str]
+    kind: Union[None, int, str]
     aux: Optional[int]
     date: Optional[str]
     reserve: Optional[str]
@@ -188,7 +188,15 @@ class DosVolume:
             places.add(16 * int(track) + int(sector))
         return places
 
+    def taken_over(self, at):
+        """The type and the address of a file."""
+        kind = self.image[at + 2] & 0x7F
+        _, body = self.parts(at)
+        return kind, int.from_bytes(body.get(0, bytes(2))[:2], "little") if kind == 0x04 else 0
+
     def kind_of(self, word):
+        if isinstance(word, int):
+            return word
         if word is None:
             return 0x00
         if word not in self.LETTERS:
@@ -263,7 +271,7 @@ class DosVolume:
     def body(self, saved):
         """What is read of a new file: its bytes alone where it has its length before them, else its units whole."""
         content = saved.content()
-        return content if saved.kind in ("I", "A", "B") else b"".join(units_of(content, 256))
+        return content if saved.kind in ("I", "A", "B", 0x01, 0x02, 0x04) else b"".join(units_of(content, 256))
 
     def listing(self):
         lines = [f"DISK VOLUME {self.unit(17 * 16)[6]:03}"]
@@ -432,7 +440,13 @@ class ProVolume:
             raise Refused("Reserve")
         return set(map(int, items))
 
+    def taken_over(self, at):
+        """The type and the auxiliary type of a file."""
+        return self.image[at + 0x10], self.word(at + 0x1F)
+
     def kind_of(self, word):
+        if isinstance(word, int):
+            return word
         if word is None:
             return 0x06
         if len(word) != 2 or any(digit not in "0123456789abcdefABCDEF" for digit in word):
@@ -518,6 +532,10 @@ class ProVolume:
         """A place as a list of reserved places names it."""
         return str(place)
 
+    def held(self, _, saved):
+        """What the units of a file hold."""
+        return saved.content()
+
     def body(self, saved):
         """What is read of a new file."""
         return saved.content()
@@ -594,11 +612,42 @@ class Trial:
         with open("image", "wb") as file:
             file.write(self.in_order())
 
+    def take_over(self, saved):
+        """A file to be saved with what it takes over of the one that it replaces, which is deleted."""
+        try:
+            at = self.volume.find(saved.path)
+        except Refused:
+            return saved
+        kind, aux = self.volume.taken_over(at)
+        self.volume.delete(at)
+        return saved._replace(kind=kind if saved.kind is None else saved.kind, aux=aux if saved.aux is None else saved.aux)
+
+    def replace(self, saved):
+        """Saves a file in the place of the one that has its path, and answers it; a refusal leaves the volume as it was."""
+        volume = self.volume
+        kind = volume.kind_of(saved.kind)
+        date_bytes(saved.date)
+        reserved = volume.reserved(saved.reserve)
+        if saved.kind is not None:
+            volume.held(kind, saved)
+        if any(place in reserved for at in volume.files() for place in volume.parts(at)[0]):
+            raise Refused("Check")
+        before = bytes(volume.image)
+        try:
+            taken = self.take_over(saved)
+            volume.save(taken)
+        except Refused:
+            volume.image[:] = before
+            raise
+        return taken
+
     def edit_volume(self, edit, path, new):
-        """Makes an edit of the volume."""
+        """Makes an edit of the volume, and answers what is saved, if something is."""
         if edit == "save":
             self.volume.save(new)
-            return
+            return new
+        if edit == "replace":
+            return self.replace(new)
         at = self.volume.find(path)
         if edit == "rename":
             self.volume.rename(at, new)
@@ -606,32 +655,33 @@ class Trial:
             self.volume.delete(at)
         else:
             self.volume.lock(at, edit == "lock")
+        return None
 
     def wanted(self, edit, path, new):
-        """Makes an edit of the volume, and what is told of it."""
+        """Makes an edit of the volume; what is told of it, and what is saved."""
         try:
-            self.edit_volume(edit, path, new)
+            saved = self.edit_volume(edit, path, new)
         except Refused as refused:
-            return 3, f"REFUSED {refused}\n".encode()
-        return 0, b"OK\n"
+            return (3, f"REFUSED {refused}\n".encode()), None
+        return (0, b"OK\n"), saved
 
     def more_words(self, edit, new):
         """What is said of an edit behind the path of its file."""
-        if edit == "save":
+        if edit in ("save", "replace"):
             with open("from", "wb") as file:
                 file.write(new.content())
-            return [*self.words, "--from", "from", *new.words()]
+            return [*self.words, "--from", "from", *new.words(), *["--replace"] * (edit == "replace")]
         return [new, *self.words] if edit == "rename" else self.words
 
     def make(self, edit, path, new):
         """Makes an edit, by the program too, and tells what is wrong then."""
-        wanted = self.wanted(edit, path, new)
-        told = self.told(edit, "image", path, *self.more_words(edit, new), "--out", "image")
+        wanted, saved = self.wanted(edit, path, new)
+        told = self.told("save" if edit == "replace" else edit, "image", path, *self.more_words(edit, new), "--out", "image")
         if told != wanted:
             return f"told {told}, not {wanted}"
         if self.sectors() != self.volume.image:
             return "another image"
-        if edit == "save" and wanted[0] == 0 and self.told("read", "image", path, *self.words) != (0, self.volume.body(new)):
+        if saved and self.told("read", "image", path, *self.words) != (0, self.volume.body(saved)):
             return "the new file is read otherwise"
         return self.weigh()
 
@@ -698,6 +748,11 @@ def an_edit(chance, volume):
         saved = a_saved(chance, volume)
         return "save", saved.path, saved
     paths = volume.paths()
+    if chance.random() < 0.25:
+        saved = a_saved(chance, volume)
+        if paths and chance.random() < 0.8:
+            saved = saved._replace(path=chance.choice(paths))
+        return "replace", saved.path, saved
     path = chance.choice(paths) if paths and chance.random() < 0.9 else chance.choice(["NONE", "INNER", "", "FILE 3 "])
     if chance.random() < 0.2:
         path = path.lower()

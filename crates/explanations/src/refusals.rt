@@ -7,7 +7,8 @@ pub static REFUSALS: [Explanation; 34] = [
         front: "REFUSED InPlace",
         meaning: "This image is not changed in its own file. That is done where the units of the volume stand in the \
             file one after the other: a DOS 3.3 disk in DOS order, or a ProDOS volume in ProDOS order, in a file that \
-            has a name. Nothing was written.",
+            has a name; and no file takes the place of another one there, since a stop between the two would leave \
+            neither. Nothing was written.",
         advice: "Say `--out FILE` in place of `--in-place`; or bring a copy into the other order with `a2shop \
             convert`.",
     },
@@ -104,12 +105,12 @@ pub static REFUSALS: [Explanation; 34] = [
             `wrap`, `unwrap` and `create` it is the path behind `--out` at which something stands, a link too. No file \
             is replaced by another, and nothing was written.",
         advice: "Choose another name, or first rename or delete the entry that has it: `a2shop catalog` shows them. To \
-            save a file anew, delete the old one first.",
+            save a file anew, say `--replace`; a directory is not replaced.",
     },
     Explanation {
         front: "REFUSED Locked",
-        meaning: "The file is locked, so it is not deleted or renamed. A file of ProDOS counts as locked where its \
-            access bits do not let it be deleted, or renamed. Nothing was written.",
+        meaning: "The file is locked, so it is not deleted, renamed or replaced. A file of ProDOS counts as locked \
+            where its access bits do not let it be deleted, or renamed. Nothing was written.",
         advice: "Run `a2shop unlock` first, and this command on the image that it writes.",
     },
     Explanation {

@@ -1,4 +1,5 @@
 mod Kept
 mod Lines
+mod Replaced
 mod Telling
 mod Types

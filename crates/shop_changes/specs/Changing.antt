@@ -14,15 +14,16 @@ use Rattle.shop_changes.specs.EditRules.{ChangedMeaning}
 use Rattle.shop_changes.specs.OptimizeOutcome.{IsOptimizeOutcome}
 use Rattle.shop_changes.specs.ReclaimOutcome.{IsReclaimOutcome}
 use Rattle.shop_changes.specs.SaidFile.{IsSaidOutcome}
-use Rattle.shop_changes.specs.Work.{WorkView, Optimize, EditOf, Reclaim, Save}
+use Rattle.shop_changes.specs.Work.{WorkView, Optimize, EditOf, Reclaim, Replace, Save}
 use Rattle.shop_changes.specs.declared.outcome.Outcome.{Outcome}
 use Rattle.shop_changes.specs.declared.outcome.Outcome.TheVariants.{Unfinished}
 
--- what each work makes of a volume
+-- what each work makes of a volume where it stands; no file is replaced there
 abbrev pub IsWorkOutcome : WorkView → ChangedMeaning → DeviceState → DeviceState → Outcome → Type 0
 IsWorkOutcome (Optimize reclaim limit) format old new outcome = IsOptimizeOutcome reclaim limit format.units old new outcome
 IsWorkOutcome (EditOf edit name) format old new outcome = IsEditOutcome edit name format.files format.edits format.units old new outcome
 IsWorkOutcome (Save path said) format old new outcome = IsSaidOutcome path said format.edits.save format.units old new outcome
+IsWorkOutcome (Replace path said) format old new outcome = (outcome ≡ Unfinished (refused refusals.InPlace)) × (new ≡ old)
 IsWorkOutcome Reclaim format old new outcome = IsReclaimOutcome format.units old new outcome
 
 -- there was no memory for the work, and the device is as it was

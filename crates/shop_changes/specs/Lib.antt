@@ -11,4 +11,5 @@ pub mod EditOutcome
 pub mod SaveOutcome
 pub mod ReclaimOutcome
 pub mod SaidFile
+pub mod Replaced
 pub mod Changing

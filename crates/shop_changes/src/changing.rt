@@ -20,7 +20,7 @@ use reserved_places::Reserved;
 use save_formats::SavableFormat;
 use shop_jobs::{FileSystem, VolumeOptions};
 use shop_reads::{reserve_reply, reserved_by};
-use shop_replies::{Failure, Reply, form_of};
+use shop_replies::{Failure, Refusal, Reply, form_of};
 use std::alloc::Global;
 
 // Does work on the volume of a device, by its format.
@@ -51,6 +51,10 @@ fn change_by<D: Device, F: SavableFormat>(
             let outcome = save_said(alloc, &mut device, format, path, said);
             (outcome, device)
         }
+        Work::Replace { .. } => (
+            Outcome::Unfinished(Reply::refused(Refusal::InPlace)),
+            device,
+        ),
         Work::Reclaim => {
             let outcome = reclaim_in_place(alloc, &mut device, format);
             (outcome, device)

@@ -53,7 +53,7 @@ const LONGEST: usize = 65_535;
 const SPARE: usize = 4 + 511;
 
 // Whether the head of a file cannot say its length.
-fn is_too_long(given: &GivenFile<'_>) -> bool
+pub(crate) fn is_too_long(given: &GivenFile<'_>) -> bool
     ensures { IsTrue result ↔ IsTooLongForHead (given_view given.now) }
 {
     match given.head {

@@ -17,6 +17,10 @@
 //! a letter in DOS 3.3, two hexadecimal digits in ProDOS. The date of its creation is one of `pro_dates`. A file with a
 //! head is never longer than the two bytes of its length say: a longer one is refused before memory is taken.
 //!
+//! A file that takes the place of another one (`specs/Replaced.antt`) is saved in two steps, of which the first deletes
+//! the other one: between them the volume has neither. So it is no work on a device that keeps what is written:
+//! `change_volume` refuses it with `InPlace`, and who has the volume in memory calls `make_way`, then `save_in_place`.
+//!
 //! What always holds: all memory is taken before the first write; after a failure of the device nothing of it is called
 //! again; and where no failure of the device is told and the work is not done, the device is as it was.
 #![tactic(auto)]
@@ -29,7 +33,10 @@ mod given_words;
 mod law;
 mod optimizing;
 mod outcome;
+mod plain_file;
 mod reclaiming;
+mod replaced_file;
+mod replacing;
 mod report_line;
 mod said_file;
 mod saving;
@@ -41,6 +48,10 @@ pub use given_file::{FileUnits, GivenFile, Head, MOST_INPUT, file_units};
 pub use given_words::{head_of, kind_for, kind_named, usual_kind};
 pub use law::a_kind_is_got_back_from_its_type;
 pub use outcome::Outcome;
+pub use plain_file::{PlainFile, taken_plain};
+pub use replaced_file::{ReplacedFile, find_replaced};
+pub use replacing::make_way;
 pub use report_line::line_text;
 pub use said_file::SaidFile;
+pub use saving::save_in_place;
 pub use work::Work;

@@ -41,7 +41,7 @@ pub struct SaidFile<'a> {
 
 impl SaidFile<'_> {
     // The file with this type, this aux type where none is said, and these bytes.
-    fn given_with<'b>(self, kind: u8, aux: u16, bytes: &'b [u8]) -> GivenFile<'b>
+    pub(crate) fn given_with<'b>(self, kind: u8, aux: u16, bytes: &'b [u8]) -> GivenFile<'b>
         ensures { given_view result ≡ given_with (said_view self.entry) kind aux bytes.now }
     {
         GivenFile {
@@ -54,7 +54,7 @@ impl SaidFile<'_> {
     }
 
     // The type that is said, or that of the file system for what was taken.
-    fn kind_of(self, file: &TakenFile) -> Option<u8>
+    pub(crate) fn kind_of(self, file: &TakenFile) -> Option<u8>
         ensures { result ≡ kind_of (said_view self.entry) (taken_view file.now) }
     {
         match self.kind {
@@ -75,7 +75,11 @@ fn bad_line_reply(alloc: Global, line: u64) -> Reply
 }
 
 // What is taken from the form in which a file is given, or the reply to what can't be.
-fn taken_file(alloc: Global, said: SaidFile<'_>, form: GivenForm) -> Result<TakenFile, Reply>
+pub(crate) fn taken_file(
+    alloc: Global,
+    said: SaidFile<'_>,
+    form: GivenForm,
+) -> Result<TakenFile, Reply>
     ensures taken { IfOk result (λ file. IsTakenFrom (place_form said.entry.file_system) form said.entry.bytes.now
         (taken_view file)) }
     ensures refused { IfErr result (IsNotGivenIn (said_view said.entry) form) }

@@ -33,13 +33,13 @@ use Rattle.shop_changes.specs.Work as works
 use Rattle.shop_image.specs.ChangeReply.{IsChangeReply}
 use Rattle.shop_image.specs.LookReply.{IsImageLook}
 use Rattle.shop_image.specs.VolumeReply.{IsVolumeReply}
-use Rattle.shop_image.proofs.Fronts.{saved-take, volume-told, volume-whole, with_said_bytes}
-use Rattle.shop_image.proofs.NotMade.{edited_image, reclaimed_image, said_image, sided_made, sided_same, volume_made}
+use Rattle.shop_image.proofs.Fronts.{replaced-take, saved-take, volume-told, volume-whole, with_said_bytes}
+use Rattle.shop_image.proofs.NotMade.{edited_image, reclaimed_image, replaced_image, said_image, sided_made, sided_same, volume_made}
 use Rattle.image_readings.proofs.Fronts.{identify-whole}
 use Rattle.image_readings.proofs.NotMade.{identify_not_made}
 use Rattle.shop_replies.specs.Reading.{IsReadFailure, most_beside, most_of_image}
 use Rattle.shop_replies.specs.declared.refusal.Side.{Side}
-use Rattle.shop_commands.specs.Answer.{AreToldNoJob, AsksFor, HandsOutFor, IsAnswer, IsCommandAnswer, IsSaid, IsInPlaceAnswer, IsReplyToBytes, IsWordsAnswer, MakesImage, ReadsExtra, ReadsImage, TellsNoJob, beside, unread_reply}
+use Rattle.shop_commands.specs.Answer.{AreToldNoJob, AsksFor, HandsOutFor, IsAnswer, IsCommandAnswer, IsSaid, IsInPlaceAnswer, IsReplyToBytes, IsWordsAnswer, MakesImage, ReadsExtra, ReadsImage, TellsNoJob, beside, saving_work, unread_reply}
 use Rattle.shop_commands.proofs.Created.{create-take, created_image}
 
 -- what is told of the work of a change
@@ -54,8 +54,13 @@ said-whole file_system attributes form front bytes said is =
 
 -- a file that is too long is told so by one byte past the most
 saved-whole : (volume : VolumeOptions) (reserve : Option (List ℕ)) (image name : List ℕ) (said : SaidView) (front bytes : List ℕ) (reply : Reply) → front ≡ take (most_input + 1) bytes
-    → IsWorkTold volume reserve image (works.Save name (with_said_bytes said front)) reply → IsWorkTold volume reserve image (works.Save name (with_said_bytes said bytes)) reply
-saved-whole volume reserve image name said front bytes reply taken is =
+    → (replace : Bool) → IsWorkTold volume reserve image (saving_work replace name (with_said_bytes said front)) reply
+    → IsWorkTold volume reserve image (saving_work replace name (with_said_bytes said bytes)) reply
+saved-whole volume reserve image name said front bytes reply taken true is =
+    volume-told volume reserve image (λ (reserved : List Bool). IsChangeReply (works.Replace name (with_said_bytes said front)) (changed_by volume reserved))
+    (λ (reserved : List Bool). IsChangeReply (works.Replace name (with_said_bytes said bytes)) (changed_by volume reserved)) reply
+    (λ reserved device told. replaced-take name front bytes said (changed_by volume reserved) device reply taken told) is
+saved-whole volume reserve image name said front bytes reply taken false is =
     volume-told volume reserve image (λ (reserved : List Bool). IsChangeReply (works.Save name (with_said_bytes said front)) (changed_by volume reserved))
     (λ (reserved : List Bool). IsChangeReply (works.Save name (with_said_bytes said bytes)) (changed_by volume reserved)) reply
     (λ reserved device told. saved-take name front bytes said (changed_by volume reserved).edits.save (changed_by volume reserved).units device reply taken told) is
@@ -67,11 +72,11 @@ asked-whole : (volume : VolumeOptions) (reserve : Option (List ℕ)) (image : Li
 asked-whole volume reserve image (Optimize reclaim stop_after cert) front bytes reply taken work asks told = (work, asks, told)
 asked-whole volume reserve image (EditOf name edit) front bytes reply taken work asks told = (work, asks, told)
 asked-whole volume reserve image Reclaim front bytes reply taken work asks told = (work, asks, told)
-asked-whole volume reserve image (Save name attributes form from) front bytes reply taken work (said, is, asks) told = (
-  works.Save name (with_said_bytes said bytes),
+asked-whole volume reserve image (Save name attributes form from replace) front bytes reply taken work (said, is, asks) told = (
+  saving_work replace name (with_said_bytes said bytes),
   (with_said_bytes said bytes, said-whole volume.file_system attributes form front bytes said is, refl),
-  saved-whole volume reserve image name said front bytes reply taken
-      (subst (λ (w : WorkView). IsWorkTold volume reserve image w reply) (asks ∙ ap (λ (xs : List ℕ). works.Save name (with_said_bytes said xs)) is.bytes) told),
+  saved-whole volume reserve image name said front bytes reply taken replace
+      (subst (λ (w : WorkView). IsWorkTold volume reserve image w reply) (asks ∙ ap (λ (xs : List ℕ). saving_work replace name (with_said_bytes said xs)) is.bytes) told),
 )
 
 -- the bytes that are read of an image
@@ -198,8 +203,11 @@ edit_makes_image volume reserve image edit name reply is made =
 
 -- so does a saving
 save_makes_image : (volume : VolumeOptions) (reserve : Option (List ℕ)) (image name : List ℕ) (said : SaidView) (reply : Reply)
-    → IsWorkTold volume reserve image (works.Save name said) reply → IsMade reply → IsMadeReply reply
-save_makes_image volume reserve image name said reply is made =
+    (replace : Bool) → IsWorkTold volume reserve image (saving_work replace name said) reply → IsMade reply → IsMadeReply reply
+save_makes_image volume reserve image name said reply true is made =
+    volume_made volume reserve image (λ (reserved : List Bool). IsChangeReply (works.Replace name said) (changed_by volume reserved)) reply (IsMadeReply reply)
+    (λ reserved device told. replaced_image name said (changed_by volume reserved) device reply told made) is made
+save_makes_image volume reserve image name said reply false is made =
     volume_made volume reserve image (λ (reserved : List Bool). IsChangeReply (works.Save name said) (changed_by volume reserved)) reply (IsMadeReply reply)
     (λ reserved device told. said_image name said (changed_by volume reserved).edits.save (changed_by volume reserved).units device reply told made) is made
 
@@ -242,11 +250,11 @@ hands_for (ChangeOf volume reserve Reclaim target) image more reply status old n
 hands_for (ChangeOf volume reserve Reclaim target) image more reply status old new (inr (work, asks, told)) made out =
     ok_handed reply status old new
     (reclaim_makes_image volume reserve image reply (subst (λ (w : WorkView). IsWorkTold volume reserve image w reply) asks told) made) out
-hands_for (ChangeOf volume reserve (Save name attributes form from) target) image more reply status old new (inl (refusal, told, refuses)) made out =
+hands_for (ChangeOf volume reserve (Save name attributes form from replace) target) image more reply status old new (inl (refusal, told, refuses)) made out =
     absurd (refused_not_made refusal reply told made)
-hands_for (ChangeOf volume reserve (Save name attributes form from) target) image more reply status old new (inr (work, (said, is, asks), told)) made out =
+hands_for (ChangeOf volume reserve (Save name attributes form from replace) target) image more reply status old new (inr (work, (said, is, asks), told)) made out =
     ok_handed reply status old new
-    (save_makes_image volume reserve image name said reply (subst (λ (w : WorkView). IsWorkTold volume reserve image w reply) asks told) made) out
+    (save_makes_image volume reserve image name said reply replace (subst (λ (w : WorkView). IsWorkTold volume reserve image w reply) asks told) made) out
 
 pub image_handed : {O : Type 0} (ask : AskView) (image more : List ℕ) (reply : Reply) (status : ℕ) (text_old text_new : Option (List ℕ)) (old new : O)
     → is_in_place ask ≡ false → IsReplyToBytes ask image more reply → (new ≡ old) ⊎ (IsMade reply × HandsOut reply status text_old text_new)

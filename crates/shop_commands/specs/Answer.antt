@@ -68,17 +68,22 @@ RefusesAttributes file_system words refusals.Type = kind_said file_system words.
 RefusesAttributes file_system words refusals.Date = IsSome (kind_said file_system words.kind) × ¬ NamesDate words.date
 RefusesAttributes file_system words refusal = ⊥
 
+-- a file that is saved takes the place of another one or not
+abbrev pub saving_work : Bool → Text → SaidView → WorkView
+saving_work true name said = works.Replace name said
+saving_work false name said = works.Save name said
+
 -- the work that a change asks of its volume, with the bytes of a file beside the image
 abbrev pub AsksFor : VolumeOptions → ChangeView → List ℕ → WorkView → Type 0
 AsksFor volume (Optimize reclaim stop_after cert) bytes work = work ≡ works.Optimize reclaim (limit_of stop_after)
 AsksFor volume (EditOf name edit) bytes work = work ≡ works.EditOf edit (named_by name)
-AsksFor volume (Save name attributes form from) bytes work =
-    (said : SaidView) × IsSaid volume.file_system attributes form bytes said × (work ≡ works.Save name said)
+AsksFor volume (Save name attributes form from replace) bytes work =
+    (said : SaidView) × IsSaid volume.file_system attributes form bytes said × (work ≡ saving_work replace name said)
 AsksFor volume Reclaim bytes work = work ≡ works.Reclaim
 
 -- the words of a change are refused: those of a saving alone
 abbrev pub RefusesWords : VolumeOptions → ChangeView → Refusal → Type 0
-RefusesWords volume (Save name attributes form from) refusal = RefusesAttributes volume.file_system attributes refusal
+RefusesWords volume (Save name attributes form from replace) refusal = RefusesAttributes volume.file_system attributes refusal
 RefusesWords volume change refusal = ⊥
 
 -- ---- what is told
@@ -196,7 +201,7 @@ HandsOutFor (Unwrap out) status old new = Appends old new (codes "OK\n") × ((st
 HandsOutFor (Create words boot out) status old new = Appends old new (codes "OK\n") × ((status ≡ 0) ⊎ (status ≡ 4))
 HandsOutFor (LookAt volume reserve look) status old new = Appends old new (codes "OK\n") × ((status ≡ 0) ⊎ (status ≡ 4))
 HandsOutFor (ChangeOf volume reserve (EditOf name edit) target) status old new = Appends old new (codes "OK\n") × ((status ≡ 0) ⊎ (status ≡ 4))
-HandsOutFor (ChangeOf volume reserve (Save name attributes form from) target) status old new = Appends old new (codes "OK\n") × ((status ≡ 0) ⊎ (status ≡ 4))
+HandsOutFor (ChangeOf volume reserve (Save name attributes form from replace) target) status old new = Appends old new (codes "OK\n") × ((status ≡ 0) ⊎ (status ≡ 4))
 HandsOutFor (ChangeOf volume reserve Reclaim target) status old new = Appends old new (codes "OK\n") × ((status ≡ 0) ⊎ (status ≡ 4))
 HandsOutFor ask status old new = HandsImage status old new
 

@@ -10,6 +10,7 @@ ghost use Rattle.shop_commands.specs.Answer.{
   RefusesWords,
   kind_said as said_kind,
   limit_of as of_limit,
+  saving_work as work_of_saving,
 };
 
 use file_forms::GivenForm;
@@ -66,6 +67,17 @@ fn said_by<'a>(
     })
 }
 
+// The work of a file that is saved.
+fn saving_work<'a>(replace: bool, path: &'a [u8], said: SaidFile<'a>) -> Work<'a>
+    ensures { work_view result ≡ work_of_saving replace path.entry.now (said_view said.entry) }
+{
+    if replace {
+        Work::Replace { path, said }
+    } else {
+        Work::Save { path, said }
+    }
+}
+
 /// The work that a change asks of its volume, with the bytes of a file beside the image.
 ///
 /// # Errors
@@ -95,11 +107,12 @@ pub fn change_work<'a>(
             name,
             attributes,
             form,
+            replace,
             ..
-        } => Ok(Work::Save {
-            path: name.as_bytes(),
-            said: said_by(volume.file_system, attributes, *form, extra)?,
-        }),
+        } => {
+            let said = said_by(volume.file_system, attributes, *form, extra)?;
+            Ok(saving_work(*replace, name.as_bytes(), said))
+        }
         Change::Reclaim => Ok(Work::Reclaim),
     }
 }

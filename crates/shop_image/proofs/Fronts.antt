@@ -10,6 +10,8 @@ use Rattle.shop_jobs.specs.declared.job.VolumeOptions.{VolumeOptions}
 use Rattle.shop_replies.specs.declared.reply.Reply.{Reply}
 use Rattle.shop_replies.specs.Disk.{most_bytes}
 use Rattle.shop_replies.proofs.Fronts.{OfVolume-whole, TakesBytes-take}
+use Rattle.shop_changes.specs.EditRules.{ChangedMeaning}
+use Rattle.shop_image.specs.ReplaceReply.{IsReplaced}
 use Rattle.shop_image.specs.SaveReply.{IsSaidSaved}
 use Rattle.shop_image.specs.VolumeReply.{IsVolumeReply}
 
@@ -40,5 +42,14 @@ pub saved-take : (path front bytes : List ℕ) (said : SaidView) (saves : SaveMe
 saved-take path front bytes said saves format device reply taken is = elim is [
   | inl long ↦ inl (long.0, omega (arith, long.1, ap (λ (xs : List ℕ). length xs) taken, length-take (most_input + 1) bytes))
   | inr short ↦ subst (λ (all : List ℕ). IsSaidSaved path (with_said_bytes said all) saves format device reply)
+      (taken ∙ take_all (most_input + 1) bytes (omega (arith, short.0, ap (λ (xs : List ℕ). length xs) taken, length-take (most_input + 1) bytes))) (inr short)
+]
+
+-- so of one that takes the place of another file
+pub replaced-take : (path front bytes : List ℕ) (said : SaidView) (format : ChangedMeaning) (device : DeviceState) (reply : Reply) → front ≡ take (most_input + 1) bytes
+    → IsReplaced path (with_said_bytes said front) format device reply → IsReplaced path (with_said_bytes said bytes) format device reply
+replaced-take path front bytes said format device reply taken is = elim is [
+  | inl long ↦ inl (long.0, omega (arith, long.1, ap (λ (xs : List ℕ). length xs) taken, length-take (most_input + 1) bytes))
+  | inr short ↦ subst (λ (all : List ℕ). IsReplaced path (with_said_bytes said all) format device reply)
       (taken ∙ take_all (most_input + 1) bytes (omega (arith, short.0, ap (λ (xs : List ℕ). length xs) taken, length-take (most_input + 1) bytes))) (inr short)
 ]

@@ -8,3 +8,4 @@ mod Edited
 mod Saved
 mod Told
 mod Reclaimed
+mod Replaced

@@ -18,9 +18,10 @@ use Rattle.shop_replies.specs.declared.reply.Reply.{Reply}
 use Rattle.shop_replies.specs.declared.reply.Status.TheVariants.{Refused}
 use Rattle.shop_replies.specs.Reply.{IsMade, IsMadeReply}
 use Rattle.shop_replies.proofs.NotMade.{failed_not_made, refused_not_made, told_not_made}
-use Rattle.shop_changes.specs.EditRules.{EditRules}
+use Rattle.shop_changes.specs.EditRules.{ChangedMeaning, EditRules}
 use Rattle.shop_image.specs.EditReply.{IsEdited}
 use Rattle.shop_image.specs.ReclaimReply.{IsReclaimed}
+use Rattle.shop_image.specs.ReplaceReply.{IsPlainReplaced, IsReplaced}
 use Rattle.shop_image.specs.SaveReply.{IsSaidSaved, IsSaved}
 use Rattle.shop_jobs.specs.Job.{LookView, Catalog, Entries, Check, Compare, Map, Read, Plan, Verify}
 use Rattle.shop_image.specs.LookReply.{sided}
@@ -101,6 +102,26 @@ said_image path said saves format device reply is made = elim is [
   | inl long ↦ absurd (refused_not_made refusals.InputTooLong reply long.0 made)
   | inr (_, inl none) ↦ absurd (none_made said said.form reply none made)
   | inr (_, inr given) ↦ saved_image path given.0 saves format device reply given.2 made
+]
+
+-- and a file that takes the place of another one
+plain_replaced_image : (path : List ℕ) (said : SaidView) (files : FileMeaning) (rules : EditRules) (format : Meaning) (device : DeviceState) (reply : Reply)
+    → IsPlainReplaced path said files rules format device reply → IsMade reply → IsMadeReply reply
+plain_replaced_image path said files rules format device reply is made = elim is [
+  | inl long ↦ absurd (refused_not_made refusals.TooLong reply long.0 made)
+  | inr (_, inl refused) ↦ absurd (refused_not_made refusals.Check reply refused.0 made)
+  | inr (_, inr (inl refused)) ↦ absurd (refused_not_made refusals.Locked reply refused.0 made)
+  | inr (_, inr (inr (inl failed))) ↦ absurd (failed_not_made failures.Device reply failed.0 made)
+  | inr (_, inr (inr (inr (inl failed)))) ↦ absurd (failed_not_made failures.Memory reply failed made)
+  | inr (_, inr (inr (inr (inr over)))) ↦ saved_image path over.given rules.save format over.reopened reply over.saved made
+]
+
+pub replaced_image : (path : List ℕ) (said : SaidView) (format : ChangedMeaning) (device : DeviceState) (reply : Reply)
+    → IsReplaced path said format device reply → IsMade reply → IsMadeReply reply
+replaced_image path said format device reply is made = elim is [
+  | inl long ↦ absurd (refused_not_made refusals.InputTooLong reply long.0 made)
+  | inr (_, inl none) ↦ absurd (none_made said said.form reply none made)
+  | inr (_, inr plain) ↦ plain_replaced_image path plain.0 format.files format.edits format.units device reply plain.2 made
 ]
 
 -- a look that says of which image it refuses has an image where it has one without that

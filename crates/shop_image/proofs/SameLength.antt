@@ -8,10 +8,11 @@ use Rattle.vol_laws.specs.Writes.{Write}
 use Rattle.edit_formats.specs.Writes.{device_after}
 use Rattle.file_forms.specs.declared.form.GivenForm.{GivenForm}
 use Rattle.save_formats.specs.Saves.{SaveMeaning}
-use Rattle.shop_changes.specs.EditRules.{ChangedMeaning}
+use Rattle.shop_changes.specs.EditRules.{ChangedMeaning, EditRules}
 use Rattle.shop_changes.specs.GivenFile.{GivenView}
 use Rattle.shop_changes.specs.SaidFile.{SaidView}
-use Rattle.shop_changes.specs.Work.{EditOf, Optimize, Reclaim, Save, WorkView}
+use Rattle.shop_changes.specs.Replaced.{IsMadeWay}
+use Rattle.shop_changes.specs.Work.{EditOf, Optimize, Reclaim, Replace, Save, WorkView}
 use Rattle.shop_jobs.specs.declared.job.VolumeOptions.{VolumeOptions}
 use Rattle.shop_reads.proofs.NotMade.{unopened_told_not_made}
 use Rattle.shop_replies.proofs.NotMade.{failed_not_made, refused_not_made}
@@ -21,6 +22,8 @@ use Rattle.shop_replies.specs.declared.reply.Reply.{Reply}
 use Rattle.shop_replies.specs.Reply.{IsMade, made_of}
 use Rattle.shop_image.specs.ChangeReply.{IsChangeReply}
 use Rattle.shop_image.specs.ImageBytes.{AreBytesOf}
+use Rattle.file_formats.specs.Files.{FileMeaning}
+use Rattle.shop_image.specs.ReplaceReply.{IsPlainReplaced, IsReplaced}
 use Rattle.shop_image.specs.SaveReply.{IsSaidSaved, IsSaved}
 use Rattle.shop_image.specs.VolumeReply.{IsVolumeReply}
 use Rattle.shop_image.proofs.NotMade.{none_made, untaken_not_made}
@@ -61,26 +64,57 @@ module _ (device : DeviceState) (reply : Reply) (form : ImageForm) (is_form : de
     | inr (_, inr (given, gives, saved)) ↦ saved_length path given saves format saved made
   ]
 
+-- so of a file that takes the place of another one
+module _ (device : DeviceState) (reply : Reply) (form : ImageForm) (is_form : device.image ≡ Some form) where
+  -- the device without the old file has the same form, and so it has once it is opened again
+  form_without : (path : List ℕ) (said : SaidView) (files : FileMeaning) (rules : EditRules) (format : Meaning) (without : DeviceState) (given : GivenView)
+      → IsMadeWay path said files rules format device without given → without.image ≡ Some form
+  form_without path said files rules format without given way = elim way.cleared [
+    | inl gone ↦ ap (λ (d : DeviceState). d.image) gone.made ∙ form_after gone.writes device ∙ is_form
+    | inr none ↦ ap (λ (d : DeviceState). d.image) none.1 ∙ is_form
+  ]
+
+  plain_replaced_length : (path : List ℕ) (said : SaidView) (files : FileMeaning) (rules : EditRules) (format : Meaning)
+      → IsPlainReplaced path said files rules format device reply → IsMade reply → length (made_of reply) ≡ form.bytes
+  plain_replaced_length path said files rules format is made = elim is [
+    | inl long ↦ absurd (refused_not_made refusals.TooLong reply long.0 made)
+    | inr (_, inl refused) ↦ absurd (refused_not_made refusals.Check reply refused.0 made)
+    | inr (_, inr (inl refused)) ↦ absurd (refused_not_made refusals.Locked reply refused.0 made)
+    | inr (_, inr (inr (inl failed))) ↦ absurd (failed_not_made failures.Device reply failed.0 made)
+    | inr (_, inr (inr (inr (inl failed)))) ↦ absurd (failed_not_made failures.Memory reply failed made)
+    | inr (_, inr (inr (inr (inr over)))) ↦ saved_length over.reopened reply form
+        (over.same.image ∙ form_without path said files rules format over.without over.given over.way) path over.given rules.save format over.saved made
+  ]
+
+  replaced_length : (path : List ℕ) (said : SaidView) (rules : ChangedMeaning) → IsReplaced path said rules device reply → IsMade reply
+      → length (made_of reply) ≡ form.bytes
+  replaced_length path said rules is made = elim is [
+    | inl long ↦ absurd (refused_not_made refusals.InputTooLong reply long.0 made)
+    | inr (_, inl none) ↦ absurd (none_made said said.form reply none made)
+    | inr (_, inr plain) ↦ plain_replaced_length path plain.0 rules.files rules.edits rules.units plain.2 made
+  ]
+
   change_length : (work : WorkView) (rules : ChangedMeaning) → IsChangeReply work rules device reply → IsMade reply → length (made_of reply) ≡ form.bytes
   change_length (Optimize reclaim limit) rules is made = elim is [
-    | inl done ↦ after_work done.after done.reported.worked.device done.made
+    | inl done ↦ after_work device reply form is_form done.after done.reported.worked.device done.made
     | inr (inl unopened) ↦ absurd (unopened_told_not_made unopened.error reply unopened.told made)
-    | inr (inr (inl stopped)) ↦ after_work stopped.after stopped.stopped.worked.device stopped.made
+    | inr (inr (inl stopped)) ↦ after_work device reply form is_form stopped.after stopped.stopped.worked.device stopped.made
     | inr (inr (inr failed)) ↦ absurd (failed_not_made failures.Memory reply failed made)
   ]
   change_length (EditOf edit name) rules is made = elim is [
-    | inl done ↦ after_writes done.writes done.made
+    | inl done ↦ after_writes device reply form is_form done.writes done.made
     | inr (inl refused) ↦ absurd (refused_not_made refused.0 reply refused.1 made)
     | inr (inr (inl failed)) ↦ absurd (failed_not_made failures.Device reply failed.0 made)
     | inr (inr (inr failed)) ↦ absurd (failed_not_made failures.Memory reply failed made)
   ]
   change_length Reclaim rules is made = elim is [
-    | inl done ↦ after_writes done.writes done.made
+    | inl done ↦ after_writes device reply form is_form done.writes done.made
     | inr (inl refused) ↦ absurd (refused_not_made refusals.Check reply refused.0 made)
     | inr (inr (inl failed)) ↦ absurd (failed_not_made failures.Device reply failed.0 made)
     | inr (inr (inr failed)) ↦ absurd (failed_not_made failures.Memory reply failed made)
   ]
-  change_length (Save path said) rules is made = said_length path said rules.edits.save rules.units is made
+  change_length (Save path said) rules is made = said_length device reply form is_form path said rules.edits.save rules.units is made
+  change_length (Replace path said) rules is made = replaced_length path said rules is made
 
 -- so the image that is handed out is as long as the one that was read
 pub changed_length : (volume : VolumeOptions) (reserve : Option (List ℕ)) (image : List ℕ) (work : WorkView) (rules : List Bool → ChangedMeaning) (reply : Reply)

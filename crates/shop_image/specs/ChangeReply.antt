@@ -7,20 +7,27 @@ use Rattle.shop_replies.specs.declared.reply.Status.TheVariants.{Done}
 use Rattle.shop_replies.specs.Reply.{IsHanded, IsInterrupted, IsMadeReply, failed, made_of, text_of}
 use Rattle.shop_changes.specs.EditRules.{ChangedMeaning}
 use Rattle.shop_changes.specs.Outcome.{report_text}
-use Rattle.shop_changes.specs.Work.{WorkView, Optimize, EditOf, Reclaim, Save}
+use Rattle.shop_changes.specs.Work.{WorkView, Optimize, EditOf, Reclaim, Replace, Save}
 use Rattle.shop_changes.specs.declared.outcome.Outcome.{Outcome}
 use Rattle.shop_changes.specs.declared.outcome.Outcome.TheVariants.{Optimized, Changed, Stopped, Unfinished}
 use Rattle.shop_image.specs.EditReply.{IsEdited}
 use Rattle.shop_image.specs.ImageBytes.{AreBytesOf}
 use Rattle.shop_image.specs.OptimizeReply.{IsOptimized}
 use Rattle.shop_image.specs.ReclaimReply.{IsReclaimed}
+use Rattle.shop_image.specs.ReplaceReply.{IsReplaced}
 use Rattle.shop_image.specs.SaveReply.{IsSaidSaved}
+
+-- work that is done on a device that keeps what is written: no file is replaced there
+abbrev pub StandsOnDevice : WorkView → Type 0
+StandsOnDevice (Replace path said) = ⊥
+StandsOnDevice work = Unit {0}
 
 -- what is told of each change of the volume of an image, by the device of its units
 abbrev pub IsChangeReply : WorkView → ChangedMeaning → DeviceState → Reply → Type 0
 IsChangeReply (Optimize reclaim limit) format device reply = IsOptimized reclaim limit format.units device reply
 IsChangeReply (EditOf edit name) format device reply = IsEdited edit name format.files format.edits format.units device reply
 IsChangeReply (Save path said) format device reply = IsSaidSaved path said format.edits.save format.units device reply
+IsChangeReply (Replace path said) format device reply = IsReplaced path said format device reply
 IsChangeReply Reclaim format device reply = IsReclaimed format.units device reply
 
 -- What is told of what became of the work, with the image that is now under the device: the report, or want of memory for

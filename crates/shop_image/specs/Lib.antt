@@ -5,5 +5,6 @@ pub mod OptimizeReply
 pub mod EditReply
 pub mod SaveReply
 pub mod ReclaimReply
+pub mod ReplaceReply
 pub mod ChangeReply
 pub mod DosCatalogReply

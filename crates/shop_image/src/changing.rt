@@ -1,16 +1,23 @@
 // Changing the volume of an image.
-ghost use Rattle.std.specs.Prelude.{◌≡◌, option_map};
+ghost use Rattle.std.specs.Prelude.{◌≡◌, ◌⊎◌, MatchOption, option_map};
 ghost use Rattle.shop_changes.specs.EditRules.{changed_by};
-ghost use Rattle.shop_changes.specs.Work.{work_view};
+ghost use Rattle.shop_changes.specs.SaidFile.{said_view};
+ghost use Rattle.shop_changes.specs.Work.{Replace, work_view};
 ghost use Rattle.shop_changes.specs.declared.outcome.Outcome.TheVariants.{Optimized};
-ghost use Rattle.shop_image.specs.ChangeReply.{IsChangeReply, TellsOutcome};
+ghost use Rattle.shop_image.specs.ChangeReply.{IsChangeReply, StandsOnDevice, TellsOutcome};
 ghost use Rattle.shop_image.specs.ImageBytes.{AreBytesOf};
+ghost use Rattle.shop_image.specs.ReplaceReply.{HasDisk, IsOpened};
 ghost use Rattle.shop_image.specs.VolumeReply.{IsVolumeReply};
+ghost use Rattle.shop_replies.specs.Reply.{failed};
+ghost use Rattle.shop_replies.specs.Volume.{HasUnitsOf};
+ghost use Rattle.shop_replies.specs.declared.refusal.Failure.TheVariants.{Memory as OfMemory};
 
 use crate::opening::volume_in;
+use crate::replacing::replace_on_image;
 use a2_device::Device;
 use a2_media::ImageDevice;
-use shop_changes::{Outcome, Work, change_volume, line_text};
+use reserved_places::Reserved;
+use shop_changes::{Outcome, SaidFile, Work, change_volume, line_text};
 use shop_jobs::VolumeOptions;
 use shop_replies::{Failure, Reply};
 use std::alloc::Global;
@@ -40,7 +47,7 @@ fn report_reply(alloc: Global, device: ImageDevice, report: Report) -> Reply
 }
 
 // What is told of what became of the work, with the image that is now under the device.
-fn outcome_reply(alloc: Global, device: ImageDevice, outcome: Outcome) -> Reply
+pub(crate) fn outcome_reply(alloc: Global, device: ImageDevice, outcome: Outcome) -> Reply
     ensures { TellsOutcome (⟦<ImageDevice as Device>⟧.state device) outcome result }
 {
     match outcome {
@@ -48,6 +55,41 @@ fn outcome_reply(alloc: Global, device: ImageDevice, outcome: Outcome) -> Reply
         Outcome::Changed => Reply::made(image_bytes(device)),
         Outcome::Stopped => Reply::interrupted(image_bytes(device)),
         Outcome::Unfinished(reply) => reply,
+    }
+}
+
+// The path of a file that takes the place of another one, and the file as it is said, where that is the work.
+fn replacement(work: Work<'_>) -> Option<(&[u8], SaidFile<'_>)>
+    ensures { MatchOption result (StandsOnDevice (work_view work.entry))
+        (λ file. work_view work.entry ≡ Replace file.0.now (said_view file.1)) }
+{
+    match work {
+        Work::Replace { path, said } => Some((path, said)),
+        Work::Optimize { .. } | Work::Edit { .. } | Work::Save { .. } | Work::Reclaim => None,
+    }
+}
+
+// What is told of work that changes the volume of an image under a device, with the image as it then is, or want of
+// memory for the format.
+fn change_on_image(
+    alloc: Global,
+    work: Work<'_>,
+    device: ImageDevice,
+    options: VolumeOptions,
+    reserved: Reserved,
+) -> Reply
+    requires units { HasUnitsOf options.file_system (⟦<ImageDevice as Device>⟧.state device) }
+    requires disk { HasDisk options.file_system (⟦<ImageDevice as Device>⟧.state device) }
+    requires opened { IsOpened options.file_system (⟦<ImageDevice as Device>⟧.state device) }
+    ensures { (result ≡ failed OfMemory) ⊎ IsChangeReply (work_view work.entry) (changed_by options reserved)
+        (⟦<ImageDevice as Device>⟧.state device) result }
+{
+    match replacement(work) {
+        Some((path, said)) => replace_on_image(alloc, device, options, reserved, path, said),
+        None => {
+            let (outcome, device) = change_volume(alloc, work, device, options, reserved);
+            outcome_reply(alloc, device, outcome)
+        }
     }
 }
 
@@ -68,10 +110,7 @@ pub fn image_change(
         (λ reserved. IsChangeReply (work_view work.entry) (changed_by options reserved)) result }
 {
     match volume_in(alloc, image, options, reserve) {
-        Ok((device, reserved)) => {
-            let (outcome, device) = change_volume(alloc, work, device, options, reserved);
-            outcome_reply(alloc, device, outcome)
-        }
+        Ok((device, reserved)) => change_on_image(alloc, work, device, options, reserved),
         Err(reply) => reply,
     }
 }

@@ -4,8 +4,9 @@
 //! The model. `specs/VolumeReply.antt` says what is refused before there is a device, and that what is told is told of
 //! the device of the image's units. Of a look that is `IsLookReply` of `shop_reads` (`specs/LookReply.antt`); of a
 //! change `IsChangeReply` (`specs/ChangeReply.antt`), by cases of the work `OptimizeReply`, `EditReply`,
-//! `SaveReply` and `ReclaimReply`, which say what the image is that is handed out (`specs/ImageBytes.antt`). `specs/DosCatalogReply.antt`
-//! tells the listing of a DOS 3.3 disk in its format's own words.
+//! `SaveReply`, `ReplaceReply` and `ReclaimReply`, which say what the image is that is handed out
+//! (`specs/ImageBytes.antt`). A file takes the place of another one here alone: in memory there is nothing between the
+//! two that could stay. `specs/DosCatalogReply.antt` tells the listing of a DOS 3.3 disk in its format's own words.
 //!
 //! What always holds: each reply says what the units of the image are, each refusal has its cause in them or in the
 //! words, only a change hands out an image, and no byte of it is changed that no write may change.
@@ -14,6 +15,7 @@
 mod changing;
 mod looking;
 mod opening;
+mod replacing;
 
 pub use changing::image_change;
 pub use looking::image_look;

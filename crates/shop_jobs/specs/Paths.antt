@@ -30,7 +30,7 @@ use Rattle.shop_jobs.specs.Job.{
 abbrev pub from_of : AskView → Option Text
 from_of (LookAt volume reserve (Verify from reclaim)) = Some from
 from_of (LookAt volume reserve (Compare other options)) = Some other
-from_of (ChangeOf volume reserve (Save name attributes form from) target) = Some from
+from_of (ChangeOf volume reserve (Save name attributes form from replace) target) = Some from
 from_of (Create words boot out) = boot
 from_of ask = None
 

@@ -193,6 +193,8 @@ pub enum Change {
         form: Option<GivenForm>,
         /// The path of the file that gives it.
         from: String,
+        /// Whether it takes the place of a file that has the name.
+        replace: bool,
     },
     /// Its lost places are marked free.
     Reclaim,

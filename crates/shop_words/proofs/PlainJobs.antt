@@ -24,7 +24,7 @@ abbrev pub option_names : List Text
 option_names = codes "image" ∷ codes "fs" ∷ codes "order" ∷ codes "to" ∷ codes "out" ∷ codes "volume" ∷ codes "reserve" ∷ codes "name" ∷ codes "new" ∷ codes "stop-after" ∷ codes "cert" ∷ codes "from" ∷ codes "type" ∷ codes "aux" ∷ codes "date" ∷ codes "format" ∷ codes "most" ∷ codes "other" ∷ codes "other-order" ∷ codes "into" ∷ codes "names" ∷ codes "as" ∷ codes "high" ∷ codes "comment" ∷ codes "path" ∷ codes "blocks" ∷ codes "boot" ∷ []
 
 abbrev pub flag_names : List Text
-flag_names = codes "data-disk" ∷ codes "whole" ∷ codes "reclaim" ∷ codes "words" ∷ codes "in-place" ∷ codes "digests" ∷ codes "bodies" ∷ codes "stored" ∷ codes "places" ∷ codes "all" ∷ codes "texts" ∷ codes "protect" ∷ []
+flag_names = codes "data-disk" ∷ codes "whole" ∷ codes "reclaim" ∷ codes "words" ∷ codes "in-place" ∷ codes "digests" ∷ codes "bodies" ∷ codes "stored" ∷ codes "places" ∷ codes "all" ∷ codes "texts" ∷ codes "protect" ∷ codes "replace" ∷ []
 
 abbrev pub leaves_all_off : FormView → Test → List Text → Bool
 leaves_all_off f q names = list_all (λ id. list_all (leaves_off q id) (shape_named f.name).rules) names
@@ -81,6 +81,7 @@ job_by-same command s t options flags =
       flags (codes "all") refl,
       flags (codes "texts") refl,
       flags (codes "protect") refl,
+      flags (codes "replace") refl,
     ) refl
 
 -- what clap finds under a name

@@ -6,11 +6,11 @@ use Rattle.apple_text.specs.declared.form.HighBit.{HighBit}
 use Rattle.file_forms.specs.declared.form.GivenForm.{GivenForm}
 use Rattle.file_forms.specs.declared.form.GivenForm.TheVariants as given_forms
 use Rattle.clap.proofs.OnLiterals.{clap_on_literals}
-use Rattle.shop_words.specs.Table.{Text, save_form, file_system, order, from, high, out_file, in_place, save_as, type_of_file, aux, date, data_disk, reserve}
+use Rattle.shop_words.specs.Table.{Text, save_form, file_system, order, from, high, out_file, in_place, save_as, type_of_file, aux, date, data_disk, replace, reserve}
 use Rattle.shop_words.specs.Plain.{Use, IsPlainLine, address_named, value_of}
 use Rattle.shop_jobs.specs.Job.{AttributesView}
 use Rattle.shop_jobs.specs.declared.job.FileSystem.{FileSystem}
-use Rattle.shop_words.specs.Job.{Said, attributes_by, aux_named, file_system_named, given_form_by, given_form_named, given_form_said, high_named, high_said, is_loadable, line_job, line_said, save_by, save_of, target_by, text_given, volume_by, without_high}
+use Rattle.shop_words.specs.Job.{Said, attributes_by, aux_named, file_system_named, given_form_by, given_form_named, given_form_said, high_named, high_said, is_loadable, is_on, line_job, line_said, save_by, save_of, target_by, text_given, volume_by, without_high}
 use Rattle.shop_words.proofs.PlainForms.{IsKnown, Knows, shape_named}
 use Rattle.shop_words.proofs.PlainJobs.{HasPlainDefaults, HasVolume, change_there, file_system_by-line, mapped_there, volume_by-line}
 use Rattle.shop_words.proofs.PlainTarget.{HasTarget, target_by-line}
@@ -32,11 +32,12 @@ save_known =
     let knows_date : Knows s date = record { by_long = refl; by_id = refl; same = refl; long = refl; dashes = refl } in
     let knows_data_disk : Knows s data_disk = record { by_long = refl; long = refl; dashes = refl } in
     let knows_reserve : Knows s reserve = record { by_long = refl; by_id = refl; same = refl; long = refl; dashes = refl } in
+    let knows_replace : Knows s replace = record { by_long = refl; long = refl; dashes = refl } in
     record {
       named = refl;
       met = refl;
       first = refl;
-      parameters = (tt, (tt, (knows_file_system, (knows_order, (knows_from, (knows_as, (knows_high, (knows_out, (knows_in_place, (knows_type, (knows_aux, (knows_date, (knows_data_disk, (knows_reserve, tt))))))))))))));
+      parameters = (tt, (tt, (knows_file_system, (knows_order, (knows_from, (knows_as, (knows_high, (knows_out, (knows_in_place, (knows_type, (knows_aux, (knows_date, (knows_data_disk, (knows_reserve, (knows_replace, tt)))))))))))))));
       positionals = (refl, refl, refl, (refl, refl, refl, tt));
       positional_parameters = refl;
       apart = refl;
@@ -121,12 +122,12 @@ aux_of_word (Some v) a is = (v, refl, some_in (address_named v) is) where
 
 -- ---- all of it
 
-save_there : (name content : Text) (attributes : Option AttributesView) (form : Option (Option GivenForm)) → is_some attributes ≡ true → is_some form ≡ true
+save_there : (replace_it : Bool) (name content : Text) (attributes : Option AttributesView) (form : Option (Option GivenForm)) → is_some attributes ≡ true → is_some form ≡ true
     → ((a : AttributesView) (f : Option GivenForm) → attributes ≡ Some a → form ≡ Some f → is_loadable f a.aux ≡ true)
-    → is_some (save_of (Some name) attributes form (Some content)) ≡ true
-save_there name content None form p q loads = cc
-save_there name content (Some a) None p q loads = cc
-save_there name content (Some a) (Some f) p q loads = rw (loads a f refl refl) refl
+    → is_some (save_of replace_it (Some name) attributes form (Some content)) ≡ true
+save_there replace_it name content None form p q loads = cc
+save_there replace_it name content (Some a) None p q loads = cc
+save_there replace_it name content (Some a) (Some f) p q loads = rw (loads a f refl refl) refl
 
 -- the attributes have the auxiliary type that is said
 aux_of_attributes : (said : Said) (aux_type : Option (Option ℕ)) (a : AttributesView) → option_map (λ n. attributes_by n said) aux_type ≡ Some a
@@ -192,7 +193,7 @@ is_some-line_job-save (image ∷ name ∷ []) uses plain =
     (file_system_by-line save_form words uses said save_volume plain refl) (form_in words uses plain) in
     let aux_type = aux_named (value_of (codes "aux") uses) in
     let attributes = option_map (λ n. attributes_by n said) aux_type in
-    let saved : is_some (save_by said) ≡ true = rw content.1 (save_there name content.0 attributes (given_form_by said)
+    let saved : is_some (save_by said) ≡ true = rw content.1 (save_there (is_on (said (codes "replace"))) name content.0 attributes (given_form_by said)
     (mapped_there (λ n. attributes_by n said) aux_type (aux_in words uses plain)) given
     (λ a f attributes_is form_is. loads_in words uses plain fs a.aux f (aux_of_attributes said aux_type a attributes_is) form_is)) in
     change_there image (save_by said) (volume_by said) (target_by said) (said (codes "reserve")) saved

@@ -332,15 +332,15 @@ is_loadable form aux = true
 abbrev pub attributes_by : Option ℕ → Said → AttributesView
 attributes_by aux said = record { kind = said (codes "type"); aux = aux; date = said (codes "date") }
 
--- a new file, where each part of it is there
-abbrev pub save_of : Option Text → Option AttributesView → Option (Option GivenForm) → Option Text → Option ChangeView
-save_of (Some name) (Some attributes) (Some form) (Some from) =
-    if is_loadable form attributes.aux then Some (Save name attributes form from) else None
-save_of _ _ _ _ = None
+-- a new file, where each part of it is there; it takes the place of another one or not
+abbrev pub save_of : Bool → Option Text → Option AttributesView → Option (Option GivenForm) → Option Text → Option ChangeView
+save_of replace (Some name) (Some attributes) (Some form) (Some from) =
+    if is_loadable form attributes.aux then Some (Save name attributes form from replace) else None
+save_of replace _ _ _ _ = None
 
 abbrev pub save_by : Said → Option ChangeView
-save_by said = save_of (said (codes "name")) (option_map (λ aux. attributes_by aux said) (aux_named (said (codes "aux"))))
-    (given_form_by said) (said (codes "from"))
+save_by said = save_of (is_on (said (codes "replace"))) (said (codes "name"))
+    (option_map (λ aux. attributes_by aux said) (aux_named (said (codes "aux")))) (given_form_by said) (said (codes "from"))
 
 -- ---- what is asked, where each part of it is there
 

@@ -275,11 +275,15 @@ save_as = parameter (codes "as") (optional (one_of (codes "text" ∷ codes "appl
 abbrev pub high : ParameterView
 high = parameter (codes "high") (optional (one_of (codes "on" ∷ codes "off" ∷ [])))
 
+-- `--replace`
+abbrev pub replace : ParameterView
+replace = parameter (codes "replace") flag
+
 abbrev pub save_form : FormView
 save_form = record {
   name = codes "save";
   parameters = image ∷ name_of_file ∷ file_system ∷ order ∷ from ∷ save_as ∷ high ∷ out_file ∷ in_place ∷ type_of_file ∷ aux ∷ date
-      ∷ data_disk ∷ reserve ∷ [];
+      ∷ data_disk ∷ reserve ∷ replace ∷ [];
 }
 
 abbrev pub verify_form : FormView

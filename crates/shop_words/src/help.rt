@@ -27,6 +27,7 @@ pub enum Help {
     Date,
     Whole,
     Stored,
+    Replace,
     Format,
     Digests,
     Places,
@@ -152,6 +153,9 @@ impl Help {
             Help::Stored =>
                 "The name is the stored one in hexadecimal digits, two a byte, as list tells it in JSON; for DOS 3.3 \
                     without the spaces behind it or with them",
+            Help::Replace =>
+                "A file that has the name is deleted first, and gives the type and the aux type that the words leave out; \
+                    with --out alone",
         }
     }
 }

@@ -272,15 +272,19 @@ Examples:
   a2shop save disk.dsk LETTER --auto --from letter.txt --as text --in-place
   a2shop save disk.dsk GAME --auto --from game.bas --as applesoft --in-place
   a2shop save disk.po NOTE --auto --from note.txt --out saved.po --type 04 --date 1986-05-01T12:30:00
+  a2shop save disk.dsk NOTE --auto --from newer.txt --out saved.dsk --replace
 
 With --as the file of --from is a text in UTF-8, the listing of a program in Applesoft BASIC, or an
 AppleSingle file; its type is then T or 04, A or fc, or the one that the AppleSingle file has.
 DOS 3.3 files of the types A, I and B get their head before the bytes: the address for B, and the length.
 With --in-place the image's own file is changed, unit by unit, and no new image is written.
+With --replace a file that has the name is deleted first, in memory, and the image that --out names has the old
+file or the new one at every moment. Access and dates are those of a new file.
 
 Status:
   0  the image is written, with the new file
-  3  REFUSED InPlace       it is neither DOS 3.3 in DOS order nor ProDOS in ProDOS order, in a file
+  3  REFUSED InPlace       it is neither DOS 3.3 in DOS order nor ProDOS in ProDOS order, in a file; or a file
+                           is to be replaced, which is done with --out alone
      REFUSED Type          the word of --type, or the AppleSingle file, has no type of the file system
      REFUSED Date          the word of --date is no date and time of 1940 to 2039
      REFUSED Reserve       the word of --reserve is no list of places
@@ -292,7 +296,8 @@ Status:
      REFUSED Check         the volume has a fault; check tells which
      REFUSED NotFound      a directory of the path is not there
      REFUSED Name          no file may have the name
-     REFUSED Exists        an entry of the directory has the name
+     REFUSED Exists        an entry of the directory has the name; see --replace
+     REFUSED Locked        the file that is to be replaced is locked; see unlock
      REFUSED DirFull       the directory has no place for an entry
      REFUSED VolumeFull    the volume has too few free places
   4  FAILED Input, Device or Memory: a file, a sector of the image or memory failed";

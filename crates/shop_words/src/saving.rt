@@ -19,7 +19,7 @@ ghost use Rattle.shop_words.specs.Job.{
 };
 
 use crate::changing::change_in;
-use crate::reading::{address_named, file_system_in, said, text_said};
+use crate::reading::{address_named, file_system_in, has_flag, said, text_said};
 use apple_text::HighBit;
 use clap::ArgMatches;
 use file_forms::GivenForm;
@@ -154,6 +154,7 @@ fn saving_in(alloc: Global, matches: &ArgMatches<'_>) -> Result<Option<Change>, 
         attributes: attributes_in(alloc, matches, aux)?,
         form,
         from: from.to_string(alloc)?,
+        replace: has_flag(matches, "replace"),
     }))
 }
 

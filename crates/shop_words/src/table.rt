@@ -219,6 +219,12 @@ const STORED: Parameter = Parameter {
     help: Help::Stored,
 };
 
+const REPLACE: Parameter = Parameter {
+    name: "replace",
+    kind: Kind::Flag,
+    help: Help::Replace,
+};
+
 /// The parameters of a command that changes a file.
 const EDIT: &[Parameter] = &[
     IMAGE,
@@ -544,6 +550,7 @@ const FORMS: &[Form] = &[
             DATE,
             DATA_DISK,
             RESERVE,
+            REPLACE,
         ],
     },
     Form {

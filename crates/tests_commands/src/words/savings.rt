@@ -10,14 +10,15 @@ use std::process::Abort;
 use std::test::Fail;
 
 /// The words behind `save a.dsk NOTE --order dos --from b --out c.dsk` are those of a saving with this aux type, in this
-/// form.
-fn saves(
+/// form; or of one that replaces a file.
+fn saves_over(
     rt: &impl Abort,
     alloc: Global,
     words: &str,
     file_system: FileSystem,
     aux: Option<u16>,
     form: Option<GivenForm>,
+    replace: bool,
 ) -> Result<(), WordsFault> {
     let line = format!(in alloc; "save a.dsk NOTE --order dos --from b --out c.dsk {words}")?;
     let change = Change::Save {
@@ -29,6 +30,7 @@ fn saves(
         },
         form,
         from: "b".to_string(alloc)?,
+        replace,
     };
     let save = Ask::Change {
         volume: VolumeOptions {
@@ -41,6 +43,33 @@ fn saves(
         target: Target::File("c.dsk".to_string(alloc)?),
     };
     asks(rt, alloc, line.as_str(), "a.dsk", save)
+}
+
+/// The same of a new file.
+fn saves(
+    rt: &impl Abort,
+    alloc: Global,
+    words: &str,
+    file_system: FileSystem,
+    aux: Option<u16>,
+    form: Option<GivenForm>,
+) -> Result<(), WordsFault> {
+    saves_over(rt, alloc, words, file_system, aux, form, false)
+}
+
+#[test]
+fn a_saving_replaces_a_file_by_a_word(rt: HostRuntime) -> Result<(), Fail> {
+    for words in ["--fs dos --replace", "--replace --fs dos"] {
+        saves_over(&rt, rt.alloc(), words, FileSystem::Dos, None, None, true)?;
+    }
+    refuses(
+        &rt,
+        rt.alloc(),
+        "delete a.dsk NOTE --fs dos --order dos --out c.dsk --replace",
+        "--replace",
+        "delete",
+    );
+    Ok(())
 }
 
 #[test]

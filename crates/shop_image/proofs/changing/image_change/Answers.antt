@@ -7,5 +7,5 @@ use Rattle.shop_image.proofs.changing.image_change.Goals as goal
 pub returns-in-Ok : goal.returns-in-Ok
 returns-in-Ok c =
     let reserve : Option (List ℕ) = option_map (λ s. s.now) c.args.reserve in
-    changed c.args.options reserve c.args.image.items _ c.in-Ok.reserved c.in-Ok.ensures.volume c.outcome_reply.result (work_view c.args.work) _ _
-    c.change_volume-outcome.ensures.done c.outcome_reply.ensures
+    changed c.args.options reserve c.args.image.items _ c.in-Ok.reserved c.in-Ok.ensures.volume c.change_on_image.result (work_view c.args.work)
+    c.change_on_image.ensures
