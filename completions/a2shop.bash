@@ -113,7 +113,7 @@ _a2shop() {
     unlock) mapfile -t COMPREPLY < <(compgen -W "--fs --order --out --in-place --data-disk --reserve --stored --auto --explain --help" -- "$word") ;;
     delete) mapfile -t COMPREPLY < <(compgen -W "--fs --order --out --in-place --data-disk --reserve --stored --auto --explain --help" -- "$word") ;;
     rename) mapfile -t COMPREPLY < <(compgen -W "--fs --order --out --in-place --data-disk --reserve --stored --auto --explain --help" -- "$word") ;;
-    save) mapfile -t COMPREPLY < <(compgen -W "--fs --order --from --as --high --out --in-place --type --aux --date --data-disk --reserve --auto --explain --help" -- "$word") ;;
+    save) mapfile -t COMPREPLY < <(compgen -W "--fs --order --from --as --high --out --in-place --type --aux --date --data-disk --reserve --replace --auto --explain --help" -- "$word") ;;
     verify) mapfile -t COMPREPLY < <(compgen -W "--fs --order --from --data-disk --reserve --reclaim --auto --explain --help" -- "$word") ;;
     identify) mapfile -t COMPREPLY < <(compgen -W " --auto --explain --help" -- "$word") ;;
     wrap) mapfile -t COMPREPLY < <(compgen -W "--order --out --comment --volume --protect --auto --explain --help" -- "$word") ;;

@@ -116,6 +116,7 @@ complete -c a2shop -n '__fish_seen_subcommand_from save' -l aux -x -d 'Auxiliary
 complete -c a2shop -n '__fish_seen_subcommand_from save' -l date -x -d 'Date and time of its creation, for ProDOS, as 1986-05-01T12:30; none if left out'
 complete -c a2shop -n '__fish_seen_subcommand_from save' -l data-disk -d 'Tracks 1 and 2 hold files, as on a disk without DOS'
 complete -c a2shop -n '__fish_seen_subcommand_from save' -l reserve -x -d 'Places that no file may stand at beside those of the system, as 3/14,4/0 or 7,280'
+complete -c a2shop -n '__fish_seen_subcommand_from save' -l replace -d 'A file that has the name is deleted first, and gives the type and the aux type that the words leave out; with --out alone'
 complete -c a2shop -n __fish_use_subcommand -f -a verify -d 'Tell whether a certificate shows that no shorter plan brings a volume into order'
 complete -c a2shop -n '__fish_seen_subcommand_from verify' -l fs -x -a 'auto dos prodos' -d 'File system of the volume, auto for the one that identify names: auto, dos or prodos'
 complete -c a2shop -n '__fish_seen_subcommand_from verify' -l order -x -a 'auto 2img dos prodos nibble' -d 'Order of the sectors in the image, auto for the one that identify names, 2img for that of a 2IMG file: auto, 2img, dos, prodos or nibble'
