@@ -1,0 +1,3 @@
+pub mod HostEntries
+pub mod Reading
+pub mod Laws
