@@ -52,6 +52,6 @@ pub use plain_file::{PlainFile, taken_plain};
 pub use replaced_file::{ReplacedFile, find_replaced};
 pub use replacing::make_way;
 pub use report_line::line_text;
-pub use said_file::SaidFile;
+pub use said_file::{SaidFile, save_said};
 pub use saving::save_in_place;
 pub use work::Work;

@@ -2,9 +2,11 @@
 //! ProDOS with the literal text of their listings and the literal bytes of their files, each public call on its happy
 //! path, refused memory, and each read and write failing in turn; of `shop_files` files that are replaced in a folder
 //! in memory, whose calls fail in turn; of `host_folders` names, folders in memory and new folders of the
-//! system.
+//! system; of `host_entries` what names say; of `folder_adding` files that are saved one after the other.
 #![tactic(auto)]
 
+#[cfg(test)]
+mod additions;
 #[cfg(test)]
 mod deletions;
 #[cfg(test)]
@@ -23,6 +25,8 @@ mod jobs;
 mod late_failures;
 #[cfg(test)]
 mod locks;
+#[cfg(test)]
+mod names_read_back;
 #[cfg(test)]
 mod new_folders;
 #[cfg(test)]

@@ -1,0 +1,6 @@
+mod Chain
+mod Entering
+mod Outcomes
+mod Shown
+mod Steps
+mod Told

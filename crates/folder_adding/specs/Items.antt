@@ -1,0 +1,53 @@
+-- The files that are to be saved.
+use Rattle.std.specs.Prelude.{ℕ, ◌+◌, List, [], ◌∷◌, Option, map}
+use Rattle.file_forms.specs.declared.form.GivenForm.{GivenForm}
+use Rattle.pro_dir.specs.declared.date.ProDate.{ProDate}
+use Rattle.shop_changes.specs.SaidFile.{SaidView}
+use Rattle.shop_jobs.specs.declared.job.FileSystem.{FileSystem}
+use Rattle.folder_adding.specs.declared.item.Batch.{Batch}
+use Rattle.folder_adding.specs.declared.item.Item.{Item}
+
+-- an item as contracts see it: its path on the volume, its type and its aux type, where they are said, and the form in
+-- which its bytes are given
+pub record ItemView : Type 0 where
+  pub path : List ℕ
+  pub kind : Option ℕ
+  pub aux : Option ℕ
+  pub form : Option GivenForm
+
+abbrev pub item_view : Item → ItemView
+item_view item = record { path = item.path.items; kind = item.kind; aux = item.aux; form = item.form }
+
+-- the items of one volume, in order, with its file system and the date of each
+pub record BatchView : Type 0 where
+  pub file_system : FileSystem
+  pub date : ProDate
+  pub items : List ItemView
+
+abbrev pub batch_view : Batch → BatchView
+batch_view batch = record { file_system = batch.file_system; date = batch.date; items = map item_view batch.items.now }
+
+-- what an item says of a file of these bytes
+abbrev pub said_by : BatchView → ItemView → List ℕ → SaidView
+said_by batch item bytes = record {
+  file_system = batch.file_system;
+  kind = item.kind;
+  aux = item.aux;
+  date = batch.date;
+  form = item.form;
+  bytes = bytes;
+}
+
+-- a new file: its path on the volume, and what is said of it
+pub record NewFile : Type 0 where
+  pub path : List ℕ
+  pub said : SaidView
+
+abbrev pub new_file : BatchView → ItemView → List ℕ → NewFile
+new_file batch item bytes = record { path = item.path; said = said_by batch item bytes }
+
+-- the new files of items, the first of which has this number, where the file with a number holds these bytes
+abbrev pub new_files : BatchView → (ℕ → List ℕ) → ℕ → List ItemView → List NewFile
+new_files batch contents number [] = []
+new_files batch contents number (item ∷ items) =
+    new_file batch item (contents number) ∷ new_files batch contents (number + 1) items

@@ -1,0 +1,10 @@
+pub mod Added
+pub mod AddedText
+pub mod Entered
+pub mod Failing
+pub mod Files
+pub mod Items
+pub mod Listed
+pub mod Memory
+pub mod Refused
+pub mod Steps

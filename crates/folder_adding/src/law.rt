@@ -1,0 +1,16 @@
+// What always holds of files that are saved one after the other.
+ghost use Rattle.folder_adding.specs.Entered.{AreEnteredInTurn};
+ghost use Rattle.folder_adding.specs.Listed.{IsToldAsListed};
+
+use save_formats::SavableFormat;
+
+/// A law: files that were saved to an accepted volume one after the other are entered in the list of its files in turn,
+/// the volume stays accepted, and the same places are lost.
+pub fn added_files_are_entered<F: SavableFormat>(format: &F)
+    ensures { AreEnteredInTurn (F.saves format.now) (F.meaning format.now) }
+{}
+
+/// A law: the path that is told of a file that was saved is the one under which a listing shows it.
+pub fn a_saved_file_is_told_as_it_is_listed()
+    ensures { IsToldAsListed }
+{}
