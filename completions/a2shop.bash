@@ -3,7 +3,7 @@ _a2shop() {
   local word=${COMP_WORDS[COMP_CWORD]} before=${COMP_WORDS[COMP_CWORD-1]}
   COMPREPLY=()
   if [ "$COMP_CWORD" -eq 1 ]; then
-    mapfile -t COMPREPLY < <(compgen -W "catalog list compare map check read extract convert plan optimize lock unlock delete rename save verify identify wrap unwrap survey create reclaim help --help --version" -- "$word")
+    mapfile -t COMPREPLY < <(compgen -W "catalog list compare map check read extract convert plan optimize lock unlock delete rename save verify identify wrap unwrap survey create reclaim add help --help --version" -- "$word")
     return
   fi
   case "${COMP_WORDS[1]} $before" in
@@ -93,6 +93,13 @@ _a2shop() {
     'reclaim --order') mapfile -t COMPREPLY < <(compgen -W "auto 2img dos prodos nibble" -- "$word"); return ;;
     'reclaim --out') mapfile -t COMPREPLY < <(compgen -f -- "$word"); return ;;
     'reclaim --reserve') return ;;
+    'add --fs') mapfile -t COMPREPLY < <(compgen -W "auto dos prodos" -- "$word"); return ;;
+    'add --order') mapfile -t COMPREPLY < <(compgen -W "auto 2img dos prodos nibble" -- "$word"); return ;;
+    'add --from') return ;;
+    'add --out') mapfile -t COMPREPLY < <(compgen -f -- "$word"); return ;;
+    'add --into') return ;;
+    'add --date') return ;;
+    'add --reserve') return ;;
   esac
   if [[ $word != -* ]]; then
     mapfile -t COMPREPLY < <(compgen -f -- "$word")
@@ -121,6 +128,7 @@ _a2shop() {
     survey) mapfile -t COMPREPLY < <(compgen -W "--format --auto --explain --help" -- "$word") ;;
     create) mapfile -t COMPREPLY < <(compgen -W "--fs --order --out --blocks --name --date --volume --data-disk --boot --auto --explain --help" -- "$word") ;;
     reclaim) mapfile -t COMPREPLY < <(compgen -W "--fs --order --out --in-place --data-disk --reserve --auto --explain --help" -- "$word") ;;
+    add) mapfile -t COMPREPLY < <(compgen -W "--fs --order --from --out --into --date --data-disk --reserve --auto --explain --help" -- "$word") ;;
   esac
 }
 complete -o filenames -F _a2shop a2shop

@@ -375,6 +375,8 @@ class ProVolume:
 
         key = self.word(at + 0x11)
         storage = self.image[at] >> 4
+        if not key:
+            return places, body
         if storage == 1:
             places.append(key)
             body[0] = bytes(self.unit(key))

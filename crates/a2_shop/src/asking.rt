@@ -71,6 +71,22 @@ fn leaves_open(words: &[String]) -> bool {
         || asks_container(words, AutoOption::OtherOrder)
 }
 
+// Whether a word names the directory of a volume that files are added to.
+fn names_directory(word: &String) -> bool {
+    word.as_str() == "--into" || word.as_str().starts_with("--into=")
+}
+
+/// The words with ProDOS in the place of a file system that they leave to the image, where they name
+/// a directory of the volume that files are added to: a DOS 3.3 disk has none.
+pub fn of_prodos(alloc: Global, words: Vec<String>) -> Result<Vec<String>, AllocError> {
+    let option = AutoOption::FileSystem;
+    if !is_command(words.as_slice(), "add") || !words.iter().any(|word| names_directory(word)) {
+        return Ok(words);
+    }
+    let file_system = file_system_word(FileSystem::Prodos);
+    put(alloc, words, option, StandIn::Auto, file_system)
+}
+
 // The words with a value in the place of each stand-in of an option, where there is one.
 fn put(
     alloc: Global,

@@ -5,11 +5,13 @@
 //! inputs of the job opened, the job settled where a word leaves to the image how it is read, or
 //! the image stands in a container, the job done, its files ended and its answer told. Each stage
 //! has its file: `words.rt`, `asking.rt`, `inputs.rt`, `settling.rt`, `doing.rt` and `ending.rt`;
-//! a job that makes a folder is done and ended in `extracting.rt`, one that surveys a folder in
-//! `surveying.rt`, one that makes a volume in `creating.rt`, and `stop.rt` has what ends the line early. `streams.rt` takes the descriptors
+//! a job that makes a folder is done and ended in `extracting.rt`, one that adds the files of a
+//! folder in `adding.rt`, one that surveys a folder in `surveying.rt`, one that makes a volume in
+//! `creating.rt`, and `stop.rt` has what ends the line early. `streams.rt` takes the descriptors
 //! of closed streams, so that no file gets one.
 #![tactic(auto)]
 
+mod adding;
 mod asking;
 mod creating;
 mod doing;

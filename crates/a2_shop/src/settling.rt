@@ -162,7 +162,7 @@ fn best_job<T: Write>(
 
 // Warns where another way to read the image is better than that of a job that changes a volume.
 fn warn(rt: &HostRuntime, job: &Job, image: &mut Vec<u8>) {
-    let Ask::Change { volume, .. } = &job.ask else {
+    let (Ask::Change { volume, .. } | Ask::Add { volume, .. }) = &job.ask else {
         return;
     };
     let said = (volume.file_system, volume.order);

@@ -1,5 +1,6 @@
 // The program, stage by stage.
-use crate::asking::asked_job;
+use crate::adding::add_job;
+use crate::asking::{asked_job, of_prodos};
 use crate::creating::create_job;
 use crate::doing::{Done, do_job, fault_files, is_content};
 use crate::ending::{Outputs, end, explain_answer};
@@ -11,11 +12,13 @@ use crate::streams::take_closed_streams;
 use crate::surveying::survey_job;
 use crate::words::{VERSION, greet, told_fault, words_of};
 use explanations::Overheard;
+use folder_adding::adds_files;
 use shop_commands::extracts;
 use shop_files::{Ending, Found, JobFiles};
 use shop_jobs::{Ask, Job};
 use shop_replies::{Failure, Refusal, Reply, written};
 use shop_words::{asks_explain, asks_version, filled_in, without_explain};
+use std::alloc::AllocError;
 use std::io::{BufWriter, Write};
 
 /// Does what the program's words ask for, and answers its status. Standard output is written
@@ -60,6 +63,12 @@ fn run_explained<T: Write>(rt: &HostRuntime, words: Vec<String>, text: &mut T) -
     status
 }
 
+// The words with what `--auto` says for those that they leave out, and ProDOS where they name a
+// directory of the volume.
+fn completed_words(rt: &HostRuntime, words: Vec<String>) -> Result<Vec<String>, AllocError> {
+    of_prodos(rt.alloc(), filled_in(rt.alloc(), words)?)
+}
+
 // Does what words ask for, with what `--auto` says for those that they leave out.
 fn run_words<T: Write>(
     rt: &HostRuntime,
@@ -67,7 +76,7 @@ fn run_words<T: Write>(
     found: &mut Found,
     text: &mut T,
 ) -> u8 {
-    match filled_in(rt.alloc(), words) {
+    match completed_words(rt, words) {
         Ok(words) => run_filled_in(rt, words.as_slice(), found, text),
         Err(_) => Reply::failed(Failure::Memory).tell(text),
     }
@@ -138,6 +147,9 @@ fn finish_job<T: Write>(
     }
     if files.has_no_free_place(rt) {
         return Err(Stop::Refused(Refusal::Exists));
+    }
+    if adds_files(job) {
+        return add_job(rt, job, files, inputs, text);
     }
     let mut outputs = Outputs::of(rt, files);
     match do_job(rt, job, inputs, &mut outputs.certificate) {

@@ -3,7 +3,7 @@ use crate::explanation::Explanation;
 
 /// The explanations of what a job finds: faults of a volume, faults of a certificate and verdicts; and of words that
 /// are no job.
-pub static FINDINGS: [Explanation; 31] = [
+pub static FINDINGS: [Explanation; 32] = [
     Explanation {
         front: "2IMG",
         meaning: "The file is a 2IMG file, and its header says this of the image in it.",
@@ -157,6 +157,12 @@ pub static FINDINGS: [Explanation; 31] = [
         meaning: "The images do not have the same files: so many are the same, so many differ, and so many are in one \
             of the images alone or can't be read.",
         advice: "The lines above it name the files. `--all` names those that are the same too.",
+    },
+    Explanation {
+        front: "PASSED",
+        meaning: "This was not added to the volume: a readable form beside the file that it was made of, which was \
+            added itself; or a folder without a file, since `add` makes no directories.",
+        advice: "Where the readable form was changed, take the file beside it out of the folder, and add again.",
     },
     Explanation {
         front: "PARTS",

@@ -2,7 +2,7 @@
 use crate::explanation::Explanation;
 
 /// The explanations of a job that is not done: refusals and failures.
-pub static REFUSALS: [Explanation; 34] = [
+pub static REFUSALS: [Explanation; 35] = [
     Explanation {
         front: "REFUSED InPlace",
         meaning: "This image is not changed in its own file. That is done where the units of the volume stand in the \
@@ -144,8 +144,19 @@ pub static REFUSALS: [Explanation; 34] = [
     Explanation {
         front: "REFUSED Folder",
         meaning: "The files are put into a new folder, and none can be made at this path: something stands there that \
-            is no empty folder, a link too; or the path is empty, or ends in `.` or `..`. Nothing was written.",
-        advice: "Name a folder behind `--into` that is not there yet, or an empty one.",
+            is no empty folder, a link too; or the path is empty, or ends in `.` or `..`. Of `add` it says that no \
+            folder stands at the path behind `--from`. Nothing was written.",
+        advice: "Name a folder behind `--into` that is not there yet, or an empty one; behind `--from` the one that \
+            has the files.",
+    },
+    Explanation {
+        front: "REFUSED Host",
+        meaning: "The name of this file, in the folder behind `--from`, says no type, or that of a folder no name of a \
+            directory; or it is a link or something else that is neither a file nor a folder; or it is a folder, and \
+            DOS 3.3 has none. No type is guessed. Nothing was written.",
+        advice: "Name the file as `a2shop extract` does, NAME#TTAAAA with the type and the aux type in hexadecimal \
+            digits, as LETTER#040000 for a text, or take it out of the folder. A text in UTF-8 may be \
+            LETTER#040000.utf8.txt.",
     },
     Explanation {
         front: "REFUSED TooDeep",

@@ -1,6 +1,16 @@
 mod Chain
 mod Entering
+mod FilesBeside
+mod ItemsSaid
+mod LastParts
+mod Looked
+mod OneSaid
 mod Outcomes
+mod PathParts
+mod PlanSteps
+mod Replies
+mod SaidAlone
 mod Shown
 mod Steps
 mod Told
+mod VolumePaths

@@ -1,6 +1,9 @@
-// What always holds of files that are saved one after the other.
+// What always holds of files that are saved one after the other, and of the entries of a folder.
 ghost use Rattle.folder_adding.specs.Entered.{AreEnteredInTurn};
+ghost use Rattle.folder_adding.specs.HostEntries.{EntryView};
 ghost use Rattle.folder_adding.specs.Listed.{IsToldAsListed};
+ghost use Rattle.folder_adding.specs.OneVerdict.{HasOneVerdict};
+ghost use Rattle.folder_adding.specs.Verdicts.{AddedFolder};
 
 use save_formats::SavableFormat;
 
@@ -13,4 +16,9 @@ pub fn added_files_are_entered<F: SavableFormat>(format: &F)
 /// A law: the path that is told of a file that was saved is the one under which a listing shows it.
 pub fn a_saved_file_is_told_as_it_is_listed()
     ensures { IsToldAsListed }
+{}
+
+/// A law: an entry of a folder makes one step at most, is refused for one cause at most, and never both.
+pub fn an_entry_makes_one_step()
+    ensures { (folder : AddedFolder) (entry : EntryView) → HasOneVerdict folder entry }
 {}

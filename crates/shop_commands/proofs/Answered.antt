@@ -7,7 +7,7 @@ use Rattle.std.specs.Prelude.{◌⊎◌, Option, Some, None, IfSome, IsSome, cod
 use Rattle.file_forms.specs.declared.form.GivenForm.{GivenForm}
 use Rattle.shop_changes.specs.GivenFile.{most_input}
 use Rattle.shop_changes.specs.SaidFile.{SaidView}
-use Rattle.shop_jobs.specs.Job.{AskView, AttributesView, ChangeOf, ChangeView, Convert, Create, EditOf, EditView, ExtractFrom, Identify, JobView, LookAt, LookView, Catalog, Entries, Check, Map, Compare, Read, Plan, Verify, Optimize, Reclaim, Save, Survey, Unwrap, Wrap}
+use Rattle.shop_jobs.specs.Job.{AddTo, AskView, AttributesView, ChangeOf, ChangeView, Convert, Create, EditOf, EditView, ExtractFrom, Identify, JobView, LookAt, LookView, Catalog, Entries, Check, Map, Compare, Read, Plan, Verify, Optimize, Reclaim, Save, Survey, Unwrap, Wrap}
 use Rattle.shop_jobs.specs.Paths.{HasImage, from_of, is_in_place, new_file_of}
 use Rattle.shop_jobs.specs.declared.job.FileSystem.{FileSystem}
 use Rattle.shop_jobs.specs.declared.job.VolumeOptions.{VolumeOptions}
@@ -101,6 +101,7 @@ reply-whole (LookAt volume reserve look) image more bytes reply taken looked = r
   told = looked.told;
 }
 reply-whole (ExtractFrom volume options into) image more bytes reply taken is = is
+reply-whole (AddTo volume reserve words out) image more bytes reply taken is = is
 reply-whole (ChangeOf volume reserve change target) image more bytes reply taken (inl refused) = inl refused
 reply-whole (ChangeOf volume reserve change target) image more bytes reply taken (inr (work, asks, told)) =
     inr (asked-whole volume reserve image change more bytes reply taken work asks
@@ -119,6 +120,8 @@ reply-front (LookAt volume reserve look) front image more reply taken is =
     subst (λ (bytes : List ℕ). IsReplyToBytes (LookAt volume reserve look) bytes more reply) (taken tt) is
 reply-front (ExtractFrom volume options into) front image more reply taken is =
     subst (λ (bytes : List ℕ). IsReplyToBytes (ExtractFrom volume options into) bytes more reply) (taken tt) is
+reply-front (AddTo volume reserve words out) front image more reply taken is =
+    subst (λ (bytes : List ℕ). IsReplyToBytes (AddTo volume reserve words out) bytes more reply) (taken tt) is
 reply-front (ChangeOf volume reserve change target) front image more reply taken is =
     subst (λ (bytes : List ℕ). IsReplyToBytes (ChangeOf volume reserve change target) bytes more reply) (taken tt) is
 
@@ -159,6 +162,7 @@ unread_not_made (LookAt volume reserve (Read name form out)) side failure made =
 unread_not_made (LookAt volume reserve (Plan reclaim in_words)) side failure made = false≢true made
 unread_not_made (LookAt volume reserve (Verify from reclaim)) side failure made = false≢true made
 unread_not_made (ExtractFrom volume options into) side failure made = false≢true made
+unread_not_made (AddTo volume reserve words out) side failure made = false≢true made
 unread_not_made (ChangeOf volume reserve change target) side failure made = false≢true made
 unread_not_made (Convert words) side failure made = false≢true made
 unread_not_made (Wrap words out) side failure made = false≢true made
@@ -192,6 +196,7 @@ makes_image (Unwrap out) image more reply outside is made = tt
 makes_image (Create words boot out) image more reply outside is made = tt
 makes_image (LookAt volume reserve look) image more reply outside looked made = (looked_made volume reserve look image more reply looked made).0
 makes_image (ExtractFrom volume options into) image more reply outside is made = absurd (refused_not_made refusals.Folder reply is made)
+makes_image (AddTo volume reserve words out) image more reply outside is made = absurd (refused_not_made refusals.Folder reply is made)
 makes_image (ChangeOf volume reserve change target) image more reply outside is made = outside
 
 -- an edit that makes an image answers with it, and hands it out with `OK`
@@ -241,6 +246,7 @@ hands_for (Create words boot out') image more reply status old new is made out =
 hands_for (LookAt volume reserve look) image more reply status old new is made out =
     ok_handed reply status old new (looked_made volume reserve look image more reply is made).1 out
 hands_for (ExtractFrom volume options into) image more reply status old new is made out = (reply, made, out)
+hands_for (AddTo volume reserve words out') image more reply status old new is made out = (reply, made, out)
 hands_for (ChangeOf volume reserve (Optimize reclaim stop_after cert) target) image more reply status old new is made out = (reply, made, out)
 hands_for (ChangeOf volume reserve (EditOf name edit) target) image more reply status old new (inl (refusal, told, refuses)) made out = absurd refuses
 hands_for (ChangeOf volume reserve (EditOf name edit) target) image more reply status old new (inr (work, asks, told)) made out =

@@ -5,7 +5,7 @@ use Rattle.std.specs.Prelude.{Bool, IsSome, None, Option}
 use Rattle.disk_container.specs.declared.container.Container.{Container}
 use Rattle.disk_container.specs.Container.{IsContainer}
 use Rattle.disk_container.proofs.Alike.{put}
-use Rattle.shop_jobs.specs.Job.{AskView, ChangeOf, ChangeView, Convert, Create, ExtractFrom, Identify, LookAt, Survey, TargetView, Unwrap, Wrap}
+use Rattle.shop_jobs.specs.Job.{AddTo, AskView, ChangeOf, ChangeView, Convert, Create, ExtractFrom, Identify, LookAt, Survey, TargetView, Unwrap, Wrap}
 use Rattle.shop_jobs.specs.declared.job.VolumeOptions.{VolumeOptions}
 use Rattle.shop_changes.specs.EditRules.{changed_by}
 use Rattle.shop_image.proofs.SameLength.{changed_length}
@@ -37,6 +37,7 @@ stays_container (ChangeOf volume reserve change target) parts extra reply contai
     absurd (failed_not_made failures.Memory reply failed made)
 stays_container (LookAt volume reserve look) parts extra reply container is changes told made = absurd changes
 stays_container (ExtractFrom volume options into) parts extra reply container is changes told made = absurd changes
+stays_container (AddTo volume reserve words out) parts extra reply container is changes told made = absurd changes
 stays_container (Convert words) parts extra reply container is changes told made = absurd changes
 stays_container (Wrap words out) parts extra reply container is changes told made = absurd changes
 stays_container (Create words boot out) parts extra reply container is changes told made = absurd changes

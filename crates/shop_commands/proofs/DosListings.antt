@@ -1,7 +1,7 @@
 -- What is told of a job that lists a DOS 3.3 disk, in the words of its format.
 use Rattle.std.proofs.Common.{◌≡◌, ◌⊎◌, ℕ, List, [], true, false, inl, inr, subst, sym, ⊎_elim}
 use Rattle.std.specs.Prelude.{Option, Some, None, IfSome}
-use Rattle.shop_jobs.specs.Job.{AskView, Catalog, ChangeOf, Check, Compare, Convert, Create, Entries, ExtractFrom, Identify, LookAt, Map, Plan, Read, Survey, Unwrap, Verify, Wrap}
+use Rattle.shop_jobs.specs.Job.{AddTo, AskView, Catalog, ChangeOf, Check, Compare, Convert, Create, Entries, ExtractFrom, Identify, LookAt, Map, Plan, Read, Survey, Unwrap, Verify, Wrap}
 use Rattle.shop_replies.specs.declared.reply.Reply.{Reply}
 use Rattle.shop_replies.specs.Reply.{Held}
 use Rattle.shop_image.specs.DosCatalogReply.{IsDosCatalogReply}
@@ -33,6 +33,7 @@ answer-dos (LookAt volume None (Plan reclaim in_words)) image extra status old n
 answer-dos (LookAt volume None (Verify from reclaim)) image extra status old new answer = tt
 answer-dos (LookAt volume (Some words) look) image extra status old new answer = tt
 answer-dos (ExtractFrom volume options into) image extra status old new answer = tt
+answer-dos (AddTo volume reserve words out) image extra status old new answer = tt
 answer-dos (ChangeOf volume reserve change target) image extra status old new answer = tt
 answer-dos (Convert words) image extra status old new answer = tt
 answer-dos (Wrap words out) image extra status old new answer = tt

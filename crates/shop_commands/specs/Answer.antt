@@ -8,7 +8,7 @@ use Rattle.file_forms.specs.declared.form.GivenForm.{GivenForm}
 use Rattle.shop_changes.specs.GivenWords.{kind_named}
 use Rattle.shop_changes.specs.SaidFile.{SaidView}
 use Rattle.pro_dates.specs.SaidDates.{IsDateOf, NamesDate}
-use Rattle.shop_jobs.specs.Job.{AskView, AttributesView, Catalog, ChangeOf, ChangeView, Compare, Convert, Create, EditOf, ExtractFrom, Identify, JobView, LookAt, Optimize, Reclaim, Save, Survey, Unwrap, Wrap}
+use Rattle.shop_jobs.specs.Job.{AddTo, AskView, AttributesView, Catalog, ChangeOf, ChangeView, Compare, Convert, Create, EditOf, ExtractFrom, Identify, JobView, LookAt, Optimize, Reclaim, Save, Survey, Unwrap, Wrap}
 use Rattle.shop_jobs.specs.Paths.{HasImage, from_of, is_in_place, new_file_of}
 use Rattle.shop_jobs.specs.declared.job.FileSystem.{FileSystem}
 use Rattle.shop_jobs.specs.declared.job.FileSystem.TheVariants as systems
@@ -90,7 +90,7 @@ RefusesWords volume change refusal = ⊥
 
 -- What is told of each job on these bytes of an image, with these bytes of the file beside it: of a look what it tells of
 -- the volume; of a new volume what is told of its words, with the other bytes as those of the image whose system is copied;
--- of an extraction and of a survey that there is no folder; of a change that its words are refused, or what the work that it
+-- of an extraction, of files that are added and of a survey that there is no folder; of a change that its words are refused, or what the work that it
 -- asks for tells of the volume.
 abbrev pub IsReplyToBytes : AskView → List ℕ → List ℕ → Reply → Type 0
 IsReplyToBytes Identify image extra reply = IsIdentifyReply image reply
@@ -101,6 +101,7 @@ IsReplyToBytes (Unwrap out) image extra reply = IsUnwrapReply image reply
 IsReplyToBytes (Create words boot out) image extra reply = IsCreateReply words (option_map (λ path. extra) boot) reply
 IsReplyToBytes (LookAt volume reserve look) image extra reply = IsImageLook look extra volume reserve image reply
 IsReplyToBytes (ExtractFrom volume options into) image extra reply = reply ≡ refused refusals.Folder
+IsReplyToBytes (AddTo volume reserve words out) image extra reply = reply ≡ refused refusals.Folder
 IsReplyToBytes (ChangeOf volume reserve change target) image extra reply =
     ((refusal : Refusal) × (reply ≡ refused refusal) × RefusesWords volume change refusal)
     ⊎ ((work : WorkView) × AsksFor volume change extra work
@@ -133,9 +134,10 @@ abbrev pub AreOfContainer : Parts → Container → Type 0
 AreOfContainer parts container =
     IsContainer (joined parts) container × HasParts (joined parts) container parts.front parts.payload parts.back
 
--- the job writes the image: it changes it, or its output file takes the place of the image's
+-- the job writes the image: it changes it or adds files to it, or its output file takes the place of the image's
 abbrev pub WritesImage : AskView → Bool → Type 0
 WritesImage (ChangeOf volume reserve change target) replaces = Unit {0}
+WritesImage (AddTo volume reserve words out) replaces = Unit {0}
 WritesImage (Convert words) replaces = replaces ≡ true
 WritesImage ask replaces = ⊥
 
@@ -190,6 +192,7 @@ MakesImage (Unwrap out) = Unit {0}
 MakesImage (Create words boot out) = Unit {0}
 MakesImage (LookAt volume reserve look) = IsSome (new_file_of look)
 MakesImage (ExtractFrom volume options into) = ⊥
+MakesImage (AddTo volume reserve words out) = ⊥
 MakesImage (ChangeOf volume reserve change target) = is_in_place (ChangeOf volume reserve change target) ≡ false
 
 -- the image of a job is handed out, once its text is told: `OK` for a conversion, a container that is made or unwrapped, a

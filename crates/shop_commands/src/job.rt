@@ -102,13 +102,13 @@ pub fn extracts(job: &Job) -> bool
     matches!(&job.ask, Ask::Extract { .. })
 }
 
-/// Whether the container of a job's image says that it is not to be written, and the job writes it: it changes the image,
-/// or where its output file takes the place of the image's, writes another over it.
+/// Whether the container of a job's image says that it is not to be written, and the job writes it: it changes the image
+/// or adds files to it, or where its output file takes the place of the image's, writes another over it.
 pub fn is_protected(job: &Job, replaces: bool, container: Container) -> bool
     ensures { IsTrue result ↔ IsProtected (ask_view job.now.ask) replaces container }
 {
     let writes = match &job.ask {
-        Ask::Change { .. } => true,
+        Ask::Change { .. } | Ask::Add { .. } => true,
         Ask::Convert { .. } => replaces,
         _ => false,
     };
@@ -125,8 +125,8 @@ fn bytes_named(path: Option<&str>, bytes: Vec<u8>) -> Option<Vec<u8>>
     }
 }
 
-/// The reply to a job on the bytes of its image, and on those of a file beside it. A job that puts files into a folder
-/// or surveys one is refused with `Folder`: here there is none.
+/// The reply to a job on the bytes of its image, and on those of a file beside it. A job that puts files into a folder,
+/// adds those of one or surveys one is refused with `Folder`: here there is none.
 pub fn reply_to(alloc: Global, job: &Job, image: Vec<u8>, extra: Vec<u8>) -> Reply
     ensures { IsReplyToBytes (ask_view job.now.ask) image.items extra.items result }
 {
@@ -148,7 +148,9 @@ pub fn reply_to(alloc: Global, job: &Job, image: Vec<u8>, extra: Vec<u8>) -> Rep
             reserve,
             look,
         } => image_look(alloc, look, extra, image, *volume, reserve.as_deref()),
-        Ask::Extract { .. } | Ask::Survey { .. } => Reply::refused(Refusal::Folder),
+        Ask::Extract { .. } | Ask::Add { .. } | Ask::Survey { .. } => {
+            Reply::refused(Refusal::Folder)
+        }
         Ask::Change {
             volume,
             reserve,

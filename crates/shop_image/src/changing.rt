@@ -23,8 +23,8 @@ use shop_replies::{Failure, Reply};
 use std::alloc::Global;
 use vol_mover::Report;
 
-// The bytes of the image under a device.
-fn image_bytes(device: ImageDevice) -> Vec<u8>
+/// The bytes of the image under a device.
+pub fn image_bytes(device: ImageDevice) -> Vec<u8>
     ensures { AreBytesOf (⟦<ImageDevice as Device>⟧.state device) result.items }
 {
     let image = device.into_image();

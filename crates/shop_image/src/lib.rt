@@ -1,5 +1,6 @@
 //! Jobs on the volume of an image in memory, which is a device like any other: `image_look` tells of it what
-//! `shop_reads` tells of a device, and `image_change` changes it as `shop_changes` does and hands the image out.
+//! `shop_reads` tells of a device, and `image_change` changes it as `shop_changes` does and hands the image out. Whoever
+//! does more with that device opens it by `volume_in` and takes the bytes of its image by `image_bytes`.
 //!
 //! The model. `specs/VolumeReply.antt` says what is refused before there is a device, and that what is told is told of
 //! the device of the image's units. Of a look that is `IsLookReply` of `shop_reads` (`specs/LookReply.antt`); of a
@@ -17,5 +18,6 @@ mod looking;
 mod opening;
 mod replacing;
 
-pub use changing::image_change;
+pub use changing::{image_bytes, image_change};
 pub use looking::image_look;
+pub use opening::volume_in;

@@ -2,6 +2,7 @@
 use Rattle.std.specs.Prelude.{ℕ, Bool, List, Option, string_bytes, option_map}
 use Rattle.a2_device.specs.declared.order.Order.{Order}
 use Rattle.file_forms.specs.declared.form.GivenForm.{GivenForm}
+use Rattle.shop_jobs.specs.declared.job.AddOptions.{AddOptions}
 use Rattle.shop_jobs.specs.declared.job.VolumeOptions.{VolumeOptions}
 use Rattle.shop_jobs.specs.declared.job.WrapOptions.{WrapOptions}
 use Rattle.shop_jobs.specs.declared.job.CreateOptions.{CreateOptions}
@@ -157,9 +158,23 @@ creation_view options = record {
   number = options.number;
 }
 
+-- how the files of a folder are added: its path, the directory under which their paths begin, and their date, where they
+-- are said
+pub record AdditionView : Type 0 where
+  pub from : Text
+  pub into : Option Text
+  pub date : Option Text
+
+abbrev pub addition_view : AddOptions → AdditionView
+addition_view options = record {
+  from = string_bytes options.from;
+  into = option_map string_bytes options.into;
+  date = option_map string_bytes options.date;
+}
+
 -- what is asked: of an extraction how it is made, and the path of the folder; of a container that is made how, and of one
 -- that is made or unwrapped the path of the new file; of a new volume how it is made, the path of the image whose system is
--- copied, and that of the new file
+-- copied, and that of the new file; of files that are added how, and the path of the file that the image goes to
 pub data AskView : Type 0 where
   Identify : AskView
   Survey : SurveyForm → AskView
@@ -169,6 +184,7 @@ pub data AskView : Type 0 where
   Create : CreationView → Option Text → Text → AskView
   LookAt : VolumeOptions → Option Text → LookView → AskView
   ExtractFrom : VolumeOptions → ExtractOptions → Text → AskView
+  AddTo : VolumeOptions → Option Text → AdditionView → Text → AskView
   ChangeOf : VolumeOptions → Option Text → ChangeView → TargetView → AskView
 
 abbrev pub ask_view : Ask → AskView
@@ -181,6 +197,8 @@ ask_view (asks.Unwrap out) = Unwrap (string_bytes out)
 ask_view (asks.Create options boot out) = Create (creation_view options) (option_map string_bytes boot) (string_bytes out)
 ask_view (asks.Look volume reserve look) = LookAt volume (option_map string_bytes reserve) (look_view look)
 ask_view (asks.Extract volume options into) = ExtractFrom volume options (string_bytes into)
+ask_view (asks.Add volume reserve options out) =
+    AddTo volume (option_map string_bytes reserve) (addition_view options) (string_bytes out)
 ask_view (asks.Change volume reserve change target) =
     ChangeOf volume (option_map string_bytes reserve) (change_view change) (target_view target)
 

@@ -3,6 +3,7 @@ use Rattle.std.specs.Prelude.{◌≡◌, Bool, true, false, Option, Some, None, 
 use Rattle.a2_device.specs.declared.order.Order.{Order}
 use Rattle.shop_jobs.specs.declared.job.VolumeOptions.{VolumeOptions}
 use Rattle.shop_jobs.specs.Job.{
+  AddTo,
   AskView,
   ChangeOf,
   Compare,
@@ -52,6 +53,7 @@ out_of (Create words boot out) = Some out
 out_of (ChangeOf volume reserve change target) = file_of target
 out_of (LookAt volume reserve look) = new_file_of look
 out_of (ExtractFrom volume options into) = None
+out_of (AddTo volume reserve options out) = Some out
 out_of Identify = None
 out_of (Survey form) = None
 
@@ -73,6 +75,11 @@ MakesNewFile ask = ⊥
 abbrev pub into_of : AskView → Option Text
 into_of (ExtractFrom volume options into) = Some into
 into_of ask = None
+
+-- the path of the folder whose files a job adds to its volume
+abbrev pub folder_of : AskView → Option Text
+folder_of (AddTo volume reserve options out) = Some options.from
+folder_of ask = None
 
 -- the path of the file that a job writes its certificate to
 abbrev pub certificate_of : AskView → Option Text
@@ -97,6 +104,7 @@ is_in_place ask = false
 abbrev pub volume_of : AskView → Option VolumeOptions
 volume_of (LookAt volume reserve look) = Some volume
 volume_of (ExtractFrom volume options into) = Some volume
+volume_of (AddTo volume reserve options out) = Some volume
 volume_of (ChangeOf volume reserve change target) = Some volume
 volume_of (Convert words) = None
 volume_of (Wrap words out) = None
@@ -109,6 +117,7 @@ volume_of (Survey form) = None
 abbrev pub reserve_of : AskView → Option Text
 reserve_of (LookAt volume reserve look) = reserve
 reserve_of (ExtractFrom volume options into) = None
+reserve_of (AddTo volume reserve options out) = reserve
 reserve_of (ChangeOf volume reserve change target) = reserve
 reserve_of (Convert words) = None
 reserve_of (Wrap words out) = None
@@ -121,6 +130,7 @@ reserve_of (Survey form) = None
 abbrev pub named_order_of : AskView → Option Order
 named_order_of (LookAt volume reserve look) = Some volume.order
 named_order_of (ExtractFrom volume options into) = Some volume.order
+named_order_of (AddTo volume reserve options out) = Some volume.order
 named_order_of (ChangeOf volume reserve change target) = Some volume.order
 named_order_of (Convert words) = Some words.order
 named_order_of (Wrap words out) = Some words.order

@@ -241,6 +241,17 @@ pub struct WrapOptions {
     pub protect: bool,
 }
 
+/// How the files of a folder are added to a volume.
+#[derive(Debug, PartialEq, Eq, Drop)]
+pub struct AddOptions {
+    /// The path of the folder on the host.
+    pub from: String,
+    /// The path of the directory of the volume under which the paths of the files begin, if one is said.
+    pub into: Option<String>,
+    /// The date and time of their creation, as they are said.
+    pub date: Option<String>,
+}
+
 /// In which form a survey is told.
 #[derive(Clone, Copy, Debug, PartialEq, Eq)]
 pub enum SurveyForm {
@@ -302,6 +313,15 @@ pub enum Ask {
         options: ExtractOptions,
         /// The path of the folder.
         into: String,
+    },
+    /// The files of a folder, saved to the image's volume.
+    Add {
+        volume: VolumeOptions,
+        /// The places that are kept for the system beside its own, as the words name them.
+        reserve: Option<String>,
+        options: AddOptions,
+        /// The path of the file that the image goes to.
+        out: String,
     },
     /// A change of the image's volume.
     Change {

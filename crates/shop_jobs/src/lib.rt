@@ -9,12 +9,12 @@ mod job;
 mod paths;
 
 pub use job::{
-    Ask, Change, CompareOptions, CreateOptions, Edit, ExtractOptions, FileName, FileSystem, Job,
-    ListForm, ListOptions, Look, NewVolume, ReadForm, SaveAttributes, SurveyForm, Target,
-    VolumeOptions, WrapOptions,
+    AddOptions, Ask, Change, CompareOptions, CreateOptions, Edit, ExtractOptions, FileName,
+    FileSystem, Job, ListForm, ListOptions, Look, NewVolume, ReadForm, SaveAttributes, SurveyForm,
+    Target, VolumeOptions, WrapOptions,
 };
 pub use paths::{
-    certificate_path, from_path, has_image, image_order, into_path, is_in_place,
+    certificate_path, folder_path, from_path, has_image, image_order, into_path, is_in_place,
     is_on_standard_input, makes_new_file, other_is_on_standard_input, out_path, reserve_of,
     volume_of,
 };

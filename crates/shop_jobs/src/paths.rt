@@ -8,6 +8,7 @@ ghost use Rattle.shop_jobs.specs.Paths.{
   OtherIsOnStandardInput,
   certificate_of,
   file_of,
+  folder_of,
   from_of,
   into_of,
   is_in_place as goes_in_place,
@@ -89,7 +90,8 @@ pub fn out_path(job: &Job) -> Option<&str>
         Ask::Convert { out, .. }
         | Ask::Wrap { out, .. }
         | Ask::Unwrap { out }
-        | Ask::Create { out, .. } => Some(out.as_str()),
+        | Ask::Create { out, .. }
+        | Ask::Add { out, .. } => Some(out.as_str()),
         Ask::Look {
             look: Look::Read { out, .. },
             ..
@@ -132,6 +134,16 @@ pub fn into_path(job: &Job) -> Option<&str>
     }
 }
 
+/// The path of the folder whose files a job adds to its volume.
+pub fn folder_path(job: &Job) -> Option<&str>
+    ensures { option_map (λ s. s.now) result ≡ folder_of (ask_view job.now.ask) }
+{
+    match &job.ask {
+        Ask::Add { options, .. } => Some(options.from.as_str()),
+        _ => None,
+    }
+}
+
 /// The path of the file that a job writes its certificate to.
 pub fn certificate_path(job: &Job) -> Option<&str>
     ensures { option_map (λ s. s.now) result ≡ certificate_of (ask_view job.now.ask) }
@@ -150,9 +162,10 @@ pub fn volume_of(job: &Job) -> Option<VolumeOptions>
     ensures { result ≡ read_as (ask_view job.now.ask) }
 {
     match &job.ask {
-        Ask::Look { volume, .. } | Ask::Extract { volume, .. } | Ask::Change { volume, .. } => {
-            Some(*volume)
-        }
+        Ask::Look { volume, .. }
+        | Ask::Extract { volume, .. }
+        | Ask::Add { volume, .. }
+        | Ask::Change { volume, .. } => Some(*volume),
         Ask::Identify
         | Ask::Survey { .. }
         | Ask::Convert { .. }
@@ -167,7 +180,9 @@ pub fn reserve_of(job: &Job) -> Option<&str>
     ensures { option_map (λ s. s.now) result ≡ said_places (ask_view job.now.ask) }
 {
     match &job.ask {
-        Ask::Look { reserve, .. } | Ask::Change { reserve, .. } => reserve.as_deref(),
+        Ask::Look { reserve, .. } | Ask::Add { reserve, .. } | Ask::Change { reserve, .. } => {
+            reserve.as_deref()
+        }
         Ask::Identify
         | Ask::Survey { .. }
         | Ask::Convert { .. }
@@ -183,9 +198,10 @@ pub fn image_order(job: &Job) -> Option<Order>
     ensures { result ≡ named_order_of (ask_view job.now.ask) }
 {
     match &job.ask {
-        Ask::Look { volume, .. } | Ask::Extract { volume, .. } | Ask::Change { volume, .. } => {
-            Some(volume.order)
-        }
+        Ask::Look { volume, .. }
+        | Ask::Extract { volume, .. }
+        | Ask::Add { volume, .. }
+        | Ask::Change { volume, .. } => Some(volume.order),
         Ask::Convert { order, .. } => Some(*order),
         Ask::Wrap { options, .. } => Some(options.order),
         Ask::Identify | Ask::Survey { .. } | Ask::Unwrap { .. } | Ask::Create { .. } => None,

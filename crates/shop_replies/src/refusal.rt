@@ -53,6 +53,8 @@ pub enum Refusal {
     Single,
     /// A track of the image lacks a sector.
     NoSector,
+    /// The name of an entry of a folder says no file or folder of the volume.
+    Host,
 }
 
 /// What failed under a job.
@@ -126,6 +128,7 @@ impl Refusal {
             Refusal::InputTooLong => b"REFUSED InputTooLong\n",
             Refusal::Single => b"REFUSED Single\n",
             Refusal::NoSector => b"REFUSED NoSector\n",
+            Refusal::Host => b"REFUSED Host\n",
         }
     }
 }

@@ -260,6 +260,17 @@ impl Reply {
         }
     }
 
+    /// The text of a job that has made an image, and the image with it.
+    pub fn made_telling(text: String, image: Vec<u8>) -> Reply
+        ensures { result ≡ record { status = Status.Done; told = Told.Text text; image = Some image } }
+    {
+        Reply {
+            status: Status::Done,
+            told: Told::Text(text),
+            image: Some(image),
+        }
+    }
+
     /// What was done to a volume, a line with its end and the certificate of the plan, and the image with it.
     pub fn optimized(line: String, certificate: Vec<u8>, image: Vec<u8>) -> Reply
         ensures { result ≡ record { status = Status.Done; told = Told.Report line certificate; image = Some image } }

@@ -35,6 +35,7 @@ pub mod UnwrapLine
 pub mod SurveyLine
 pub mod CreateLine
 pub mod ReclaimLine
+pub mod AddLine
 pub mod Walk
 pub mod Left
 pub mod LeftOutLemmas

@@ -51,7 +51,7 @@ use Rattle.shop_jobs.specs.declared.job.FileSystem.TheVariants as file_systems
 use Rattle.shop_jobs.specs.declared.job.SurveyForm.{SurveyForm}
 use Rattle.shop_jobs.specs.declared.job.SurveyForm.TheVariants as survey_forms
 use Rattle.shop_jobs.specs.declared.job.VolumeOptions.{VolumeOptions}
-use Rattle.shop_jobs.specs.Job.{AskView, AttributesView, ByPath, ByStored, Catalog, ChangeOf, ChangeView, Check, Compare, Convert, Create, CreationView, Delete, DosVolume, EditOf, EditView, ExtractFrom, FileNameView, Identify, InPlace, JobView, Lock, Entries, LookAt, LookView, Map, NewVolumeView, Optimize, Plan, ProdosVolume, Read, Reclaim, Rename, Save, Survey, TargetView, ToFile, Unlock, Unwrap, Verify, Wrap, WrappingView}
+use Rattle.shop_jobs.specs.Job.{AddTo, AdditionView, AskView, AttributesView, ByPath, ByStored, Catalog, ChangeOf, ChangeView, Check, Compare, Convert, Create, CreationView, Delete, DosVolume, EditOf, EditView, ExtractFrom, FileNameView, Identify, InPlace, JobView, Lock, Entries, LookAt, LookView, Map, NewVolumeView, Optimize, Plan, ProdosVolume, Read, Reclaim, Rename, Save, Survey, TargetView, ToFile, Unlock, Unwrap, Verify, Wrap, WrappingView}
 
 -- ---- what a word names
 
@@ -461,6 +461,32 @@ abbrev pub create_by : Said → Option AskView
 create_by said = create_of (said (codes "out")) (boot_said (is_on (said (codes "data-disk"))) (said (codes "boot")))
     (creation_by said)
 
+-- ---- the files of a folder
+
+-- the directory under which the paths of the files begin, or that none is said; a DOS 3.3 disk has none
+abbrev pub directory_said : FileSystem → Option Text → Option (Option Text)
+directory_said file_systems.Dos None = Some None
+directory_said file_systems.Dos (Some into) = None
+directory_said file_systems.Prodos into = Some into
+
+abbrev pub directory_by : Said → Option (Option Text)
+directory_by said = option_and_then (λ file_system. directory_said file_system (said (codes "into")))
+    (option_and_then file_system_named (said (codes "fs")))
+
+abbrev pub addition_of : Option Text → Option (Option Text) → Option Text → Option AdditionView
+addition_of (Some from) (Some into) date = Some (record { from = from; into = into; date = date })
+addition_of _ _ date = None
+
+abbrev pub addition_by : Said → Option AdditionView
+addition_by said = addition_of (said (codes "from")) (directory_by said) (said (codes "date"))
+
+abbrev pub add_of : Option VolumeOptions → Option AdditionView → Option Text → Option Text → Option AskView
+add_of (Some volume) (Some words) (Some out) reserve = Some (AddTo volume reserve words out)
+add_of _ _ _ reserve = None
+
+abbrev pub add_by : Said → Option AskView
+add_by said = add_of (volume_by said) (addition_by said) (said (codes "out")) (said (codes "reserve"))
+
 -- what a command asks, by what is said under each name
 abbrev pub ask_by : Text → Said → Option AskView
 ask_by command said =
@@ -485,7 +511,8 @@ ask_by command said =
     if bytes_eq command (codes "unwrap") then unwrap_by said else
     if bytes_eq command (codes "survey") then survey_by said else
     if bytes_eq command (codes "create") then create_by said else
-    if bytes_eq command (codes "reclaim") then change_by (Some Reclaim) said else None
+    if bytes_eq command (codes "reclaim") then change_by (Some Reclaim) said else
+    if bytes_eq command (codes "add") then add_by said else None
 
 -- ---- the job
 

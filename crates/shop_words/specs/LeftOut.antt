@@ -59,7 +59,7 @@ is_in_place_word word = bytes_eq word (codes "--in-place")
 abbrev pub may_leave_both : Text → Bool
 may_leave_both command =
     bytes_eq command (codes "list") || bytes_eq command (codes "compare") || bytes_eq command (codes "map")
-    || bytes_eq command (codes "extract") || bytes_eq command (codes "wrap")
+    || bytes_eq command (codes "extract") || bytes_eq command (codes "wrap") || bytes_eq command (codes "add")
 
 -- the words are those of such a command, or of one that changes its image, but for that in place
 abbrev pub may_leave_out : List Text → Bool

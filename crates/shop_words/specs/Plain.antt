@@ -5,7 +5,7 @@ use Rattle.std.specs.List.{AllPass, AllZip, IsDistinct, list_all}
 use Rattle.std.specs.Char.{is_ascii_digit}
 use Rattle.std.specs.Str.{bytes_eq}
 use Rattle.std.specs.Str.Parse.{digits_value}
-use Rattle.shop_words.specs.Table.{Text, ValuesView, address, any, between, one_of, number, KindView, positional, needed, optional, flag, ParameterView, FormView, aux, blocks, boot, data_disk, date, file_system, format, forms, high, in_place, name_of_file, out_file, parameter, places, read_as, save_as, short, stored, volume_name, whole}
+use Rattle.shop_words.specs.Table.{Text, ValuesView, address, any, between, one_of, number, KindView, positional, needed, optional, flag, ParameterView, FormView, aux, blocks, boot, data_disk, date, directory, file_system, format, forms, high, in_place, name_of_file, out_file, parameter, places, read_as, save_as, short, stored, volume_name, whole}
 use Rattle.shop_words.specs.Hexadecimal.{bytes_named, hex_number}
 
 -- `-`
@@ -127,7 +127,7 @@ pub record IsNewVolume (uses : List Use) : Type 0 where
 -- the positional words and uses are those of a plain list of the form; where the image may be changed in place, exactly one of `--out` and `--in-place` is used;
 -- with `--stored` the name of the file is in hexadecimal digits, and with `--places` the form is JSON; `--as` and `--whole` do not go together,
 -- `--high` goes with `--as text` alone, and with `--as applesoft` the auxiliary type is $0801; of the command that makes a
--- volume what is said is said of one
+-- volume what is said is said of one; files are added to a directory of ProDOS alone
 pub record IsPlainLine (f : FormView) (positionals : List Text) (uses : List Use) : Type 0 where
   pub as_many : length positionals ≡ length (positional_names f)
   pub plain : AllPass is_plain_word positionals
@@ -143,6 +143,8 @@ pub record IsPlainLine (f : FormView) (positionals : List Text) (uses : List Use
   pub loaded : value_of save_as.name uses ≡ Some (codes "applesoft") → (word : Text) → value_of aux.name uses ≡ Some word
       → address_named word ≡ Some 0x0801
   pub created : Contains f.parameters boot → IsNewVolume uses
+  pub added : Contains f.parameters directory → IsSome (value_of directory.name uses)
+      → value_of file_system.name uses ≡ Some (codes "prodos")
 
 -- the list that is printed from them
 abbrev pub line_words : FormView → List Text → List Use → List Text

@@ -6,6 +6,7 @@ ghost use Rattle.clap.specs.Walk.{rows_of};
 ghost use Rattle.shop_jobs.specs.Job.{ask_view, job_view};
 ghost use Rattle.shop_words.specs.Job.{ask_by, found_job, job_by, place_by, rows_say};
 
+use crate::adding::add_in;
 use crate::changing::{edit_in, optimize_in, reclaim_in, rename_in};
 use crate::converting::convert_in;
 use crate::creating::create_in;
@@ -49,6 +50,7 @@ fn ask_in(alloc: Global, command: &str, matches: &ArgMatches<'_>) -> Result<Opti
         "survey" => Ok(survey_in(matches)),
         "create" => create_in(alloc, matches),
         "reclaim" => reclaim_in(alloc, matches),
+        "add" => add_in(alloc, matches),
         _ => Ok(None),
     }
 }

@@ -1,5 +1,5 @@
 //! What is asked by `create`.
-ghost use Rattle.std.specs.Prelude.{◌≡◌, codes, IfOk, option_map, string_bytes};
+ghost use Rattle.std.specs.Prelude.{◌≡◌, codes, IfOk, option_map};
 ghost use Rattle.clap.specs.Matches.{found_of};
 ghost use Rattle.clap.specs.Walk.{rows_of};
 ghost use Rattle.shop_jobs.specs.Job.{ask_view, creation_view, new_volume_view};
@@ -16,7 +16,7 @@ ghost use Rattle.shop_words.specs.Job.{
 };
 
 use crate::converting::volume_number;
-use crate::reading::{file_system_in, has_flag, number_named, order_in, said, text_said};
+use crate::reading::{file_system_in, has_flag, number_named, order_in, said, text_of, text_said};
 use a2_device::Order;
 use clap::ArgMatches;
 use shop_jobs::{Ask, CreateOptions, FileSystem, NewVolume};
@@ -144,16 +144,6 @@ fn options_in(alloc: Global, matches: &ArgMatches<'_>) -> Result<Option<CreateOp
         order,
         number,
     }))
-}
-
-// A text of its own, of one that may be left out.
-fn text_of(alloc: Global, text: Option<&str>) -> Result<Option<String>, AllocError>
-    ensures { IfOk result (λ copy. option_map (λ s. string_bytes s) copy ≡ option_map (λ s. s.now) text.entry) }
-{
-    match text {
-        Some(text) => Ok(Some(text.to_string(alloc)?)),
-        None => Ok(None),
-    }
 }
 
 pub fn create_in(alloc: Global, matches: &ArgMatches<'_>) -> Result<Option<Ask>, AllocError>

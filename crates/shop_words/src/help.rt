@@ -59,6 +59,9 @@ pub enum Help {
     NewNumber,
     NewDataDisk,
     Boot,
+    HostFolder,
+    Directory,
+    FilesDate,
 }
 
 impl Help {
@@ -148,6 +151,12 @@ impl Help {
             Help::Boot =>
                 "Image, in the same order, whose system is copied: tracks 0 to 2 of a DOS 3.3 disk, blocks 0 and 1 of \
                     a ProDOS volume",
+            Help::HostFolder =>
+                "Folder whose files are saved, each under the name and with the type that its name says, as extract writes it",
+            Help::Directory =>
+                "Directory of a ProDOS volume under which the paths of the files begin; the volume's own if left out",
+            Help::FilesDate =>
+                "Date and time of the creation of each file, for ProDOS, as 1986-05-01T12:30; none if left out",
             Help::Bodies => "Read the sectors of each file too, and tell those that can't be read",
             Help::Whole => "Take all bytes of the file's sectors, and not its content alone",
             Help::Stored =>
@@ -190,6 +199,7 @@ pub fn of(command: &str) -> &'static str {
         "survey" => "Tell which files are disk images, what is on each, and which are the same",
         "create" => "Make the image of a new volume without a file",
         "reclaim" => "Mark the places of a volume free that are marked used and belong to no file",
+        "add" => "Save all files of a folder to a volume, all of them or none",
         _ => "",
     }
 }

@@ -217,6 +217,7 @@ fn may_leave_both(command: &str) -> bool
         || command == "map"
         || command == "extract"
         || command == "wrap"
+        || command == "add"
 }
 
 fn is_in_place_word(word: &String) -> bool

@@ -25,6 +25,7 @@
 //! else is wrong (`specs/Fault.antt`); a list without the program's own words is left as it is.
 #![tactic(auto)]
 
+mod adding;
 mod asking;
 mod auto;
 mod changing;

@@ -414,6 +414,37 @@ Status:
      REFUSED Check    the volume has a fault; check tells which
   4  FAILED Input, Device or Memory: a file, a sector of the image or memory failed";
 
+const ADD: &str = "\
+Examples:
+  a2shop extract old.po --into files
+  a2shop create --fs prodos --out new.po
+  a2shop add new.po --from files --out new.po
+  a2shop add disk.dsk --from files --out disk.dsk --fs dos --order dos
+
+The name of each file says its name and its type, as extract writes them: NAME#TTAAAA, with the type and
+the aux type in hexadecimal digits. NAME#TTAAAA.utf8.txt is a text or a listing in UTF-8 that is turned
+into the bytes of the file; where NAME#TTAAAA stands beside it, it is told as PASSED and not added. Names
+that begin with a point are passed over. The files are saved in the order of their names. Locks, dates,
+and the holes of sparse files are not carried. A directory of a ProDOS volume has to be there; an empty
+folder is told as PASSED.
+
+Status:
+  0  the image is written; a line ADDED for each file, and how many there are
+  3  REFUSED Folder       there is no folder at the path of --from
+     REFUSED Date         the word of --date is no date
+     REFUSED Reserve      the word of --reserve is no list of places
+     REFUSED Length       the image has another length than one in its order
+     REFUSED Check        the volume has a fault; check tells which
+     and with the path of the file or folder behind it:
+     REFUSED Host         the name says no type, or it is neither a file nor a folder; DOS 3.3 has no folders
+     REFUSED Type         DOS 3.3 has no files of the type
+     REFUSED Name         no file can have the name
+     REFUSED Exists       the volume has an entry of that name
+     REFUSED NotFound     the volume has no such directory
+     REFUSED Text N       line N of a text or a listing can't be taken
+     REFUSED TooLong, InputTooLong, DirFull, VolumeFull  as save tells them
+  4  FAILED Input, Device or Memory: a file, a sector of the image or memory failed";
+
 /// The notes on the command with this name.
 pub fn of(command: &str) -> &'static str {
     match command {
@@ -439,6 +470,7 @@ pub fn of(command: &str) -> &'static str {
         "survey" => SURVEY,
         "create" => CREATE,
         "reclaim" => RECLAIM,
+        "add" => ADD,
         _ => "",
     }
 }

@@ -51,6 +51,16 @@ pub fn said<'a>(matches: &ArgMatches<'a>, name: &str) -> Option<&'a str>
     matches.get_str(name)
 }
 
+/// A text of its own, of one that may be left out.
+pub fn text_of(alloc: Global, text: Option<&str>) -> Result<Option<String>, AllocError>
+    ensures { IfOk result (λ copy. option_map (λ s. string_bytes s) copy ≡ option_map (λ s. s.now) text.entry) }
+{
+    match text {
+        Some(text) => Ok(Some(text.to_string(alloc)?)),
+        None => Ok(None),
+    }
+}
+
 /// The same as a text of its own.
 pub fn text_said(
     alloc: Global,

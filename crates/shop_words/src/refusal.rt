@@ -118,7 +118,7 @@ enum Misfit<'a> {
     LoadedElsewhere,
     /// Both images are to be read from standard input.
     TwoInputs,
-    /// This is said of a new volume of ProDOS alone.
+    /// This is said of a volume of ProDOS alone.
     OfProdos {
         name: &'static str,
     },
@@ -245,8 +245,17 @@ fn volume_misfit<'a>(form: &Form, matches: &ArgMatches<'a>) -> Option<Misfit<'a>
         .map(|name| Misfit::OfProdos { name })
 }
 
+/// What is wrong with the directory that files are added to: a DOS 3.3 disk has none.
+fn directory_misfit<'a>(form: &Form, matches: &ArgMatches<'a>) -> Option<Misfit<'a>> {
+    let is_said = form.name == "add" && said(matches, "into").is_some();
+    if is_said && said(matches, "fs") == Some("dos") {
+        return Some(Misfit::OfProdos { name: "into" });
+    }
+    None
+}
+
 /// The first option of the command that does not take its value, or what is wrong with its name, its form, its images,
-/// its new volume or with where its image goes.
+/// its new volume, its directory or with where its image goes.
 fn misfit_of<'a>(form: &Form, matches: &ArgMatches<'a>) -> Option<Misfit<'a>> {
     form.parameters
         .iter()
@@ -256,6 +265,7 @@ fn misfit_of<'a>(form: &Form, matches: &ArgMatches<'a>) -> Option<Misfit<'a>> {
         .or_else(|| form_misfit(matches))
         .or_else(|| inputs_misfit(matches))
         .or_else(|| volume_misfit(form, matches))
+        .or_else(|| directory_misfit(form, matches))
         .or_else(|| target_misfit(form, matches))
 }
 

@@ -409,6 +409,24 @@ const BOOT: Parameter = Parameter {
     help: Help::Boot,
 };
 
+const HOST_FOLDER: Parameter = Parameter {
+    name: "from",
+    kind: Kind::Needed(Values::Any),
+    help: Help::HostFolder,
+};
+
+const DIRECTORY: Parameter = Parameter {
+    name: "into",
+    kind: Kind::Optional(Values::Any),
+    help: Help::Directory,
+};
+
+const FILES_DATE: Parameter = Parameter {
+    name: "date",
+    kind: Kind::Optional(Values::Any),
+    help: Help::FilesDate,
+};
+
 const FORMS: &[Form] = &[
     Form {
         name: "catalog",
@@ -595,6 +613,20 @@ const FORMS: &[Form] = &[
             ORDER,
             OUT_FILE,
             IN_PLACE,
+            DATA_DISK,
+            RESERVE,
+        ],
+    },
+    Form {
+        name: "add",
+        parameters: &[
+            IMAGE,
+            FILE_SYSTEM,
+            ORDER,
+            HOST_FOLDER,
+            OUT,
+            DIRECTORY,
+            FILES_DATE,
             DATA_DISK,
             RESERVE,
         ],

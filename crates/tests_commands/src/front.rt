@@ -136,6 +136,10 @@ fn what_is_left_out_is_auto(rt: HostRuntime) -> Result<(), Fail> {
             "extract a --into out --fs auto --order auto ",
         ),
         (
+            "add a --from files --out new",
+            "add a --from files --out new --fs auto --order auto ",
+        ),
+        (
             "compare a b --fs dos --order 2img",
             "compare a b --fs dos --order 2img --other-order 2img ",
         ),

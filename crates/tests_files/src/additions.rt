@@ -8,7 +8,8 @@ use crate::pieces::{Piece, hello_with, put_writes, tree_with};
 use a2_device::Device;
 use file_forms::GivenForm;
 use folder_adding::{
-    Batch, FailingFiles, HostFiles, Item, MemoryFiles, Refused, add_all, added_text,
+    Batch, FailingFiles, HostEntry, HostFiles, HostKind, Item, MemoryFiles, Refused, add_all,
+    added_text,
 };
 use pro_dir::ProDate;
 use pro_format::Prodos;
@@ -21,7 +22,7 @@ use test_volumes::{FIRST_CATALOG, IMAGE_BYTES, VTOC, block_device, dos_device};
 
 /// A volume: HELLO of DOS 3.3, or the one of ProDOS with BIG.
 #[derive(Clone, Copy)]
-enum Volume {
+pub enum Volume {
     Hello,
     Tree,
 }
@@ -101,7 +102,7 @@ static PRO_WRITES: [&[Piece]; 6] = [
 ];
 
 /// The date of all of them: 1 May 1986, 12:30.
-const DATE: ProDate = ProDate([0xa1, 0xac, 0x1e, 0x0c]);
+pub const DATE: ProDate = ProDate([0xa1, 0xac, 0x1e, 0x0c]);
 
 impl Volume {
     fn rows(self) -> &'static [Row] {
@@ -121,7 +122,7 @@ impl Volume {
 }
 
 /// The image of a volume after so many of the writes that save the items.
-fn image_after(alloc: Global, volume: Volume, writes: u64) -> Result<Vec<u8>, AllocError> {
+pub fn image_after(alloc: Global, volume: Volume, writes: u64) -> Result<Vec<u8>, AllocError> {
     match volume {
         Volume::Hello => {
             let mut image = hello_with(alloc, &[])?;
@@ -161,7 +162,7 @@ fn files_of(alloc: Global, rows: &[Row]) -> Result<MemoryFiles, AllocError> {
 
 /// Why not all items were saved.
 #[derive(Clone, Copy, Debug, PartialEq, Eq)]
-enum Why {
+pub enum Why {
     Refused(usize, Refusal),
     Failed(usize, Failure),
     Other,
@@ -222,14 +223,14 @@ fn add_on_blocks<D: Device, H: HostFiles>(
 
 /// Why not all items were saved, how many writes and refusals the device has counted, and the bytes of the image.
 #[derive(Drop)]
-struct End {
-    why: Option<Why>,
+pub struct End {
+    pub why: Option<Why>,
     writes: u64,
     faults: u64,
-    image: Vec<u8>,
+    pub image: Vec<u8>,
 }
 
-fn dos_ended<H: HostFiles>(
+pub fn dos_ended<H: HostFiles>(
     alloc: Global,
     image: Vec<u8>,
     items: &[Item],
@@ -253,7 +254,7 @@ fn dos_ended<H: HostFiles>(
     })
 }
 
-fn pro_ended<H: HostFiles>(
+pub fn pro_ended<H: HostFiles>(
     alloc: Global,
     image: Vec<u8>,
     items: &[Item],
@@ -312,7 +313,7 @@ fn told(
 }
 
 /// A failure that does not come.
-const NEVER: u64 = 1000;
+pub const NEVER: u64 = 1000;
 
 static VOLUMES: [(&str, Volume); 2] = [("HELLO", Volume::Hello), ("BIG", Volume::Tree)];
 
@@ -498,17 +499,28 @@ fn each_read_failing(rt: HostRuntime) {
     }
 }
 
-/// What is told of the items of rows.
-fn text_of(alloc: Global, file_system: FileSystem, rows: &[Row]) -> Result<String, AllocError> {
+/// What is told of the items of rows, and of entries that are passed over.
+fn text_of(
+    alloc: Global,
+    file_system: FileSystem,
+    rows: &[Row],
+    paths: &[&str],
+    passed: &[usize],
+) -> Result<String, AllocError> {
     let items = items_of(alloc, rows)?;
-    added_text(
-        alloc,
-        &Batch {
-            file_system,
-            date: DATE,
-            items: &items,
-        },
-    )
+    let mut entries = Vec::new(alloc);
+    for path in paths {
+        entries.push(HostEntry {
+            path: String::from_str(alloc, path)?,
+            kind: HostKind::File,
+        })?;
+    }
+    let batch = Batch {
+        file_system,
+        date: DATE,
+        items: &items,
+    };
+    added_text(alloc, &batch, &entries, passed)
 }
 
 /// A path of ProDOS keeps the spaces at its end, as a listing shows them.
@@ -519,13 +531,29 @@ static PATHS: [Row; 2] = [
 
 #[test]
 fn the_items_are_told(rt: HostRuntime) -> Result<(), Fail> {
-    let text = text_of(rt.alloc(), FileSystem::Dos, &DOS_ROWS)?;
+    let text = text_of(rt.alloc(), FileSystem::Dos, &DOS_ROWS, &[], &[])?;
     assert!(rt; text.as_str() == "ADDED HI\nADDED E1\nADDED files 2\n");
-    let text = text_of(rt.alloc(), FileSystem::Prodos, &PATHS)?;
+    let text = text_of(rt.alloc(), FileSystem::Prodos, &PATHS, &["SUB"], &[])?;
     assert!(rt; text.as_str() == "ADDED SUB/A\nADDED BC \nADDED files 2\n");
-    let text = text_of(rt.alloc(), FileSystem::Dos, &PATHS)?;
+    let text = text_of(rt.alloc(), FileSystem::Dos, &PATHS, &[], &[])?;
     assert!(rt; text.as_str() == "ADDED SUB/A\nADDED BC\nADDED files 2\n");
-    let text = text_of(rt.alloc(), FileSystem::Dos, &[])?;
+    let text = text_of(rt.alloc(), FileSystem::Dos, &[], &[], &[])?;
+    assert!(rt; text.as_str() == "ADDED files 0\n");
+    Ok(())
+}
+
+#[test]
+fn entries_that_are_passed_over_are_told(rt: HostRuntime) -> Result<(), Fail> {
+    let paths = ["SUB", "A#040000", "A\u{7}\u{fc}#040000.utf8.txt"];
+    let text = text_of(rt.alloc(), FileSystem::Dos, &DOS_ROWS, &paths, &[0, 2])?;
+    assert!(rt;
+        text.as_str()
+            == "ADDED HI\nADDED E1\nPASSED SUB\nPASSED A\\x07\u{fc}#040000.utf8.txt\nADDED files 2\n"
+    );
+    let text = text_of(rt.alloc(), FileSystem::Prodos, &[], &paths, &[1])?;
+    assert!(rt; text.as_str() == "PASSED A#040000\nADDED files 0\n");
+    // there is no such entry
+    let text = text_of(rt.alloc(), FileSystem::Prodos, &[], &paths, &[3])?;
     assert!(rt; text.as_str() == "ADDED files 0\n");
     Ok(())
 }

@@ -2,7 +2,8 @@
 //! ProDOS with the literal text of their listings and the literal bytes of their files, each public call on its happy
 //! path, refused memory, and each read and write failing in turn; of `shop_files` files that are replaced in a folder
 //! in memory, whose calls fail in turn; of `host_folders` names, folders in memory and new folders of the
-//! system; of `host_entries` what names say; of `folder_adding` files that are saved one after the other.
+//! system; of `host_entries` what names say; of `folder_adding` files that are saved one after the other, and
+//! the plans of folders.
 #![tactic(auto)]
 
 #[cfg(test)]
@@ -35,6 +36,8 @@ mod new_folders_memory;
 mod pieces;
 #[cfg(test)]
 mod plan_lines;
+#[cfg(test)]
+mod plans;
 #[cfg(test)]
 mod prodos_files;
 #[cfg(test)]

@@ -1,7 +1,10 @@
-use Rattle.std.proofs.Common.{arith, string_bytes}
-use Rattle.folder_adding.proofs.Told.{told}
+use Rattle.std.proofs.Common.{map, string_bytes}
+use Rattle.folder_adding.specs.HostEntries.{entry_view}
+use Rattle.folder_adding.proofs.Told.{all_told}
 use Rattle.folder_adding.proofs.telling.added_text.Goals as goal
 
 pub returns : goal.returns
 returns c =
-    told c.args.batch.now (string_bytes c.loop-item.text) (string_bytes c.writeln-2.new.self) c.loop-item.item-index c.loop-item.invariant (omega arith) c.in_ok-writeln-2.ensures.bytes
+    all_told c.args.batch.now (map entry_view c.args.entries.now) c.args.passed.now (string_bytes c.new-text.result)
+    (string_bytes c.push_added.new.text) (string_bytes c.push_passed.new.text) (string_bytes c.writeln.new.self)
+    c.new-text.ensures.bytes c.in_ok-push_added.ensures c.in_ok-push_passed.ensures c.in_ok-writeln.ensures.bytes

@@ -22,6 +22,7 @@ handed (asks.Unwrap out) parts extra reply other is = (reply, is, refl)
 handed (asks.Create options boot out) parts extra reply other is = (reply, is, refl)
 handed (asks.Look volume reserve look) parts extra reply other is = (reply, is, refl)
 handed (asks.Extract volume options into) parts extra reply other is = (reply, is, refl)
+handed (asks.Add volume reserve options out) parts extra reply other is = (reply, is, refl)
 handed (asks.Change volume reserve change target) parts extra reply other is = absurd (other volume reserve change target refl)
 
 pub returns-in_default : goal.returns-in_default

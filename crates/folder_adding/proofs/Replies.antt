@@ -1,0 +1,46 @@
+-- What is told of the files of a folder, by what became of them.
+use Rattle.std.proofs.Common.{◌≡◌, ◌∙◌, ℕ, Global, List, String, Vec, ap, inl, inr, refl, subst, sym}
+use Rattle.std.specs.Prelude.{Bool, Option, Some, slice_index_or, string_bytes}
+use Rattle.a2_device.specs.Device.{DeviceState}
+use Rattle.folder_adding.specs.AddReply.{AdditionTo, AreToldItems, TellsAdded, TellsAt, batch_of, items_hold, path_of}
+use Rattle.folder_adding.specs.AddedText.{added_text}
+use Rattle.folder_adding.specs.Items.{BatchView}
+use Rattle.folder_adding.specs.Refused.{HasRefused}
+use Rattle.folder_adding.specs.declared.adding.Refused.{Refused}
+use Rattle.save_formats.specs.Saves.{SaveMeaning}
+use Rattle.shop_image.specs.ImageBytes.{AreBytesOf}
+use Rattle.shop_image.specs.VolumeReply.{IsVolumeIn, IsVolumeReply}
+use Rattle.shop_jobs.specs.declared.job.VolumeOptions.{VolumeOptions}
+use Rattle.shop_replies.specs.declared.refusal.Failure.{Failure}
+use Rattle.shop_replies.specs.declared.reply.Reply.{Reply}
+use Rattle.shop_replies.specs.declared.reply.Status.TheVariants.{Done}
+use Rattle.shop_replies.specs.declared.reply.Told.TheVariants.{Text}
+use Rattle.vol_format.specs.Meaning.{Meaning}
+
+module _ (adding : AdditionTo) where
+  -- the text and the image of a reply tell that all were added
+  pub told_added : (batch : BatchView) (device : DeviceState) (text : String Global) (image : Vec ℕ Global) (reply : Reply) → batch ≡ batch_of adding
+      → string_bytes text ≡ added_text batch adding.folder.entries adding.plan.passed → AreBytesOf device image.items
+      → reply ≡ record { status = Done; told = Text text; image = Some image } → TellsAdded adding device reply
+  told_added batch device text image reply is told made same =
+      subst (λ (r : Reply). TellsAdded adding device r) (sym same)
+      (record { done = (refl, refl); told = told ∙ ap (λ (b : BatchView). added_text b adding.folder.entries adding.plan.passed) is; made = made })
+
+  -- and why an item was not
+  pub told_refused : {H : Type 0} (may_fail : H → ℕ → Failure → Type 0) (holds held : Option (ℕ → List ℕ)) (batch : BatchView) (saves : SaveMeaning) (format : Meaning) (old new : DeviceState)
+      (refused : Refused) (reply : Reply) → batch ≡ batch_of adding → held ≡ items_hold adding holds → HasRefused may_fail batch held saves format old new refused
+      → TellsAt (path_of adding.folder.entries (slice_index_or adding.plan.files refused.item 0)) refused.reply reply → AreToldItems may_fail adding holds saves format old reply
+  told_refused may_fail holds held batch saves format old new refused reply is holding was told =
+      inr (record {
+        left = new;
+        item = refused;
+        refused = subst (λ (b : BatchView). HasRefused may_fail b (items_hold adding holds) saves format old new refused) is
+            (subst (λ (h : Option (ℕ → List ℕ)). HasRefused may_fail batch h saves format old new refused) holding was);
+        told = told;
+      })
+
+-- what is told of the device of an image is told of the image
+pub volume_told : (volume : VolumeOptions) (reserve : Option (List ℕ)) (image : List ℕ) (device : DeviceState) (reserved : List Bool) (Tells : List Bool → DeviceState → Reply → Type 0)
+    (reply : Reply) → IsVolumeIn volume reserve image device reserved → Tells reserved device reply → IsVolumeReply volume reserve image Tells reply
+volume_told volume reserve image device reserved Tells reply of tells =
+    inr (reserved, of.named, (of.taken.0, of.taken.1, of.taken.2, subst (λ (d : DeviceState). Tells reserved d reply) of.taken.3 tells))

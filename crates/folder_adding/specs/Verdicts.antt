@@ -1,0 +1,109 @@
+-- What becomes of an entry of a folder whose files are to be added to a volume.
+use Rattle.std.specs.Prelude.{◌≡◌, ◌&&◌, ℕ, Bool, true, false, List, Option, Some, None, Result, Ok, Err}
+use Rattle.apple_text.specs.declared.form.HighBit.{HighBit}
+use Rattle.apple_text.specs.declared.form.HighBit.TheVariants.{On, Off}
+use Rattle.edit_formats.specs.ProNames.{is_pro_name}
+use Rattle.file_forms.specs.declared.form.GivenForm.{GivenForm}
+use Rattle.file_forms.specs.declared.form.GivenForm.TheVariants as given
+use Rattle.folder_adding.specs.HostEntries.{EntryView, has_file_beside}
+use Rattle.folder_adding.specs.HostPaths.{SaidPath, SaysDirectory, SaysPath, Text, may_have, volume_path}
+use Rattle.folder_adding.specs.Items.{ItemView}
+use Rattle.folder_adding.specs.declared.host_entry.HostKind.{HostKind}
+use Rattle.folder_adding.specs.declared.host_entry.HostKind.TheVariants.{File, Folder, EmptyFolder, Other}
+use Rattle.host_entries.specs.declared.entry.Content.{Content}
+use Rattle.host_entries.specs.declared.entry.Content.TheVariants as contents
+use Rattle.shop_changes.specs.GivenWords.{kind_for}
+use Rattle.shop_jobs.specs.declared.job.FileSystem.{FileSystem}
+use Rattle.shop_jobs.specs.declared.job.FileSystem.TheVariants.{Dos, Prodos}
+use Rattle.shop_replies.specs.declared.refusal.Refusal.{Refusal}
+use Rattle.shop_replies.specs.declared.refusal.Refusal.TheVariants as refusals
+
+-- a folder whose files are to be added: the file system of the volume, the path of the directory into which they go, where
+-- one is said, and all entries
+pub record AddedFolder : Type 0 where
+  pub file_system : FileSystem
+  pub into : Option Text
+  pub entries : List EntryView
+
+-- what is done with an entry that is not refused: an item is added, it is passed over with a word, or nothing is told of it
+pub data Step : Type 0 where
+  adds : ItemView → Step
+  passes : Step
+  leaves : Step
+
+-- what becomes of an entry: a step, or why it is refused
+abbrev pub Verdict : Type 0
+Verdict = Result Step Refusal
+
+-- ---- folders
+
+-- A folder: its path says the name of a directory, and a directory may have that name.
+pub data IsFolderVerdict (file_system : FileSystem) (path : Text) (step : Step) : Verdict → Type 0 where
+  no_directory : ((name : Text) → ¬ SaysDirectory file_system path name)
+      → IsFolderVerdict file_system path step (Err refusals.Host)
+  no_directory_name : (name : Text) → SaysDirectory file_system path name → is_pro_name name ≡ false
+      → IsFolderVerdict file_system path step (Err refusals.Name)
+  is_directory : (name : Text) → SaysDirectory file_system path name → is_pro_name name ≡ true
+      → IsFolderVerdict file_system path step (Ok step)
+
+-- ---- files
+
+-- the highest bit of the bytes of a text
+abbrev pub high_bit : FileSystem → HighBit
+high_bit Dos = On
+high_bit Prodos = Off
+
+-- the form in which the bytes of a file give it
+abbrev pub form_given : FileSystem → Content → Option GivenForm
+form_given file_system contents.Bytes = None
+form_given file_system contents.Text = Some (given.Text (high_bit file_system))
+form_given file_system contents.Program = Some given.Applesoft
+
+-- the item of a file that gets this type on the volume
+abbrev pub item_said : AddedFolder → SaidPath → ℕ → ItemView
+item_said folder said kind = record {
+  path = volume_path folder.file_system folder.into said;
+  kind = Some kind;
+  aux = Some said.file.aux_type;
+  form = form_given folder.file_system said.file.content;
+}
+
+-- whether the bytes of a file are a readable form of it
+abbrev pub is_readable : Content → Bool
+is_readable contents.Bytes = false
+is_readable contents.Text = true
+is_readable contents.Program = true
+
+-- whether a file is the readable form of one that stands beside it
+abbrev pub is_second : AddedFolder → Text → SaidPath → Bool
+is_second folder path said = is_readable said.file.content && has_file_beside folder.entries path
+
+-- A file: its path says one; it is not the readable form of one that stands beside it; the volume has its type; and files
+-- and directories may have the names.
+pub data IsFileVerdict (folder : AddedFolder) (path : Text) : Verdict → Type 0 where
+  no_path : ((said : SaidPath) → ¬ SaysPath folder.file_system path said)
+      → IsFileVerdict folder path (Err refusals.Host)
+  second_form : (said : SaidPath) → SaysPath folder.file_system path said → is_second folder path said ≡ true
+      → IsFileVerdict folder path (Ok passes)
+  no_type : (said : SaidPath) → SaysPath folder.file_system path said → is_second folder path said ≡ false
+      → kind_for folder.file_system said.file.file_type ≡ None
+      → IsFileVerdict folder path (Err refusals.Type)
+  no_name : (said : SaidPath) (kind : ℕ) → SaysPath folder.file_system path said → is_second folder path said ≡ false
+      → kind_for folder.file_system said.file.file_type ≡ Some kind → may_have folder.file_system said ≡ false
+      → IsFileVerdict folder path (Err refusals.Name)
+  is_item : (said : SaidPath) (kind : ℕ) → SaysPath folder.file_system path said → is_second folder path said ≡ false
+      → kind_for folder.file_system said.file.file_type ≡ Some kind → may_have folder.file_system said ≡ true
+      → IsFileVerdict folder path (Ok (adds (item_said folder said kind)))
+
+-- ---- all entries
+
+-- a folder is left where it has entries, and passed over with a word where it has none; of everything else than files and
+-- folders the name is not looked at
+abbrev pub IsVerdictOf : AddedFolder → Text → HostKind → Verdict → Type 0
+IsVerdictOf folder path File verdict = IsFileVerdict folder path verdict
+IsVerdictOf folder path Folder verdict = IsFolderVerdict folder.file_system path leaves verdict
+IsVerdictOf folder path EmptyFolder verdict = IsFolderVerdict folder.file_system path passes verdict
+IsVerdictOf folder path Other verdict = verdict ≡ Err refusals.Host
+
+abbrev pub IsVerdict : AddedFolder → EntryView → Verdict → Type 0
+IsVerdict folder entry verdict = IsVerdictOf folder entry.path entry.kind verdict

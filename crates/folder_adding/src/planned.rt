@@ -1,0 +1,37 @@
+// The plan of a folder.
+ghost use Rattle.std.specs.Prelude.{◌≡◌};
+ghost use Rattle.folder_adding.specs.declared.planned.PlanError.TheVariants.{Memory as NoMemory};
+
+use crate::item::Item;
+use shop_replies::Refusal;
+use std::alloc::AllocError;
+use thiserror::Error;
+
+/// What is to be done with the entries of a folder whose files are added to a volume.
+#[derive(Debug, PartialEq, Eq, Drop)]
+pub struct Plan {
+    /// The files that are to be saved.
+    pub items: Vec<Item>,
+    /// For each item the number of its entry.
+    pub files: Vec<usize>,
+    /// The numbers of the entries that are passed over with a word.
+    pub passed: Vec<usize>,
+}
+
+/// Why a folder has no plan.
+#[derive(Clone, Copy, Debug, PartialEq, Eq, Error)]
+pub enum PlanError {
+    /// The first entry that is refused, by its number.
+    #[error("entry {entry} of the folder is refused")]
+    Refused { entry: usize, refusal: Refusal },
+    #[error("out of memory")]
+    Memory,
+}
+
+impl From<AllocError> for PlanError {
+    ghost from_gives = { λ _ e. e ≡ NoMemory };
+
+    fn from(_: AllocError) -> Self {
+        PlanError::Memory
+    }
+}

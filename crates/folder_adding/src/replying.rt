@@ -1,0 +1,357 @@
+// What is told of the files of a folder that are added to the volume of an image.
+ghost use Rattle.std.specs.Prelude.{◌≡◌, ◌⊎◌, ◌↔◌, ◌<◌, IfErr, IsTrue, map, OnOk, option_map, slice_index_or};
+ghost use Rattle.a2_device.specs.Device.{OnlyReads};
+ghost use Rattle.folder_adding.specs.AddReply.{
+  AddsFiles,
+  AreToldItems,
+  IsAddAnswer,
+  IsAddReply,
+  IsFolderReply,
+  IsItemsReply,
+  IsShelled,
+  TellsAdded,
+  TellsAt,
+  batch_of as items_of,
+  path_of,
+};
+ghost use Rattle.folder_adding.specs.HostEntries.{entry_view};
+ghost use Rattle.folder_adding.specs.Items.{batch_view};
+ghost use Rattle.folder_adding.specs.Plan.{plan_view};
+ghost use Rattle.folder_adding.specs.Replying.{adding_view, folder_view, numbered_may_fail, tells_device};
+ghost use Rattle.shop_changes.specs.EditRules.{edits_of};
+ghost use Rattle.shop_image.specs.ReplaceReply.{IsOpened};
+ghost use Rattle.shop_jobs.specs.Job.{addition_view, ask_view};
+ghost use Rattle.shop_jobs.specs.declared.job.FileSystem.TheVariants.{Dos as OfDos, Prodos as OfProdos};
+ghost use Rattle.shop_replies.specs.Reply.{failed, refused};
+ghost use Rattle.shop_replies.specs.Volume.{HasUnitsOf, meaning_of};
+ghost use Rattle.shop_replies.specs.declared.refusal.Failure.TheVariants as failures;
+ghost use Rattle.shop_replies.specs.declared.refusal.Refusal.TheVariants as refusals;
+ghost use Rattle.vol_format.specs.Accepted.{IsVolume};
+ghost use Rattle.vol_format.specs.Fits.{Fits};
+
+use crate::adding::{Refused, add_all};
+use crate::host_entry::HostEntry;
+use crate::host_files::HostFiles;
+use crate::item::Batch;
+use crate::numbered::NumberedFiles;
+use crate::planned::{Plan, PlanError};
+use crate::planning::plan;
+use crate::refusing::reply_at;
+use crate::telling::added_text;
+use a2_device::Device;
+use a2_media::ImageDevice;
+use disk_container::Shell;
+use dos_format::Dos33;
+use pro_dates::date;
+use pro_dir::ProDate;
+use pro_format::Prodos;
+use reserved_places::Reserved;
+use save_formats::SavableFormat;
+use shop_image::{image_bytes, volume_in};
+use shop_jobs::{AddOptions, Ask, FileSystem, Job, VolumeOptions};
+use shop_replies::{Failure, Refusal, Reply};
+use std::alloc::Global;
+use vol_check::{CheckError, check};
+
+/// A folder whose files are added to a volume.
+#[derive(Clone, Copy, Debug)]
+pub(crate) struct Folder<'a> {
+    pub file_system: FileSystem,
+    /// The directory of the volume into which they go, where one is said.
+    pub into: Option<&'a str>,
+    pub entries: &'a [HostEntry],
+    /// The date of the creation of each.
+    pub date: ProDate,
+}
+
+/// Whether a job adds the files of a folder to its volume.
+pub fn adds_files(job: &Job) -> bool
+    ensures { IsTrue result ↔ AddsFiles (ask_view job.now.ask) }
+{
+    matches!(&job.ask, Ask::Add { .. })
+}
+
+// Looks whether a volume is accepted.
+//
+// # Errors
+// The reply to one that is not, or that can't be looked at.
+fn weigh_volume<D: Device, F: SavableFormat>(
+    alloc: Global,
+    device: &mut D,
+    format: &F,
+) -> Result<(), Reply>
+    requires fits { Fits (F.meaning format.now) (D.state device.old) }
+    ensures looked { OnlyReads (tells_device result) (D.state device.old) (D.state device.new) }
+    ensures accepted { IsTrue (D.state device.old).honest
+        → OnOk result (IsVolume (F.meaning format.now) (D.state device.old).store) }
+    ensures refused { IsTrue (D.state device.old).honest → IfErr result (λ reply. reply ≡ refused refusals.Check
+        → ¬ IsVolume (F.meaning format.now) (D.state device.old).store) }
+    ensures told { IfErr result (λ reply. (reply ≡ refused refusals.Check) ⊎ (reply ≡ failed failures.Device)
+        ⊎ (reply ≡ failed failures.Memory)) }
+{
+    match check(alloc, device, format) {
+        Ok(_) => Ok(()),
+        Err(CheckError::Faults(_)) => Err(Reply::refused(Refusal::Check)),
+        Err(CheckError::Device) => Err(Reply::failed(Failure::Device)),
+        Err(CheckError::Memory) => Err(Reply::failed(Failure::Memory)),
+    }
+}
+
+// The items of a plan as they are saved.
+fn batch_of<'a>(folder: &Folder<'_>, plan: &'a Plan) -> Batch<'a>
+    ensures { batch_view result ≡ items_of (adding_view folder.now (plan_view plan.now)) }
+{
+    Batch {
+        file_system: folder.file_system,
+        date: folder.date,
+        items: plan.items.as_slice(),
+    }
+}
+
+// What is told where all items of a plan were saved, with the image that is now under the device.
+fn added_reply(alloc: Global, device: ImageDevice, folder: &Folder<'_>, plan: &Plan) -> Reply
+    ensures { (result ≡ failed failures.Memory) ⊎ TellsAdded (adding_view folder.now (plan_view plan.now))
+        (⟦<ImageDevice as Device>⟧.state device) result }
+{
+    let batch = batch_of(folder, plan);
+    match added_text(alloc, &batch, folder.entries, plan.passed.as_slice()) {
+        Ok(text) => Reply::made_telling(text, image_bytes(device)),
+        Err(_) => Reply::failed(Failure::Memory),
+    }
+}
+
+// The path of the entry of a number.
+fn path_at(entries: &[HostEntry], number: usize) -> &str
+    ensures { result.now ≡ path_of (map entry_view entries.now) number }
+{
+    match entries.get(number) {
+        Some(entry) => entry.path.as_str(),
+        None => "",
+    }
+}
+
+// The number of the entry of an item.
+fn entry_of(files: &[usize], item: usize) -> usize
+    ensures { result ≡ slice_index_or files.now item 0 }
+{
+    match files.get(item) {
+        Some(entry) => *entry,
+        None => 0,
+    }
+}
+
+// What is told of an item that was not saved.
+fn refused_reply(alloc: Global, refused: Refused, entries: &[HostEntry], files: &[usize]) -> Reply
+    ensures { TellsAt (path_of (map entry_view entries.now) (slice_index_or files.now refused.item 0)) refused.reply
+        result }
+{
+    let Refused { item, reply } = refused;
+    reply_at(alloc, path_at(entries, entry_of(files, item)), reply)
+}
+
+// Saves the items of a plan to the volume of an image, one after the other, and tells of them.
+fn save_items<F: SavableFormat, H: HostFiles>(
+    alloc: Global,
+    device: ImageDevice,
+    format: &F,
+    folder: &Folder<'_>,
+    plan: &Plan,
+    files: &mut H,
+) -> Reply
+    requires fits { Fits (F.meaning format.now) (⟦<ImageDevice as Device>⟧.state device) }
+    requires size { 0 < (⟦<ImageDevice as Device>⟧.state device).unit_size }
+    requires honest { IsTrue (⟦<ImageDevice as Device>⟧.state device).honest }
+    ensures told { (result ≡ failed failures.Memory) ⊎ AreToldItems (numbered_may_fail H.may_fail) (adding_view folder.now (plan_view plan.now)) (H.holds files.old)
+        (F.saves format.now) (F.meaning format.now) (⟦<ImageDevice as Device>⟧.state device) result }
+{
+    let mut device = device;
+    let batch = batch_of(folder, plan);
+    let mut numbered = NumberedFiles::new(plan.files.as_slice(), files);
+    match add_all(alloc, &mut device, format, &batch, &mut numbered) {
+        Ok(()) => added_reply(alloc, device, folder, plan),
+        Err(refused) => refused_reply(alloc, refused, folder.entries, plan.files.as_slice()),
+    }
+}
+
+// The same, where the volume is accepted.
+fn add_items<F: SavableFormat, H: HostFiles>(
+    alloc: Global,
+    device: ImageDevice,
+    format: &F,
+    folder: &Folder<'_>,
+    plan: &Plan,
+    files: &mut H,
+) -> Reply
+    requires fits { Fits (F.meaning format.now) (⟦<ImageDevice as Device>⟧.state device) }
+    requires size { 0 < (⟦<ImageDevice as Device>⟧.state device).unit_size }
+    requires opened { IsOpened folder.now.file_system (⟦<ImageDevice as Device>⟧.state device) }
+    ensures told { IsItemsReply (numbered_may_fail H.may_fail) (adding_view folder.now (plan_view plan.now)) (H.holds files.old)
+        (F.saves format.now) (F.meaning format.now) (⟦<ImageDevice as Device>⟧.state device) result }
+{
+    let mut device = device;
+    match weigh_volume(alloc, &mut device, format) {
+        Ok(()) => save_items(alloc, device, format, folder, plan, files),
+        Err(reply) => reply,
+    }
+}
+
+// The same of a DOS 3.3 volume, or want of memory for its format.
+fn add_to_dos<H: HostFiles>(
+    alloc: Global,
+    device: ImageDevice,
+    data_disk: bool,
+    reserved: Reserved,
+    folder: &Folder<'_>,
+    plan: &Plan,
+    files: &mut H,
+) -> Reply
+    requires units { HasUnitsOf OfDos (⟦<ImageDevice as Device>⟧.state device) }
+    requires opened { IsOpened folder.now.file_system (⟦<ImageDevice as Device>⟧.state device) }
+    ensures told { IsItemsReply (numbered_may_fail H.may_fail) (adding_view folder.now (plan_view plan.now)) (H.holds files.old)
+        (edits_of OfDos).save (meaning_of OfDos data_disk reserved) (⟦<ImageDevice as Device>⟧.state device) result }
+{
+    let Ok(format) = Dos33::new(alloc, data_disk, reserved) else {
+        return Reply::failed(Failure::Memory);
+    };
+    add_items(alloc, device, &format, folder, plan, files)
+}
+
+// The same of a ProDOS volume.
+fn add_to_prodos<H: HostFiles>(
+    alloc: Global,
+    device: ImageDevice,
+    data_disk: bool,
+    reserved: Reserved,
+    folder: &Folder<'_>,
+    plan: &Plan,
+    files: &mut H,
+) -> Reply
+    requires units { HasUnitsOf OfProdos (⟦<ImageDevice as Device>⟧.state device) }
+    requires opened { IsOpened folder.now.file_system (⟦<ImageDevice as Device>⟧.state device) }
+    ensures told { IsItemsReply (numbered_may_fail H.may_fail) (adding_view folder.now (plan_view plan.now)) (H.holds files.old)
+        (edits_of OfProdos).save (meaning_of OfProdos data_disk reserved) (⟦<ImageDevice as Device>⟧.state device)
+        result }
+{
+    let format = Prodos::new(alloc, reserved);
+    add_items(alloc, device, &format, folder, plan, files)
+}
+
+// Adds the files of a folder to the volume under a device, where each of its entries says what is to be done with it.
+fn add_folder<H: HostFiles>(
+    alloc: Global,
+    device: ImageDevice,
+    volume: VolumeOptions,
+    reserved: Reserved,
+    folder: &Folder<'_>,
+    files: &mut H,
+) -> Reply
+    requires units { HasUnitsOf volume.file_system (⟦<ImageDevice as Device>⟧.state device) }
+    requires opened { IsOpened volume.file_system (⟦<ImageDevice as Device>⟧.state device) }
+    requires same { folder.now.file_system ≡ volume.file_system }
+    ensures told { IsFolderReply (numbered_may_fail H.may_fail) (folder_view folder.now) folder.now.date (H.holds files.old)
+        (edits_of volume.file_system).save (meaning_of volume.file_system volume.data_disk reserved)
+        (⟦<ImageDevice as Device>⟧.state device) result }
+{
+    match plan(alloc, folder.file_system, folder.into, folder.entries) {
+        Ok(plan) => match volume.file_system {
+            FileSystem::Dos => add_to_dos(
+                alloc,
+                device,
+                volume.data_disk,
+                reserved,
+                folder,
+                &plan,
+                files,
+            ),
+            FileSystem::Prodos => add_to_prodos(
+                alloc,
+                device,
+                volume.data_disk,
+                reserved,
+                folder,
+                &plan,
+                files,
+            ),
+        },
+        Err(PlanError::Refused { entry, refusal }) => {
+            reply_at(
+                alloc,
+                path_at(folder.entries, entry),
+                Reply::refused(refusal),
+            )
+        }
+        Err(PlanError::Memory) => Reply::failed(Failure::Memory),
+    }
+}
+
+// Adds the files of a folder to the volume of an image, as words say it.
+fn add_to_image<H: HostFiles>(
+    alloc: Global,
+    image: Vec<u8>,
+    volume: VolumeOptions,
+    reserve: Option<&str>,
+    options: &AddOptions,
+    entries: &[HostEntry],
+    files: &mut H,
+) -> Reply
+    ensures told { IsAddReply (numbered_may_fail H.may_fail) volume (option_map (λ s. s.now) reserve.entry)
+        (addition_view options.now) (map entry_view entries.now) (H.holds files.old) image.items result }
+{
+    let Some(date) = date(options.date.as_deref()) else {
+        return Reply::refused(Refusal::Date);
+    };
+    let folder = Folder {
+        file_system: volume.file_system,
+        into: options.into.as_deref(),
+        entries,
+        date,
+    };
+    match volume_in(alloc, image, volume, reserve) {
+        Ok((device, reserved)) => add_folder(alloc, device, volume, reserved, &folder, files),
+        Err(reply) => reply,
+    }
+}
+
+// The same reply, with its image in the shell of a container, where there is one.
+fn in_shell(alloc: Global, shell: Option<&Shell>, reply: Reply) -> Reply
+    ensures { IsShelled (option_map (λ s. s.now) shell.entry) reply result }
+{
+    match shell {
+        Some(shell) => reply.in_shell(alloc, shell),
+        None => reply,
+    }
+}
+
+/// The reply to a job that adds the files of a folder to the volume of an image, with the bytes of that, or of the
+/// payload of a container with this shell. These are the entries of the folder, and `files` has a file for each number
+/// of an entry; one of them is in memory at a time.
+///
+/// Of several refusals the first comes in this order: `Date`; `Reserve`; `Length`; `Host`, `Type` or `Name` of the
+/// first entry that is refused, before a file is read; `Check`; of each file in turn `InputTooLong`, `Text` and those
+/// of a saving. Those of an entry have its path behind them. An image comes where all were added.
+pub fn add_reply<H: HostFiles>(
+    alloc: Global,
+    job: &Job,
+    image: Vec<u8>,
+    entries: &[HostEntry],
+    files: &mut H,
+    shell: Option<&Shell>,
+) -> Reply
+    requires job { AddsFiles (ask_view job.now.ask) }
+    ensures told { IsAddAnswer (numbered_may_fail H.may_fail) (ask_view job.now.ask) (map entry_view entries.now)
+        (H.holds files.old) image.items (option_map (λ s. s.now) shell.entry) result }
+{
+    match &job.ask {
+        Ask::Add {
+            volume,
+            reserve,
+            options,
+            ..
+        } => {
+            let reserve = reserve.as_deref();
+            let reply = add_to_image(alloc, image, *volume, reserve, options, entries, files);
+            in_shell(alloc, shell, reply)
+        }
+        _ => unreachable!(),
+    }
+}

@@ -1,0 +1,90 @@
+// The words of files that are added.
+use super::{asks, refuses};
+use a2_device::Order;
+use shop_jobs::{AddOptions, Ask, FileSystem, VolumeOptions};
+use shop_words::WordsFault;
+use std::alloc::{AllocError, Global};
+use std::process::Abort;
+use std::test::Fail;
+
+const ADD_USAGE: &str = "Usage: a2shop add ";
+
+/// A text that may be left out, as one of its own.
+fn text(alloc: Global, word: Option<&str>) -> Result<Option<String>, AllocError> {
+    match word {
+        Some(word) => Ok(Some(word.to_string(alloc)?)),
+        None => Ok(None),
+    }
+}
+
+/// The words of a line add the files of a folder, files, to a volume of a.po, for new.
+fn adds(
+    rt: &impl Abort,
+    alloc: Global,
+    line: &str,
+    volume: VolumeOptions,
+    into: Option<&str>,
+    date: Option<&str>,
+    reserve: Option<&str>,
+) -> Result<(), WordsFault> {
+    let ask = Ask::Add {
+        volume,
+        reserve: text(alloc, reserve)?,
+        options: AddOptions {
+            from: "files".to_string(alloc)?,
+            into: text(alloc, into)?,
+            date: text(alloc, date)?,
+        },
+        out: "new".to_string(alloc)?,
+    };
+    asks(rt, alloc, line, "a.po", ask)
+}
+
+#[test]
+fn files_are_added_by_their_words(rt: HostRuntime) -> Result<(), Fail> {
+    let alloc = rt.alloc();
+    let plain = VolumeOptions {
+        file_system: FileSystem::Prodos,
+        order: Order::Prodos,
+        data_disk: false,
+    };
+    let line = "add a.po --fs prodos --order prodos --from files --out new";
+    adds(&rt, alloc, line, plain, None, None, None)?;
+    let line =
+        "add --into SUB/INNER --date 1986-05-01T12:30 a.po --reserve 7,280 --out new --from files \
+        --order prodos --fs prodos";
+    let (into, date) = (Some("SUB/INNER"), Some("1986-05-01T12:30"));
+    adds(&rt, alloc, line, plain, into, date, Some("7,280"))?;
+    let disk = VolumeOptions {
+        file_system: FileSystem::Dos,
+        order: Order::Nibble,
+        data_disk: true,
+    };
+    let line = "add a.po --data-disk --fs dos --order nibble --from files --out new";
+    adds(&rt, alloc, line, disk, None, None, None)?;
+    Ok(())
+}
+
+#[test]
+fn words_that_add_no_files_are_refused(rt: HostRuntime) {
+    for (line, wrong) in [
+        ("add a.po --fs dos --order dos --out new", "--from"),
+        ("add a.po --fs dos --order dos --from files", "--out"),
+        ("add a.po --order dos --from files --out new", "--fs"),
+        ("add --fs dos --order dos --from files --out new", "image"),
+        (
+            "add a.po --fs dos --order dos --from files --out new --in-place",
+            "--in-place",
+        ),
+        (
+            "add a.po --fs dos --order dos --from files --out new --into SUB",
+            "the argument '--into <into>' can only be used with '--fs prodos'",
+        ),
+        (
+            "add a.po --fs dos --order dos --from files --from more --out new",
+            "--from",
+        ),
+    ] {
+        refuses(&rt, rt.alloc(), line, wrong, ADD_USAGE);
+    }
+}
