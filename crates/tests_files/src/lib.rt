@@ -11,6 +11,8 @@ mod additions;
 #[cfg(test)]
 mod deletions;
 #[cfg(test)]
+mod directories;
+#[cfg(test)]
 mod dos_listings;
 #[cfg(test)]
 mod dos_reads;

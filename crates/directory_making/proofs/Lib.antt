@@ -1,0 +1,16 @@
+pub mod LeafBlocks
+pub mod LeafTrees
+pub mod NewDirectories
+pub mod LeafPaths
+pub mod LeafDirectories
+pub mod LeafLaws
+pub mod NewBytes
+pub mod PathParts
+pub mod AvailableBlocks
+pub mod EnteredEntries
+pub mod Made
+pub mod MadeDevice
+pub mod TwoWrites
+pub mod PathStarts
+pub mod BlockBytes
+pub mod Refusals
