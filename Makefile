@@ -13,7 +13,7 @@ SOURCES := $(shell bash tests/files | tr '\0' '\n' | grep -E '^(crates/|crates\.
 
 all: a2shop
 
-# A run of the gate leaves the program too, and what it has proved is not proved again.
+# A run of the gate leaves the program too.
 a2shop: $(SOURCES)
 	@echo "proving the program and what it stands on; build.log has what the prover says"
 	@bash tests/gate program > build.log 2>&1 || { tail -n 40 build.log; exit 1; }
