@@ -98,12 +98,13 @@ look_view (looks.Verify from reclaim) = Verify (string_bytes from) reclaim
 -- what is changed of a volume: of its order whether lost places are reclaimed, after how many writes to stop, and the
 -- path of the certificate's file; of a file its name and its edit; of a new file its name, what is said of it, the form in
 -- which it is given, the path of the file that gives it, and whether it takes the place of a file that has the name; or
--- that its lost places are marked free
+-- that its lost places are marked free; of a new directory its path, and its date where one is said
 pub data ChangeView : Type 0 where
   Optimize : Bool → Option ℕ → Option Text → ChangeView
   EditOf : FileNameView → EditView → ChangeView
   Save : Text → AttributesView → Option GivenForm → Text → Bool → ChangeView
   Reclaim : ChangeView
+  MakeDirectory : Text → Option Text → ChangeView
 
 abbrev pub change_view : Change → ChangeView
 change_view (changes.Optimize reclaim stop_after cert) = Optimize reclaim stop_after (option_map string_bytes cert)
@@ -111,6 +112,7 @@ change_view (changes.Edit name edit) = EditOf (file_name_view name) (edit_view e
 change_view (changes.Save name attributes form from replace) =
     Save (string_bytes name) (attributes_view attributes) form (string_bytes from) replace
 change_view changes.Reclaim = Reclaim
+change_view (changes.MakeDirectory path date) = MakeDirectory (string_bytes path) (option_map string_bytes date)
 
 -- a conversion
 pub record ConversionView : Type 0 where

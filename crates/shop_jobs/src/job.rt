@@ -198,6 +198,13 @@ pub enum Change {
     },
     /// Its lost places are marked free.
     Reclaim,
+    /// A new directory is made in it.
+    MakeDirectory {
+        /// The path of the directory in the volume.
+        path: String,
+        /// The date and time of its creation, as they are said.
+        date: Option<String>,
+    },
 }
 
 /// What is said of a new volume by its file system.
