@@ -65,6 +65,11 @@ abbrev pub IsNoDirectory : List Entry → Option (List ℕ) → Type 0
 IsNoDirectory all None = ⊥
 IsNoDirectory all (Some path) = (number : ℕ) → number < length all → is_directory_named all path number ≡ false
 
+-- Which directory of the volume has a path: the first of those that have it, by its key block, or that none has it.
+abbrev pub IsDirectoryAt : List (List ℕ) → List ℕ → Option ℕ → Type 0
+IsDirectoryAt store path (Some key) = (tree : Tree) × Describes store tree × IsFirstDirectory tree.entries path key
+IsDirectoryAt store path None = (tree : Tree) × Describes store tree × IsNoDirectory tree.entries (Some path)
+
 -- The directory to which a path leads, among those of the volume, is so.
 pub record HasDirectory (store : List (List ℕ)) (path : List ℕ) (Is : Tree → ℕ → Type 0) : Type 0 where
   pub tree : Tree

@@ -14,4 +14,6 @@ mod pro;
 mod target;
 
 pub use format::SavableFormat;
+pub use paths::last_name;
+pub use pro::directory_at;
 pub use target::{Attributes, Extent, Slot, Target};

@@ -34,8 +34,8 @@ fn name_start(path: &[u8]) -> usize
     start
 }
 
-// The last name of a path.
-pub(crate) fn last_name(path: &[u8]) -> &[u8]
+/// The last name of a path: what stands behind its last slash.
+pub fn last_name(path: &[u8]) -> &[u8]
     ensures { result.now ≡ last_name path.now }
 {
     &path[name_start(path)..]
@@ -50,7 +50,7 @@ fn is_directory_named<A: Allocator>(walked: &VolumeDir<A>, path: &[u8], number: 
 }
 
 // The key block of the first subdirectory with a path.
-fn find_directory<A: Allocator>(walked: &VolumeDir<A>, path: &[u8]) -> Option<u32>
+pub(crate) fn find_directory<A: Allocator>(walked: &VolumeDir<A>, path: &[u8]) -> Option<u32>
     ensures some { IfSome result (IsFirstDirectory (directory_of walked.now).entries path.now) }
     ensures none { IfNone result (IsNoDirectory (directory_of walked.now).entries (Some path.now)) }
 {

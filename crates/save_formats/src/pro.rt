@@ -26,9 +26,9 @@ ghost use Rattle.pro_dir.specs.Writes.{entry_bytes, slot_offset, with_bytes};
 ghost use Rattle.edit_formats.specs.ProNames.{is_pro_name};
 ghost use Rattle.edit_formats.specs.Refusal.{told_device};
 ghost use Rattle.edit_formats.specs.Renamed.{IsReadRefusal};
-ghost use Rattle.save_formats.specs.ProSaves.{last_name, new_file};
+ghost use Rattle.save_formats.specs.ProSaves.{last_name, new_file, IsDirectoryAt};
 
-use crate::paths::{directory_above, is_in_use, last_name};
+use crate::paths::{directory_above, find_directory, is_in_use, last_name};
 use crate::{Attributes, Extent, SavableFormat, Slot, Target};
 use a2_device::{Device, PartKind};
 use edit_formats::{
@@ -70,6 +70,35 @@ fn walk_directories<D: Device, A: Allocator + Copy>(
     match VolumeDir::walk(alloc, device) {
         Ok(walked) => Ok(walked),
         Err(error) => Err(refusal(error)),
+    }
+}
+
+/// The key block of the first directory of a ProDOS volume that has a path, if one has. The letters of the given path are
+/// taken as capitals.
+///
+/// # Errors
+/// `Device` where a read fails; `Memory`; `Check` where a device tells of directories that are none.
+pub fn directory_at<D: Device, A: Allocator + Copy>(
+    alloc: A,
+    device: &mut D,
+    path: &[u8],
+) -> Result<Option<u32>, EditError>
+    requires unit { (D.state device.old).unit_size ≡ 512 }
+    requires places { 16 ≤ (D.state device.old).places }
+
+    // every device
+    ensures device { OnlyReads (told_device result) (D.state device.old) (D.state device.new) }
+    ensures refused { IfErr result IsReadRefusal }
+
+    // an honest device
+    ensures found { IsTrue (D.state device.old).honest
+        → IfOk result (IsDirectoryAt (D.state device.old).store path.now) }
+    ensures described { (tree : Tree) → IsTrue (D.state device.old).honest → Describes (D.state device.old).store tree
+        → result ≢ Err EditError.Check }
+{
+    match walk_directories(alloc, device) {
+        Ok(walked) => Ok(find_directory(&walked, path)),
+        Err(error) => Err(error),
     }
 }
 
