@@ -11,6 +11,7 @@ pub mod Plans
 pub mod NewPlaces
 pub mod Elsewhere
 pub mod PlacedWrites
+mod ReadVolumes
 pub mod Savings
 pub mod MadeSaving
 pub mod EditedStores

@@ -11,7 +11,8 @@
 //! body as it is given and that of a table as the format builds it (`specs/Parts.antt`, `building`). Its entry gets the
 //! slot to which the path leads (`specs/Slots.antt`, `slots`). The writes are all made ready (`specs/Placing.antt`,
 //! `preparing`) before the first is made (`saving`). What saving leaves and why it is refused is told by
-//! `specs/Saved.antt`.
+//! `specs/Saved.antt`. A saving says whether it is known that the volume is accepted (`acceptance`): where nothing is
+//! known, the volume is checked first, and else only its header, directory and map are read (`accepting`).
 //!
 //! Lost places are marked free by one write for each unit of the map that has marks of them, and nothing else is
 //! changed (`reclaiming`). What these writes are and what they leave is told by `specs/Reclaimed.antt`.
@@ -20,6 +21,8 @@
 //! was; where a read or a write fails, the files are those of before or those of after.
 #![tactic(auto)]
 
+mod acceptance;
+mod accepting;
 mod answers;
 mod building;
 mod deleting;
@@ -33,6 +36,8 @@ mod reclaiming;
 mod saving;
 mod slots;
 
+pub use acceptance::Acceptance;
+pub use accepting::accepted_volume;
 pub use answers::{a_deletion_has_one_answer, a_rename_has_one_answer};
 pub use building::part_writes;
 pub use deleting::delete;

@@ -18,22 +18,26 @@ ghost use Rattle.file_edits.specs.Saved.{
   HasFewPlaces,
 };
 
+use crate::acceptance::Acceptance;
+use crate::accepting::accepted_volume;
 use crate::given::NewFile;
 use crate::preparing::prepare;
 use a2_device::Device;
 use edit_formats::{EditError, write_all};
 use save_formats::{Attributes, SavableFormat};
 use std::alloc::Allocator;
-use vol_check::check;
 
 // Saves a new file; all writes are made ready before the first.
 fn save_new<D: Device, F: SavableFormat, A: Allocator + Copy>(
     alloc: A,
     device: &mut D,
     format: &F,
+    acceptance: Acceptance,
     file: &NewFile<'_>,
 ) -> Result<(), EditError>
     requires fits { Fits (F.meaning format.now) (D.state device.old) }
+    requires accepted { acceptance ≡ Acceptance.Known → IsTrue (D.state device.old).honest
+        → IsVolume (F.meaning format.now) (D.state device.old).store }
     requires units { HasUnitsOf (F.meaning format.now) file.now }
 
     ensures edited { HasEdited (AreWritesOf (saving_of (F.meaning format.now) (F.saves format.now)
@@ -44,8 +48,8 @@ fn save_new<D: Device, F: SavableFormat, A: Allocator + Copy>(
     ensures told { IsTrue (D.state device.old).honest
         → IsToldOf (saving_of (F.meaning format.now) (F.saves format.now) (D.state device.old).store file.now) result }
 {
-    let checked = check(alloc, device, format)?;
-    let writes = prepare(alloc, device, format, checked.volume(), file)?;
+    let volume = accepted_volume(alloc, device, format, acceptance)?;
+    let writes = prepare(alloc, device, format, &volume, file)?;
     write_all(device, writes.as_slice())
 }
 
@@ -53,6 +57,7 @@ fn save_new<D: Device, F: SavableFormat, A: Allocator + Copy>(
 /// unit of the volume; `stored` says of each whether it is stored or a hole. The parts of the file get the first free
 /// places, in the order of the available places, and its entry the first free slot of its directory. The units are
 /// written first, then the marks of their places, then the entry. All writes are prepared before the first is made.
+/// Where it is known that the volume is accepted, the parts of its files are not walked first.
 ///
 /// # Errors
 /// Of several the first in this order: `Check` where the volume is not accepted; `NotFound` where it has no such
@@ -64,12 +69,15 @@ pub fn save<D: Device, F: SavableFormat, A: Allocator + Copy>(
     alloc: A,
     device: &mut D,
     format: &F,
+    acceptance: Acceptance,
     path: &[u8],
     attributes: &Attributes,
     stored: &[bool],
     units: &[u8],
 ) -> Result<(), EditError>
     requires fits { Fits (F.meaning format.now) (D.state device.old) }
+    requires accepted { acceptance ≡ Acceptance.Known → IsTrue (D.state device.old).honest
+        → IsVolume (F.meaning format.now) (D.state device.old).store }
     requires units { (F.meaning format.now).unit_size * length stored.now ≡ length units.now }
 
     // every device
@@ -109,5 +117,5 @@ pub fn save<D: Device, F: SavableFormat, A: Allocator + Copy>(
         stored,
         units,
     };
-    save_new(alloc, device, format, &file)
+    save_new(alloc, device, format, acceptance, &file)
 }

@@ -1,7 +1,6 @@
 use Rattle.std.proofs.Common.{◌≡◌, ◌∙◌, List, ap, sym, subst, refl, map, false, IsTrue}
 use Rattle.a2_device.specs.Device.{DeviceState}
 use Rattle.a2_device.specs.Reading.{then_reads}
-use Rattle.vol_check.specs.Told.{volume_of}
 use Rattle.vol_format.specs.Accepted.{IsAccepted}
 use Rattle.vol_laws.specs.Writes.{Write}
 use Rattle.edit_formats.specs.Prepared.{write_of}
@@ -14,20 +13,18 @@ returns-clause-edited g c =
     let format = c.args.format.now in
     let meaning = g.F.Format.meaning format in
     let old = g.D.Device.state c.args.device.now in
-    let mid = g.D.Device.state c.check.new.device in
+    let mid = g.D.Device.state c.accepted_volume.new.device in
     let read = g.D.Device.state c.prepare.new.device in
     let new = g.D.Device.state c.write_all.new.device in
-    let checked = c.in_ok-checked.ensures in
-    let directory = g.F.Format.directory format (volume_of c.in_ok-checked.checked) in
+    let volume = c.in_ok-volume.ensures in
+    let directory = g.F.Format.directory format c.in_ok-volume.volume in
     let IsMade : List Write → Type 0 = λ made. made ≡ map write_of c.as_slice.result.now in
     let IsEdit : DeviceState → List Write → Type 0 = λ device. AreWritesOf (saving_of meaning (g.F.SavableFormat.saves format) device.store c.args.file.now) in
     edited_as c.write_all.result old new IsMade (IsEdit old)
     (λ honest made is.
-    let kept = checked.device.kept honest refl in
-    let accepted : IsAccepted meaning (g.F.Format.directory format c.volume.result.now) mid.store =
-    subst (λ v. IsAccepted meaning (g.F.Format.directory format v) mid.store) (sym c.volume.ensures)
-    (subst (λ (d : DeviceState). IsAccepted meaning directory d.store) (sym kept) (checked.accepted honest)) in
+    let kept = volume.device.kept honest refl in
+    let accepted : IsAccepted meaning directory mid.store = subst (λ (d : DeviceState). IsAccepted meaning directory d.store) (sym kept) (volume.accepted honest) in
     subst (IsEdit old) (sym (is ∙ ap (map write_of) c.as_slice.ensures.value))
     (subst (λ (d : DeviceState). IsEdit d (map write_of c.in_ok-writes.writes.items)) kept
-    (c.in_ok-writes.ensures.saves (subst IsTrue (sym checked.device.same.honest) honest) accepted)))
-    (edited_after c.write_all.result old new IsMade read (then_reads false old mid read checked.device c.in_ok-writes.ensures.device) c.write_all.ensures.edited)
+    (c.in_ok-writes.ensures.saves (subst IsTrue (sym volume.device.same.honest) honest) accepted)))
+    (edited_after c.write_all.result old new IsMade read (then_reads false old mid read volume.device c.in_ok-writes.ensures.device) c.write_all.ensures.edited)
