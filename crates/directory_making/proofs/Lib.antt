@@ -11,6 +11,5 @@ pub mod EnteredEntries
 pub mod Made
 pub mod MadeDevice
 pub mod TwoWrites
-pub mod PathStarts
 pub mod BlockBytes
 pub mod Refusals

@@ -5,3 +5,5 @@ pub mod Making
 pub mod Slots
 pub mod Made
 pub mod Preparing
+pub mod Directories
+pub mod lemmas

@@ -4,10 +4,9 @@ ghost use Rattle.edit_formats.specs.ProNames.{is_pro_name};
 ghost use Rattle.save_formats.specs.ProSaves.{last_name};
 ghost use Rattle.directory_making.specs.NewDirectory.{behind_date, directory_block, up_to_name};
 
-use crate::names::last_name;
 use edit_formats::pro_name;
 use pro_dir::ProDate;
-use save_formats::Slot;
+use save_formats::{Slot, last_name};
 use std::alloc::{AllocError, Allocator};
 
 /// What a header has behind its name, up to its date.

@@ -9,11 +9,10 @@ ghost use Rattle.save_formats.specs.ProSaves.{last_name};
 ghost use Rattle.directory_making.specs.NewDirectory.{entering, new_entry};
 ghost use Rattle.directory_making.specs.Preparing.{IsPlacedWithin};
 
-use crate::names::last_name;
 use a2_device::Device;
 use edit_formats::{EditError, FileCount, Prepared, copy_unit, counted_writes, pro_name};
 use pro_dir::{NewFile, ProDate, encode};
-use save_formats::Slot;
+use save_formats::{Slot, last_name};
 use std::alloc::Allocator;
 
 /// The storage type and the type of a directory, and the access bits of a new file: it may be destroyed, renamed,

@@ -2,12 +2,10 @@
 ghost use Rattle.std.specs.Prelude.{◌≡◌, map, Err, IfErr, IfOk, IsTrue, OnOk};
 ghost use Rattle.a2_device.specs.Device.{OnlyReads};
 ghost use Rattle.vol_format.specs.Fits.{Fits};
-ghost use Rattle.vol_format.specs.Accepted.{IsAccepted, IsVolume};
+ghost use Rattle.vol_format.specs.Accepted.{IsVolume};
 ghost use Rattle.pro_format.specs.Pro.{pro_meaning};
-ghost use Rattle.vol_check.specs.Told.{volume_of};
 ghost use Rattle.edit_formats.specs.Prepared.{write_of};
 ghost use Rattle.edit_formats.specs.Refusal.{told_device};
-ghost use Rattle.edit_formats.specs.Renamed.{IsReadRefusal};
 ghost use Rattle.edit_formats.specs.Writes.{HasEdited};
 ghost use Rattle.save_formats.specs.ProSaves.{pro_saves};
 ghost use Rattle.file_edits.specs.Fitting.{AreWritesFor};
@@ -26,42 +24,23 @@ ghost use Rattle.directory_making.specs.Made.{
 use crate::preparing::prepare;
 use a2_device::Device;
 use edit_formats::{EditError, Prepared, write_all};
+use file_edits::{Acceptance, accepted_volume};
 use pro_dir::ProDate;
 use pro_format::Prodos;
 use std::alloc::Allocator;
-use vol_check::{Checked, check};
-use vol_format::Format;
-
-// The volume, if it is accepted.
-fn checked_volume<D: Device, F: Format, A: Allocator + Copy>(
-    alloc: A,
-    device: &mut D,
-    format: &F,
-) -> Result<Checked<F::Volume, A>, EditError>
-    requires fits { Fits (F.meaning format.now) (D.state device.old) }
-
-    ensures device { OnlyReads (told_device result) (D.state device.old) (D.state device.new) }
-    ensures refused { IfErr result IsReadRefusal }
-    ensures places { IfOk result (λ checked. (F.directory format.now (volume_of checked)).places
-        ≡ (D.state device.old).places) }
-    ensures accepted { IsTrue (D.state device.old).honest
-        → IfOk result (λ checked.
-        IsAccepted (F.meaning format.now) (F.directory format.now (volume_of checked)) (D.state device.old).store) }
-    ensures check { IsTrue (D.state device.old).honest → result ≡ Err EditError.Check
-        → IsVolume (F.meaning format.now) (D.state device.old).store → ⊥ }
-{
-    Ok(check(alloc, device, format)?)
-}
 
 // The writes that make a directory.
 fn checked_writes<D: Device, B: Allocator + Copy, A: Allocator + Copy>(
     alloc: A,
     device: &mut D,
     format: &Prodos<B>,
+    acceptance: Acceptance,
     path: &[u8],
     date: ProDate,
 ) -> Result<Vec<Prepared<A>, A>, EditError>
     requires fits { Fits (pro_meaning format.now) (D.state device.old) }
+    requires accepted { acceptance ≡ Acceptance.Known → IsTrue (D.state device.old).honest
+        → IsVolume (pro_meaning format.now) (D.state device.old).store }
 
     ensures device { OnlyReads (told_device result) (D.state device.old) (D.state device.new) }
     ensures refused { IfErr result IsMakingRefusal }
@@ -74,9 +53,9 @@ fn checked_writes<D: Device, B: Allocator + Copy, A: Allocator + Copy>(
     ensures check { IsTrue (D.state device.old).honest → result ≡ Err EditError.Check
         → IsVolume (pro_meaning format.now) (D.state device.old).store → ⊥ }
 {
-    match checked_volume(alloc, device, format) {
+    match accepted_volume(alloc, device, format, acceptance) {
         Err(error) => Err(error),
-        Ok(checked) => prepare(alloc, device, format, checked.volume(), path, date),
+        Ok(volume) => prepare(alloc, device, format, &volume, path, date),
     }
 }
 
@@ -85,10 +64,13 @@ fn make_new<D: Device, B: Allocator + Copy, A: Allocator + Copy>(
     alloc: A,
     device: &mut D,
     format: &Prodos<B>,
+    acceptance: Acceptance,
     path: &[u8],
     date: ProDate,
 ) -> Result<(), EditError>
     requires fits { Fits (pro_meaning format.now) (D.state device.old) }
+    requires accepted { acceptance ≡ Acceptance.Known → IsTrue (D.state device.old).honest
+        → IsVolume (pro_meaning format.now) (D.state device.old).store }
 
     ensures edited { HasEdited (IsMaking (making format.now (D.state device.old).store path.now date))
         result (D.state device.old) (D.state device.new) }
@@ -98,7 +80,7 @@ fn make_new<D: Device, B: Allocator + Copy, A: Allocator + Copy>(
     ensures told { IsTrue (D.state device.old).honest
         → IfErr result (IsTold (making format.now (D.state device.old).store path.now date)) }
 {
-    match checked_writes(alloc, device, format, path, date) {
+    match checked_writes(alloc, device, format, acceptance, path, date) {
         Err(error) => Err(error),
         Ok(writes) => write_all(device, writes.as_slice()),
     }
@@ -107,7 +89,8 @@ fn make_new<D: Device, B: Allocator + Copy, A: Allocator + Copy>(
 /// Makes an empty directory of one block under a path that no entry has. The block gets the first free place, and its
 /// entry the first free slot of the directory before the last slash of the path, which must be there; a path without a
 /// slash is of the volume's directory. The block is written first, then the unit of the map in which its place is marked
-/// used, then the entry with its directory's count of files. All writes are prepared before the first is made.
+/// used, then the entry with its directory's count of files. All writes are prepared before the first is made. Where it
+/// is known that the volume is accepted, the parts of its files are not walked first.
 ///
 /// # Errors
 /// Of several the first in this order: `Check` where the volume is not accepted; `NotFound` where it has no such
@@ -118,10 +101,13 @@ pub fn make_directory<D: Device, B: Allocator + Copy, A: Allocator + Copy>(
     alloc: A,
     device: &mut D,
     format: &Prodos<B>,
+    acceptance: Acceptance,
     path: &[u8],
     date: ProDate,
 ) -> Result<(), EditError>
     requires fits { Fits (pro_meaning format.now) (D.state device.old) }
+    requires accepted { acceptance ≡ Acceptance.Known → IsTrue (D.state device.old).honest
+        → IsVolume (pro_meaning format.now) (D.state device.old).store }
 
     // every device
     ensures edited { HasEdited (IsMaking (making format.now (D.state device.old).store path.now date))
@@ -146,5 +132,5 @@ pub fn make_directory<D: Device, B: Allocator + Copy, A: Allocator + Copy>(
     ensures volume_full { IsTrue (D.state device.old).honest → result ≡ Err EditError.VolumeFull
         → HasNoPlace (making format.now (D.state device.old).store path.now date) }
 {
-    make_new(alloc, device, format, path, date)
+    make_new(alloc, device, format, acceptance, path, date)
 }

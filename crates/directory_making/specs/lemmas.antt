@@ -1,0 +1,2 @@
+pub mod DosKeeps
+pub mod ProKeeps
