@@ -10,7 +10,7 @@ use Rattle.shop_words.specs.declared.auto.StandIn.{StandIn}
 use Rattle.shop_words.specs.declared.auto.StandIn.TheVariants.{Auto}
 use Rattle.shop_words.specs.Auto.{option_word, stand_in_word}
 use Rattle.shop_words.specs.Front.{Text}
-use Rattle.shop_words.specs.LeftOut.{asks_to_fill_in, completed, ends_options, filled_in, gives, is_auto_word, is_in_place_word, is_option_of, leaves_out, may_leave_both, may_leave_out, other_completed, takes_auto, with_option}
+use Rattle.shop_words.specs.LeftOut.{asks_to_fill_in, completed, ends_options, filled_in, gives, is_auto_word, is_in_place_word, is_option_of, leaves_out, may_leave_both, may_leave_out, may_leave_unless_in_place, other_completed, takes_auto, with_option}
 
 pub any-map : {A B : Type 0} (p : B → Bool) (f : A → B) (xs : List A) → list_any p (map f xs) ≡ list_any (λ x. p (f x)) xs
 any-map p f [] = refl
@@ -128,14 +128,14 @@ module _ {S : Type 0} (view : S → Text) (words : List S) (n : ℕ) where
   no_command past so_far = sym (so_far ∙ ap (λ (later : List S). takes_auto (map view later)) (drop_all n words past))
 
 -- a command that may leave both out where nothing is changed in place
-pub left_to_image : {S : Type 0} (view : S → Text) (words : List S) (command : S) (shown named : Text) (both reclaims placed : Bool)
+pub left_to_image : {S : Type 0} (view : S → Text) (words : List S) (command : S) (shown named : Text) (both leaves placed : Bool)
     → Some command ≡ slice_get words 0 → shown ≡ view command → named ≡ view command → both ≡ may_leave_both shown → both ≡ false
-    → reclaims ≡ bytes_eq named (codes "reclaim") → reclaims ≡ true
+    → leaves ≡ may_leave_unless_in_place named → leaves ≡ true
     → placed ≡ list_any (λ word. is_in_place_word (view word)) words → not placed ≡ may_leave_out (map view words)
-left_to_image view [] command shown named both reclaims placed first is is_named both_is fails reclaims_is holds placed_is = absurd (cc)
-left_to_image view (word ∷ words) command shown named both reclaims placed first is is_named both_is fails reclaims_is holds placed_is =
+left_to_image view [] command shown named both leaves placed first is is_named both_is fails leaves_is holds placed_is = absurd (cc)
+left_to_image view (word ∷ words) command shown named both leaves placed first is is_named both_is fails leaves_is holds placed_is =
     let same : command ≡ word = cc in
     let no : may_leave_both (view word) ≡ false = ap may_leave_both (sym (is ∙ ap view same)) ∙ sym both_is ∙ fails in
-    let yes : bytes_eq (view word) (codes "reclaim") ≡ true = ap (λ text. bytes_eq text (codes "reclaim")) (sym (is_named ∙ ap view same)) ∙ sym reclaims_is ∙ holds in
+    let yes : may_leave_unless_in_place (view word) ≡ true = ap may_leave_unless_in_place (sym (is_named ∙ ap view same)) ∙ sym leaves_is ∙ holds in
     ap not (placed_is ∙ sym (any-map is_in_place_word view (word ∷ words)))
     ∙ sym (ap₂ (λ a b. a || (b && not (list_any is_in_place_word (map view (word ∷ words))))) no yes)

@@ -36,6 +36,7 @@ pub mod SurveyLine
 pub mod CreateLine
 pub mod ReclaimLine
 pub mod AddLine
+pub mod MkdirLine
 pub mod Walk
 pub mod Left
 pub mod LeftOutLemmas

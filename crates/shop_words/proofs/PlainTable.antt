@@ -4,7 +4,7 @@ use Rattle.std.proofs.lemmas.List.Elements.{All-contains, All-cons}
 use Rattle.clap.specs.Faults.{is_simple_and_free}
 use Rattle.clap.specs.Simple.{is_simple, subcommand_of}
 use Rattle.clap.specs.Takes.{takes}
-use Rattle.shop_words.specs.Table.{Text, FormView, catalog_form, list_form, compare_form, map_form, check_form, read_form, extract_form, convert_form, plan_form, optimize_form, lock_form, unlock_form, delete_form, rename_form, save_form, verify_form, identify_form, wrap_form, unwrap_form, survey_form, create_form, reclaim_form, add_form, forms}
+use Rattle.shop_words.specs.Table.{Text, FormView, catalog_form, list_form, compare_form, map_form, check_form, read_form, extract_form, convert_form, plan_form, optimize_form, lock_form, unlock_form, delete_form, rename_form, save_form, verify_form, identify_form, wrap_form, unwrap_form, survey_form, create_form, reclaim_form, add_form, mkdir_form, forms}
 use Rattle.shop_words.specs.Grammar.{shop}
 use Rattle.shop_words.specs.Plain.{Use, IsPlainLine, line_words}
 use Rattle.shop_jobs.specs.Job.{Lock, Unlock, Delete}
@@ -31,6 +31,7 @@ use Rattle.shop_words.proofs.SurveyLine.{survey_defaults, survey_known, is_some-
 use Rattle.shop_words.proofs.CreateLine.{create_defaults, create_known, is_some-line_job-create}
 use Rattle.shop_words.proofs.ReclaimLine.{reclaim_defaults, reclaim_known, is_some-line_job-reclaim}
 use Rattle.shop_words.proofs.AddLine.{add_defaults, add_known, is_some-line_job-add}
+use Rattle.shop_words.proofs.MkdirLine.{mkdir_defaults, mkdir_known, is_some-line_job-mkdir}
 use Rattle.shop_words.proofs.UnwrapLine.{unwrap_defaults, unwrap_known, is_some-line_job-unwrap}
 
 record IsServed (f : FormView) : Type 0 where
@@ -107,31 +108,35 @@ serves_reclaim = record { known = reclaim_known; defaults = reclaim_defaults; jo
 serves_add : IsServed add_form
 serves_add = record { known = add_known; defaults = add_defaults; job = is_some-line_job-add }
 
+serves_mkdir : IsServed mkdir_form
+serves_mkdir = record { known = mkdir_known; defaults = mkdir_defaults; job = is_some-line_job-mkdir }
+
 all_served : All IsServed forms
 all_served =
-    All-cons IsServed catalog_form (list_form ∷ compare_form ∷ map_form ∷ check_form ∷ read_form ∷ extract_form ∷ convert_form ∷ plan_form ∷ optimize_form ∷ lock_form ∷ unlock_form ∷ delete_form ∷ rename_form ∷ save_form ∷ verify_form ∷ identify_form ∷ wrap_form ∷ unwrap_form ∷ survey_form ∷ create_form ∷ reclaim_form ∷ add_form ∷ []) serves_catalog
-    (All-cons IsServed list_form (compare_form ∷ map_form ∷ check_form ∷ read_form ∷ extract_form ∷ convert_form ∷ plan_form ∷ optimize_form ∷ lock_form ∷ unlock_form ∷ delete_form ∷ rename_form ∷ save_form ∷ verify_form ∷ identify_form ∷ wrap_form ∷ unwrap_form ∷ survey_form ∷ create_form ∷ reclaim_form ∷ add_form ∷ []) serves_list
-    (All-cons IsServed compare_form (map_form ∷ check_form ∷ read_form ∷ extract_form ∷ convert_form ∷ plan_form ∷ optimize_form ∷ lock_form ∷ unlock_form ∷ delete_form ∷ rename_form ∷ save_form ∷ verify_form ∷ identify_form ∷ wrap_form ∷ unwrap_form ∷ survey_form ∷ create_form ∷ reclaim_form ∷ add_form ∷ []) serves_compare
-    (All-cons IsServed map_form (check_form ∷ read_form ∷ extract_form ∷ convert_form ∷ plan_form ∷ optimize_form ∷ lock_form ∷ unlock_form ∷ delete_form ∷ rename_form ∷ save_form ∷ verify_form ∷ identify_form ∷ wrap_form ∷ unwrap_form ∷ survey_form ∷ create_form ∷ reclaim_form ∷ add_form ∷ []) serves_map
-    (All-cons IsServed check_form (read_form ∷ extract_form ∷ convert_form ∷ plan_form ∷ optimize_form ∷ lock_form ∷ unlock_form ∷ delete_form ∷ rename_form ∷ save_form ∷ verify_form ∷ identify_form ∷ wrap_form ∷ unwrap_form ∷ survey_form ∷ create_form ∷ reclaim_form ∷ add_form ∷ []) serves_check
-    (All-cons IsServed read_form (extract_form ∷ convert_form ∷ plan_form ∷ optimize_form ∷ lock_form ∷ unlock_form ∷ delete_form ∷ rename_form ∷ save_form ∷ verify_form ∷ identify_form ∷ wrap_form ∷ unwrap_form ∷ survey_form ∷ create_form ∷ reclaim_form ∷ add_form ∷ []) serves_read
-    (All-cons IsServed extract_form (convert_form ∷ plan_form ∷ optimize_form ∷ lock_form ∷ unlock_form ∷ delete_form ∷ rename_form ∷ save_form ∷ verify_form ∷ identify_form ∷ wrap_form ∷ unwrap_form ∷ survey_form ∷ create_form ∷ reclaim_form ∷ add_form ∷ []) serves_extract
-    (All-cons IsServed convert_form (plan_form ∷ optimize_form ∷ lock_form ∷ unlock_form ∷ delete_form ∷ rename_form ∷ save_form ∷ verify_form ∷ identify_form ∷ wrap_form ∷ unwrap_form ∷ survey_form ∷ create_form ∷ reclaim_form ∷ add_form ∷ []) serves_convert
-    (All-cons IsServed plan_form (optimize_form ∷ lock_form ∷ unlock_form ∷ delete_form ∷ rename_form ∷ save_form ∷ verify_form ∷ identify_form ∷ wrap_form ∷ unwrap_form ∷ survey_form ∷ create_form ∷ reclaim_form ∷ add_form ∷ []) serves_plan
-    (All-cons IsServed optimize_form (lock_form ∷ unlock_form ∷ delete_form ∷ rename_form ∷ save_form ∷ verify_form ∷ identify_form ∷ wrap_form ∷ unwrap_form ∷ survey_form ∷ create_form ∷ reclaim_form ∷ add_form ∷ []) serves_optimize
-    (All-cons IsServed lock_form (unlock_form ∷ delete_form ∷ rename_form ∷ save_form ∷ verify_form ∷ identify_form ∷ wrap_form ∷ unwrap_form ∷ survey_form ∷ create_form ∷ reclaim_form ∷ add_form ∷ []) serves_lock
-    (All-cons IsServed unlock_form (delete_form ∷ rename_form ∷ save_form ∷ verify_form ∷ identify_form ∷ wrap_form ∷ unwrap_form ∷ survey_form ∷ create_form ∷ reclaim_form ∷ add_form ∷ []) serves_unlock
-    (All-cons IsServed delete_form (rename_form ∷ save_form ∷ verify_form ∷ identify_form ∷ wrap_form ∷ unwrap_form ∷ survey_form ∷ create_form ∷ reclaim_form ∷ add_form ∷ []) serves_delete
-    (All-cons IsServed rename_form (save_form ∷ verify_form ∷ identify_form ∷ wrap_form ∷ unwrap_form ∷ survey_form ∷ create_form ∷ reclaim_form ∷ add_form ∷ []) serves_rename
-    (All-cons IsServed save_form (verify_form ∷ identify_form ∷ wrap_form ∷ unwrap_form ∷ survey_form ∷ create_form ∷ reclaim_form ∷ add_form ∷ []) serves_save
-    (All-cons IsServed verify_form (identify_form ∷ wrap_form ∷ unwrap_form ∷ survey_form ∷ create_form ∷ reclaim_form ∷ add_form ∷ []) serves_verify
-    (All-cons IsServed identify_form (wrap_form ∷ unwrap_form ∷ survey_form ∷ create_form ∷ reclaim_form ∷ add_form ∷ []) serves_identify
-    (All-cons IsServed wrap_form (unwrap_form ∷ survey_form ∷ create_form ∷ reclaim_form ∷ add_form ∷ []) serves_wrap
-    (All-cons IsServed unwrap_form (survey_form ∷ create_form ∷ reclaim_form ∷ add_form ∷ []) serves_unwrap
-    (All-cons IsServed survey_form (create_form ∷ reclaim_form ∷ add_form ∷ []) serves_survey
-    (All-cons IsServed create_form (reclaim_form ∷ add_form ∷ []) serves_create
-    (All-cons IsServed reclaim_form (add_form ∷ []) serves_reclaim
-    (All-cons IsServed add_form [] serves_add (λ k d lt. absurd (omega arith))))))))))))))))))))))))
+    All-cons IsServed catalog_form (list_form ∷ compare_form ∷ map_form ∷ check_form ∷ read_form ∷ extract_form ∷ convert_form ∷ plan_form ∷ optimize_form ∷ lock_form ∷ unlock_form ∷ delete_form ∷ rename_form ∷ save_form ∷ verify_form ∷ identify_form ∷ wrap_form ∷ unwrap_form ∷ survey_form ∷ create_form ∷ reclaim_form ∷ add_form ∷ mkdir_form ∷ []) serves_catalog
+    (All-cons IsServed list_form (compare_form ∷ map_form ∷ check_form ∷ read_form ∷ extract_form ∷ convert_form ∷ plan_form ∷ optimize_form ∷ lock_form ∷ unlock_form ∷ delete_form ∷ rename_form ∷ save_form ∷ verify_form ∷ identify_form ∷ wrap_form ∷ unwrap_form ∷ survey_form ∷ create_form ∷ reclaim_form ∷ add_form ∷ mkdir_form ∷ []) serves_list
+    (All-cons IsServed compare_form (map_form ∷ check_form ∷ read_form ∷ extract_form ∷ convert_form ∷ plan_form ∷ optimize_form ∷ lock_form ∷ unlock_form ∷ delete_form ∷ rename_form ∷ save_form ∷ verify_form ∷ identify_form ∷ wrap_form ∷ unwrap_form ∷ survey_form ∷ create_form ∷ reclaim_form ∷ add_form ∷ mkdir_form ∷ []) serves_compare
+    (All-cons IsServed map_form (check_form ∷ read_form ∷ extract_form ∷ convert_form ∷ plan_form ∷ optimize_form ∷ lock_form ∷ unlock_form ∷ delete_form ∷ rename_form ∷ save_form ∷ verify_form ∷ identify_form ∷ wrap_form ∷ unwrap_form ∷ survey_form ∷ create_form ∷ reclaim_form ∷ add_form ∷ mkdir_form ∷ []) serves_map
+    (All-cons IsServed check_form (read_form ∷ extract_form ∷ convert_form ∷ plan_form ∷ optimize_form ∷ lock_form ∷ unlock_form ∷ delete_form ∷ rename_form ∷ save_form ∷ verify_form ∷ identify_form ∷ wrap_form ∷ unwrap_form ∷ survey_form ∷ create_form ∷ reclaim_form ∷ add_form ∷ mkdir_form ∷ []) serves_check
+    (All-cons IsServed read_form (extract_form ∷ convert_form ∷ plan_form ∷ optimize_form ∷ lock_form ∷ unlock_form ∷ delete_form ∷ rename_form ∷ save_form ∷ verify_form ∷ identify_form ∷ wrap_form ∷ unwrap_form ∷ survey_form ∷ create_form ∷ reclaim_form ∷ add_form ∷ mkdir_form ∷ []) serves_read
+    (All-cons IsServed extract_form (convert_form ∷ plan_form ∷ optimize_form ∷ lock_form ∷ unlock_form ∷ delete_form ∷ rename_form ∷ save_form ∷ verify_form ∷ identify_form ∷ wrap_form ∷ unwrap_form ∷ survey_form ∷ create_form ∷ reclaim_form ∷ add_form ∷ mkdir_form ∷ []) serves_extract
+    (All-cons IsServed convert_form (plan_form ∷ optimize_form ∷ lock_form ∷ unlock_form ∷ delete_form ∷ rename_form ∷ save_form ∷ verify_form ∷ identify_form ∷ wrap_form ∷ unwrap_form ∷ survey_form ∷ create_form ∷ reclaim_form ∷ add_form ∷ mkdir_form ∷ []) serves_convert
+    (All-cons IsServed plan_form (optimize_form ∷ lock_form ∷ unlock_form ∷ delete_form ∷ rename_form ∷ save_form ∷ verify_form ∷ identify_form ∷ wrap_form ∷ unwrap_form ∷ survey_form ∷ create_form ∷ reclaim_form ∷ add_form ∷ mkdir_form ∷ []) serves_plan
+    (All-cons IsServed optimize_form (lock_form ∷ unlock_form ∷ delete_form ∷ rename_form ∷ save_form ∷ verify_form ∷ identify_form ∷ wrap_form ∷ unwrap_form ∷ survey_form ∷ create_form ∷ reclaim_form ∷ add_form ∷ mkdir_form ∷ []) serves_optimize
+    (All-cons IsServed lock_form (unlock_form ∷ delete_form ∷ rename_form ∷ save_form ∷ verify_form ∷ identify_form ∷ wrap_form ∷ unwrap_form ∷ survey_form ∷ create_form ∷ reclaim_form ∷ add_form ∷ mkdir_form ∷ []) serves_lock
+    (All-cons IsServed unlock_form (delete_form ∷ rename_form ∷ save_form ∷ verify_form ∷ identify_form ∷ wrap_form ∷ unwrap_form ∷ survey_form ∷ create_form ∷ reclaim_form ∷ add_form ∷ mkdir_form ∷ []) serves_unlock
+    (All-cons IsServed delete_form (rename_form ∷ save_form ∷ verify_form ∷ identify_form ∷ wrap_form ∷ unwrap_form ∷ survey_form ∷ create_form ∷ reclaim_form ∷ add_form ∷ mkdir_form ∷ []) serves_delete
+    (All-cons IsServed rename_form (save_form ∷ verify_form ∷ identify_form ∷ wrap_form ∷ unwrap_form ∷ survey_form ∷ create_form ∷ reclaim_form ∷ add_form ∷ mkdir_form ∷ []) serves_rename
+    (All-cons IsServed save_form (verify_form ∷ identify_form ∷ wrap_form ∷ unwrap_form ∷ survey_form ∷ create_form ∷ reclaim_form ∷ add_form ∷ mkdir_form ∷ []) serves_save
+    (All-cons IsServed verify_form (identify_form ∷ wrap_form ∷ unwrap_form ∷ survey_form ∷ create_form ∷ reclaim_form ∷ add_form ∷ mkdir_form ∷ []) serves_verify
+    (All-cons IsServed identify_form (wrap_form ∷ unwrap_form ∷ survey_form ∷ create_form ∷ reclaim_form ∷ add_form ∷ mkdir_form ∷ []) serves_identify
+    (All-cons IsServed wrap_form (unwrap_form ∷ survey_form ∷ create_form ∷ reclaim_form ∷ add_form ∷ mkdir_form ∷ []) serves_wrap
+    (All-cons IsServed unwrap_form (survey_form ∷ create_form ∷ reclaim_form ∷ add_form ∷ mkdir_form ∷ []) serves_unwrap
+    (All-cons IsServed survey_form (create_form ∷ reclaim_form ∷ add_form ∷ mkdir_form ∷ []) serves_survey
+    (All-cons IsServed create_form (reclaim_form ∷ add_form ∷ mkdir_form ∷ []) serves_create
+    (All-cons IsServed reclaim_form (add_form ∷ mkdir_form ∷ []) serves_reclaim
+    (All-cons IsServed add_form (mkdir_form ∷ []) serves_add
+    (All-cons IsServed mkdir_form [] serves_mkdir (λ k d lt. absurd (omega arith)))))))))))))))))))))))))
 
 served : (f : FormView) → Contains forms f → IsServed f
 served f at = All-contains IsServed forms f all_served at

@@ -51,7 +51,7 @@ use Rattle.shop_jobs.specs.declared.job.FileSystem.TheVariants as file_systems
 use Rattle.shop_jobs.specs.declared.job.SurveyForm.{SurveyForm}
 use Rattle.shop_jobs.specs.declared.job.SurveyForm.TheVariants as survey_forms
 use Rattle.shop_jobs.specs.declared.job.VolumeOptions.{VolumeOptions}
-use Rattle.shop_jobs.specs.Job.{AddTo, AdditionView, AskView, AttributesView, ByPath, ByStored, Catalog, ChangeOf, ChangeView, Check, Compare, Convert, Create, CreationView, Delete, DosVolume, EditOf, EditView, ExtractFrom, FileNameView, Identify, InPlace, JobView, Lock, Entries, LookAt, LookView, Map, NewVolumeView, Optimize, Plan, ProdosVolume, Read, Reclaim, Rename, Save, Survey, TargetView, ToFile, Unlock, Unwrap, Verify, Wrap, WrappingView}
+use Rattle.shop_jobs.specs.Job.{AddTo, AdditionView, AskView, AttributesView, ByPath, ByStored, Catalog, ChangeOf, ChangeView, Check, Compare, Convert, Create, CreationView, Delete, DosVolume, EditOf, EditView, ExtractFrom, FileNameView, Identify, InPlace, JobView, Lock, Entries, LookAt, LookView, MakeDirectory, Map, NewVolumeView, Optimize, Plan, ProdosVolume, Read, Reclaim, Rename, Save, Survey, TargetView, ToFile, Unlock, Unwrap, Verify, Wrap, WrappingView}
 
 -- ---- what a word names
 
@@ -356,9 +356,13 @@ abbrev pub change_of : Option ChangeView → Option VolumeOptions → Option Tar
 change_of (Some change) (Some volume) (Some target) reserve = Some (ChangeOf volume reserve change target)
 change_of _ _ _ reserve = None
 
--- a change of the volume; places to reserve are said or not
+-- a change of a volume that the words name; places to reserve are said or not
+abbrev pub change_on : Option VolumeOptions → Option ChangeView → Said → Option AskView
+change_on volume change said = change_of change volume (target_by said) (said (codes "reserve"))
+
+-- the same of the volume that they name by its file system
 abbrev pub change_by : Option ChangeView → Said → Option AskView
-change_by change said = change_of change (volume_by said) (target_by said) (said (codes "reserve"))
+change_by change said = change_on (volume_by said) change said
 
 -- how the files of the volume are put into a folder, with their readable forms where a flag says so
 abbrev pub extraction_of : Option Naming → Bool → Option ℕ → Option ExtractOptions
@@ -487,6 +491,29 @@ add_of _ _ _ reserve = None
 abbrev pub add_by : Said → Option AskView
 add_by said = add_of (volume_by said) (addition_by said) (said (codes "out")) (said (codes "reserve"))
 
+-- ---- a new directory
+
+-- the file system of a volume that has directories is ProDOS, said or left out
+abbrev pub is_prodos : Option Text → Bool
+is_prodos None = true
+is_prodos (Some word) = bytes_eq word (codes "prodos")
+
+-- a ProDOS volume of an image in an order; it is no data disk
+abbrev pub prodos_in : Option Order → Option VolumeOptions
+prodos_in order = option_map (λ o. record { file_system = file_systems.Prodos; order = o; data_disk = false }) order
+
+-- the one that the words name
+abbrev pub prodos_by : Said → Option VolumeOptions
+prodos_by said =
+    if is_prodos (said (codes "fs")) then prodos_in (option_and_then order_named (said (codes "order"))) else None
+
+-- a directory of this path is made, whose date is said or not
+abbrev pub directory_made_by : Said → Option ChangeView
+directory_made_by said = option_map (λ path. MakeDirectory path (said (codes "date"))) (said (codes "name"))
+
+abbrev pub mkdir_by : Said → Option AskView
+mkdir_by said = change_on (prodos_by said) (directory_made_by said) said
+
 -- what a command asks, by what is said under each name
 abbrev pub ask_by : Text → Said → Option AskView
 ask_by command said =
@@ -512,7 +539,8 @@ ask_by command said =
     if bytes_eq command (codes "survey") then survey_by said else
     if bytes_eq command (codes "create") then create_by said else
     if bytes_eq command (codes "reclaim") then change_by (Some Reclaim) said else
-    if bytes_eq command (codes "add") then add_by said else None
+    if bytes_eq command (codes "add") then add_by said else
+    if bytes_eq command (codes "mkdir") then mkdir_by said else None
 
 -- ---- the job
 

@@ -61,11 +61,15 @@ may_leave_both command =
     bytes_eq command (codes "list") || bytes_eq command (codes "compare") || bytes_eq command (codes "map")
     || bytes_eq command (codes "extract") || bytes_eq command (codes "wrap") || bytes_eq command (codes "add")
 
--- the words are those of such a command, or of one that changes its image, but for that in place
+-- one that changes its image may, but for that in place
+abbrev pub may_leave_unless_in_place : Text → Bool
+may_leave_unless_in_place command = bytes_eq command (codes "reclaim") || bytes_eq command (codes "mkdir")
+
+-- the words are those of such a command
 abbrev pub may_leave_out : List Text → Bool
 may_leave_out [] = false
 may_leave_out (command ∷ words) =
-    may_leave_both command || (bytes_eq command (codes "reclaim") && not (list_any is_in_place_word (command ∷ words)))
+    may_leave_both command || (may_leave_unless_in_place command && not (list_any is_in_place_word (command ∷ words)))
 
 -- the command of the words is the first that is not `--auto`; one that makes a volume has no image to ask
 abbrev pub takes_auto : List Text → Bool

@@ -376,6 +376,16 @@ add_form = record {
   parameters = image ∷ file_system ∷ order ∷ from ∷ out ∷ directory ∷ date ∷ data_disk ∷ reserve ∷ [];
 }
 
+-- `--fs FS` of a command that knows ProDOS alone
+abbrev pub only_prodos : ParameterView
+only_prodos = parameter (codes "fs") (optional (one_of (codes "prodos" ∷ [])))
+
+abbrev pub mkdir_form : FormView
+mkdir_form = record {
+  name = codes "mkdir";
+  parameters = image ∷ name_of_file ∷ only_prodos ∷ order ∷ out_file ∷ in_place ∷ date ∷ reserve ∷ [];
+}
+
 -- the forms of all commands
 abbrev pub forms : List FormView
-forms = catalog_form ∷ list_form ∷ compare_form ∷ map_form ∷ check_form ∷ read_form ∷ extract_form ∷ convert_form ∷ plan_form ∷ optimize_form ∷ lock_form ∷ unlock_form ∷ delete_form ∷ rename_form ∷ save_form ∷ verify_form ∷ identify_form ∷ wrap_form ∷ unwrap_form ∷ survey_form ∷ create_form ∷ reclaim_form ∷ add_form ∷ []
+forms = catalog_form ∷ list_form ∷ compare_form ∷ map_form ∷ check_form ∷ read_form ∷ extract_form ∷ convert_form ∷ plan_form ∷ optimize_form ∷ lock_form ∷ unlock_form ∷ delete_form ∷ rename_form ∷ save_form ∷ verify_form ∷ identify_form ∷ wrap_form ∷ unwrap_form ∷ survey_form ∷ create_form ∷ reclaim_form ∷ add_form ∷ mkdir_form ∷ []

@@ -14,6 +14,7 @@ use crate::extracting::extract_in;
 use crate::looking::{
     catalog_in, check_in, compare_in, list_in, map_in, plan_in, read_in, verify_in,
 };
+use crate::making::mkdir_in;
 use crate::reading::said;
 use crate::saving::save_in;
 use crate::surveying::survey_in;
@@ -51,6 +52,7 @@ fn ask_in(alloc: Global, command: &str, matches: &ArgMatches<'_>) -> Result<Opti
         "create" => create_in(alloc, matches),
         "reclaim" => reclaim_in(alloc, matches),
         "add" => add_in(alloc, matches),
+        "mkdir" => mkdir_in(alloc, matches),
         _ => Ok(None),
     }
 }

@@ -3,11 +3,11 @@ ghost use Rattle.std.specs.Prelude.{◌≡◌, codes, IfOk, option_map};
 ghost use Rattle.clap.specs.Matches.{found_of};
 ghost use Rattle.clap.specs.Walk.{rows_of};
 ghost use Rattle.shop_jobs.specs.Job.{ask_view, change_view, edit_view};
-ghost use Rattle.shop_words.specs.Job.{ask_by, change_by, edit_by, limit_named, optimize_by, rows_say};
+ghost use Rattle.shop_words.specs.Job.{ask_by, change_by, change_on, edit_by, limit_named, optimize_by, rows_say};
 
 use crate::reading::{has_flag, name_in, number_named, said, target_in, text_said, volume_in};
 use clap::ArgMatches;
-use shop_jobs::{Ask, Change, Edit};
+use shop_jobs::{Ask, Change, Edit, VolumeOptions};
 use std::alloc::{AllocError, Global};
 
 // After how many writes to stop, where that is said and is a number.
@@ -20,16 +20,17 @@ fn limit_named(word: Option<&str>) -> Option<Option<u64>>
     }
 }
 
-/// What is asked by a command that changes the volume so; `None` where the words lack a part of it.
-pub fn change_in(
+/// What is asked by a command that changes a volume so; `None` where the words lack a part of it.
+pub fn change_on(
     alloc: Global,
     matches: &ArgMatches<'_>,
+    volume: Option<VolumeOptions>,
     change: Option<Change>,
 ) -> Result<Option<Ask>, AllocError>
     ensures { IfOk result (λ ask. option_map ask_view ask
-        ≡ change_by (option_map change_view change) (rows_say (rows_of (found_of matches.now)))) }
+        ≡ change_on volume (option_map change_view change) (rows_say (rows_of (found_of matches.now)))) }
 {
-    let (Some(change), Some(volume)) = (change, volume_in(matches)) else {
+    let (Some(change), Some(volume)) = (change, volume) else {
         return Ok(None);
     };
     let Some(target) = target_in(alloc, matches)? else {
@@ -41,6 +42,18 @@ pub fn change_in(
         change,
         target,
     }))
+}
+
+/// The same of the volume that the words name by its file system.
+pub fn change_in(
+    alloc: Global,
+    matches: &ArgMatches<'_>,
+    change: Option<Change>,
+) -> Result<Option<Ask>, AllocError>
+    ensures { IfOk result (λ ask. option_map ask_view ask
+        ≡ change_by (option_map change_view change) (rows_say (rows_of (found_of matches.now)))) }
+{
+    change_on(alloc, matches, volume_in(matches), change)
 }
 
 // The change that is made by `optimize`.

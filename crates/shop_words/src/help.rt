@@ -62,6 +62,9 @@ pub enum Help {
     HostFolder,
     Directory,
     FilesDate,
+    OnlyProdos,
+    NewDirectory,
+    DirectoryDate,
 }
 
 impl Help {
@@ -157,6 +160,12 @@ impl Help {
                 "Directory of a ProDOS volume under which the paths of the files begin; the volume's own if left out",
             Help::FilesDate =>
                 "Date and time of the creation of each file, for ProDOS, as 1986-05-01T12:30; none if left out",
+            Help::OnlyProdos =>
+                "File system of the volume, prodos if left out and by auto too: auto or prodos",
+            Help::NewDirectory =>
+                "Path of the new directory in the volume, as SUB, or SUB/INNER where SUB is there",
+            Help::DirectoryDate =>
+                "Date and time of its creation, as 1986-05-01T12:30; none if left out",
             Help::Bodies => "Read the sectors of each file too, and tell those that can't be read",
             Help::Whole => "Take all bytes of the file's sectors, and not its content alone",
             Help::Stored =>
@@ -200,6 +209,7 @@ pub fn of(command: &str) -> &'static str {
         "create" => "Make the image of a new volume without a file",
         "reclaim" => "Mark the places of a volume free that are marked used and belong to no file",
         "add" => "Save all files of a folder to a volume, all of them or none",
+        "mkdir" => "Make an empty directory on a ProDOS volume",
         _ => "",
     }
 }

@@ -31,6 +31,7 @@ ghost use Rattle.shop_words.specs.LeftOut.{
   leaves_out as words_leave_out,
   may_leave_both as command_may_leave_both,
   may_leave_out as words_may_leave_out,
+  may_leave_unless_in_place as command_may_leave_unless_in_place,
   option_name,
   other_completed,
   takes_auto as words_take_auto,
@@ -220,6 +221,13 @@ fn may_leave_both(command: &str) -> bool
         || command == "add"
 }
 
+// Whether the command with this name may leave them out but where it changes its image in place.
+fn may_leave_unless_in_place(command: &str) -> bool
+    ensures { result ≡ command_may_leave_unless_in_place command.now }
+{
+    command == "reclaim" || command == "mkdir"
+}
+
 fn is_in_place_word(word: &String) -> bool
     ensures { result ≡ means_in_place_word (string_bytes word.now) }
 {
@@ -241,7 +249,7 @@ fn may_leave_out(words: &[String]) -> bool
     match words.first() {
         Some(command) => {
             may_leave_both(command.as_str())
-                || command.as_str() == "reclaim" && !has_in_place_word(words)
+                || may_leave_unless_in_place(command.as_str()) && !has_in_place_word(words)
         }
         None => false,
     }

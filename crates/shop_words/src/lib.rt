@@ -40,6 +40,7 @@ mod help;
 mod hexadecimal;
 mod left_out;
 mod looking;
+mod making;
 mod notes;
 mod reading;
 mod refusal;

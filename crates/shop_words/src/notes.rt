@@ -445,6 +445,30 @@ Status:
      REFUSED TooLong, InputTooLong, DirFull, VolumeFull  as save tells them
   4  FAILED Input, Device or Memory: a file, a sector of the image or memory failed";
 
+const MKDIR: &str = "\
+Examples:
+  a2shop mkdir disk.po LETTERS --out new.po
+  a2shop mkdir disk.po LETTERS/JUNE --out new.po --date 1986-05-01T12:30
+  a2shop mkdir disk.po LETTERS --auto --in-place
+
+--order is auto where it is left out, but not with --in-place. The new directory has one block, with places
+for 12 files and directories, and is empty; the one that it stands in has to be there.
+With --in-place the image's own file is changed, unit by unit, and no new image is written.
+
+Status:
+  0  the image is written, with the directory
+  3  REFUSED InPlace     it is not in ProDOS order, in a file
+     REFUSED Date        the word of --date is no date and time of 1940 to 2039
+     REFUSED Reserve     the word of --reserve is no list of places
+     REFUSED Length      the image has another length than one in its order
+     REFUSED Check       the volume has a fault; check tells which
+     REFUSED NotFound    the directory that it is to stand in is not there
+     REFUSED Name        no directory may have the name
+     REFUSED Exists      an entry of the directory that it is to stand in has the name
+     REFUSED DirFull     that directory has no place for an entry
+     REFUSED VolumeFull  the volume has no free block
+  4  FAILED Input, Device or Memory: a file, a sector of the image or memory failed";
+
 /// The notes on the command with this name.
 pub fn of(command: &str) -> &'static str {
     match command {
@@ -471,6 +495,7 @@ pub fn of(command: &str) -> &'static str {
         "create" => CREATE,
         "reclaim" => RECLAIM,
         "add" => ADD,
+        "mkdir" => MKDIR,
         _ => "",
     }
 }

@@ -272,7 +272,7 @@ fn misfit_of<'a>(form: &Form, matches: &ArgMatches<'a>) -> Option<Misfit<'a>> {
 /// The words that an option takes too, in whose place the program puts one of its values.
 fn stand_ins(help: Help) -> &'static str {
     match help {
-        Help::FileSystem | Help::ImageOrder => "auto, ",
+        Help::FileSystem | Help::ImageOrder | Help::OnlyProdos => "auto, ",
         Help::Order | Help::OtherOrder => "auto, 2img, ",
         _ => "",
     }

@@ -427,6 +427,24 @@ const FILES_DATE: Parameter = Parameter {
     help: Help::FilesDate,
 };
 
+const ONLY_PRODOS: Parameter = Parameter {
+    name: "fs",
+    kind: Kind::Optional(Values::OneOf(&["prodos"])),
+    help: Help::OnlyProdos,
+};
+
+const NEW_DIRECTORY: Parameter = Parameter {
+    name: "name",
+    kind: Kind::Positional,
+    help: Help::NewDirectory,
+};
+
+const DIRECTORY_DATE: Parameter = Parameter {
+    name: "date",
+    kind: Kind::Optional(Values::Any),
+    help: Help::DirectoryDate,
+};
+
 const FORMS: &[Form] = &[
     Form {
         name: "catalog",
@@ -628,6 +646,19 @@ const FORMS: &[Form] = &[
             DIRECTORY,
             FILES_DATE,
             DATA_DISK,
+            RESERVE,
+        ],
+    },
+    Form {
+        name: "mkdir",
+        parameters: &[
+            IMAGE,
+            NEW_DIRECTORY,
+            ONLY_PRODOS,
+            ORDER,
+            OUT_FILE,
+            IN_PLACE,
+            DIRECTORY_DATE,
             RESERVE,
         ],
     },
