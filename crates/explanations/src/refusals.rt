@@ -85,25 +85,26 @@ pub static REFUSALS: [Explanation; 35] = [
     },
     Explanation {
         front: "REFUSED NotFound",
-        meaning: "The volume has no file of this name, or, where a file was to be saved, no such directory.",
+        meaning: "The volume has no file of this name, or, where a file was to be saved or a directory to be made, not \
+            the directory that it was to stand in.",
         advice: "Run `a2shop catalog` to see the names. Names of DOS 3.3 are matched letter by letter; a file in a \
-            directory of ProDOS is named by its whole path, as `LETTERS/JUNE`.",
+            directory of ProDOS is named by its whole path, as `LETTERS/JUNE`. `a2shop mkdir` makes a directory.",
     },
     Explanation {
         front: "REFUSED Name",
-        meaning: "No file may have the new name, or the name of the new file; or no volume the name behind `--name` of \
-            `a2shop create`. Nothing was written.",
+        meaning: "No file may have the new name, or the name of the new file, and no directory that of a new one; or \
+            no volume the name behind `--name` of `a2shop create`. Nothing was written.",
         advice: "A name of DOS 3.3 has 1 to 30 characters from the space to the tilde and no comma, begins with a \
             capital letter and does not end with a space. A name of ProDOS has 1 to 15 letters, digits and periods and \
-            begins with a letter, that of a volume too; it is the last of the file's path, without a slash. To \
-            `a2shop rename` give that name alone, to `a2shop save` the whole path.",
+            begins with a letter, that of a volume too; it is the last of the path, without a slash. To `a2shop \
+            rename` give that name alone, to `a2shop save` and `mkdir` the whole path.",
     },
     Explanation {
         front: "REFUSED Exists",
-        meaning: "The directory has an entry with the new name, or with the name of the new file: a file, a directory, \
-            or the very file that was to be renamed. Letters of either case are the same to ProDOS. Of `a2shop read`, \
-            `wrap`, `unwrap` and `create` it is the path behind `--out` at which something stands, a link too. No file \
-            is replaced by another, and nothing was written.",
+        meaning: "The directory has an entry with the new name, or with the name of the new file or directory: a file, \
+            a directory, or the very file that was to be renamed. Letters of either case are the same to ProDOS. Of \
+            `a2shop read`, `wrap`, `unwrap` and `create` it is the path behind `--out` at which something stands, a \
+            link too. No file is replaced by another, and nothing was written.",
         advice: "Choose another name, or first rename or delete the entry that has it: `a2shop catalog` shows them. To \
             save a file anew, say `--replace`; a directory is not replaced.",
     },
@@ -124,14 +125,15 @@ pub static REFUSALS: [Explanation; 35] = [
     Explanation {
         front: "REFUSED DirFull",
         meaning: "The directory has no free entry: the catalog of a DOS disk mostly has 105 entries, the volume \
-            directory of ProDOS 51. This program makes no directory of ProDOS longer. Nothing was written.",
-        advice: "Delete a file with `a2shop delete`, and save on the image that it writes; or, in ProDOS, save into a \
-            subdirectory.",
+            directory of ProDOS 51, and a directory that `a2shop mkdir` makes 12. This program makes no directory of \
+            ProDOS longer. Nothing was written.",
+        advice: "Delete a file with `a2shop delete`, and try again on the image that it writes; or, in ProDOS, name a \
+            path in another directory.",
     },
     Explanation {
         front: "REFUSED VolumeFull",
         meaning: "Fewer places are free on the volume than the file takes. It takes a sector or block for each of its \
-            lists or indexes too, beside those of its bytes. Nothing was written.",
+            lists or indexes too, beside those of its bytes. A new directory takes one block. Nothing was written.",
         advice: "Delete files that are not needed; the line `FREE` of `a2shop catalog` tells how many places are free. \
             Where places are lost, `a2shop reclaim` marks them as free.",
     },
