@@ -160,8 +160,8 @@ pub static FINDINGS: [Explanation; 32] = [
     },
     Explanation {
         front: "PASSED",
-        meaning: "This was not added to the volume: a readable form beside the file that it was made of, which was \
-            added itself; or a folder without a file, since `add` makes no directories.",
+        meaning: "This was not added to the volume: it is a readable form beside the file that it was made of, which \
+            was added itself.",
         advice: "Where the readable form was changed, take the file beside it out of the folder, and add again.",
     },
     Explanation {

@@ -425,8 +425,8 @@ The name of each file says its name and its type, as extract writes them: NAME#T
 the aux type in hexadecimal digits. NAME#TTAAAA.utf8.txt is a text or a listing in UTF-8 that is turned
 into the bytes of the file; where NAME#TTAAAA stands beside it, it is told as PASSED and not added. Names
 that begin with a point are passed over. The files are saved in the order of their names. Locks, dates,
-and the holes of sparse files are not carried. A directory of a ProDOS volume has to be there; an empty
-folder is told as PASSED.
+and the holes of sparse files are not carried. On a ProDOS volume each folder is made as a directory where
+none is there, before the files are saved; the directory of --into has to be there.
 
 Status:
   0  the image is written; a line ADDED for each file, and how many there are
