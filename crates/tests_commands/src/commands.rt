@@ -39,6 +39,7 @@ fn a_job_in_place_wants_a_file_of_its_own(rt: HostRuntime) -> Result<(), Fail> {
         "optimize a.dsk --fs dos --order dos --in-place",
         "lock a.dsk HELLO --fs dos --order dos --in-place",
         "save a.dsk NEW --fs dos --order dos --from b --type X --in-place",
+        "mkdir a.po SUB --order prodos --date X --in-place",
     ] {
         let refused = "REFUSED InPlace\n";
         tells(&rt, rt.alloc(), line, &mut image.as_slice(), 3, refused)?;

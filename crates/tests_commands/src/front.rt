@@ -110,6 +110,16 @@ fn what_is_left_out_is_auto(rt: HostRuntime) -> Result<(), Fail> {
             "reclaim a --in-place --auto",
             "reclaim a --in-place --fs auto --order auto ",
         ),
+        ("mkdir a SUB", "mkdir a SUB --fs auto --order auto "),
+        (
+            "mkdir a SUB --fs prodos",
+            "mkdir a SUB --fs prodos --order auto ",
+        ),
+        ("mkdir a SUB --in-place", "mkdir a SUB --in-place "),
+        (
+            "mkdir a SUB --in-place --auto",
+            "mkdir a SUB --in-place --fs auto --order auto ",
+        ),
         ("create --auto --fs dos", "create --auto --fs dos "),
         ("--auto create --fs dos", "--auto create --fs dos "),
         ("list a", "list a --fs auto --order auto "),

@@ -12,6 +12,7 @@ mod comparisons;
 mod containers;
 mod conversions;
 mod creations;
+mod directories;
 mod escapes;
 mod extractions;
 mod moves;
