@@ -22,7 +22,7 @@ use Rattle.shop_changes.specs.EditRules.{ChangedMeaning}
 use Rattle.shop_changes.specs.GivenFile.{GivenView}
 use Rattle.shop_changes.specs.OptimizeOutcome.{IsOptimizeOutcome, TellsError}
 use Rattle.shop_changes.specs.SaveOutcome.{IsSaveOutcome}
-use Rattle.shop_changes.specs.Work.{WorkView, Optimize, EditOf, Reclaim, Replace, Save}
+use Rattle.shop_changes.specs.Work.{WorkView, Optimize, EditOf, MakeDirectory, Reclaim, Replace, Save}
 use Rattle.shop_changes.specs.declared.outcome.Outcome.{Outcome}
 use Rattle.shop_changes.specs.declared.outcome.Outcome.TheVariants.{Optimized, Changed, Stopped, Unfinished}
 
@@ -73,6 +73,7 @@ module _ (old new : DeviceState) (honest : IsTrue old.honest) (reply : Reply) (q
   work_kept (Optimize reclaim limit) format outcome is told = optimize_kept format.units reclaim limit outcome is told
   work_kept (EditOf edit name) format outcome is told = edit_kept is.result outcome is.told (is.edited.refused honest) told
   work_kept Reclaim format outcome is told = edit_kept is.result outcome is.told (is.edited.refused honest) told
+  work_kept (MakeDirectory path date) format outcome is told = edit_kept is.result outcome is.told (is.edited.refused honest) told
   work_kept (Replace path said) format outcome is told = is.1
   work_kept (Save path said) format outcome is told = elim is [
     | inl long ↦ long.2

@@ -11,10 +11,11 @@ use Rattle.shop_replies.specs.Volume.{form_of}
 use Rattle.shop_reads.specs.Reserving.{NamesPlaces, OfReserved}
 use Rattle.shop_changes.specs.EditOutcome.{IsEditOutcome}
 use Rattle.shop_changes.specs.EditRules.{ChangedMeaning}
+use Rattle.shop_changes.specs.MakingOutcome.{IsMakingOutcome}
 use Rattle.shop_changes.specs.OptimizeOutcome.{IsOptimizeOutcome}
 use Rattle.shop_changes.specs.ReclaimOutcome.{IsReclaimOutcome}
 use Rattle.shop_changes.specs.SaidFile.{IsSaidOutcome}
-use Rattle.shop_changes.specs.Work.{WorkView, Optimize, EditOf, Reclaim, Replace, Save}
+use Rattle.shop_changes.specs.Work.{WorkView, Optimize, EditOf, MakeDirectory, Reclaim, Replace, Save}
 use Rattle.shop_changes.specs.declared.outcome.Outcome.{Outcome}
 use Rattle.shop_changes.specs.declared.outcome.Outcome.TheVariants.{Unfinished}
 
@@ -25,6 +26,7 @@ IsWorkOutcome (EditOf edit name) format old new outcome = IsEditOutcome edit nam
 IsWorkOutcome (Save path said) format old new outcome = IsSaidOutcome path said format.edits.save format.units old new outcome
 IsWorkOutcome (Replace path said) format old new outcome = (outcome ≡ Unfinished (refused refusals.InPlace)) × (new ≡ old)
 IsWorkOutcome Reclaim format old new outcome = IsReclaimOutcome format.units old new outcome
+IsWorkOutcome (MakeDirectory path date) format old new outcome = IsMakingOutcome path date format.directories format.units old new outcome
 
 -- there was no memory for the work, and the device is as it was
 abbrev pub LacksMemory : DeviceState → DeviceState → Outcome → Type 0

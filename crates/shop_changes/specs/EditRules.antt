@@ -11,6 +11,7 @@ use Rattle.edit_formats.specs.DosNames.{dos_names}
 use Rattle.edit_formats.specs.ProEdits.{pro_edits}
 use Rattle.edit_formats.specs.ProErasing.{pro_erasures}
 use Rattle.edit_formats.specs.ProNames.{pro_names}
+use Rattle.directory_making.specs.Directories.{DirectoryMeaning, dos_directories, pro_directories}
 use Rattle.save_formats.specs.Saves.{SaveMeaning}
 use Rattle.save_formats.specs.DosSaves.{dos_saves}
 use Rattle.save_formats.specs.ProSaves.{pro_saves}
@@ -35,16 +36,27 @@ abbrev pub edits_of : FileSystem → EditRules
 edits_of Dos = edit_rules dos_edits dos_names dos_erasures dos_saves
 edits_of Prodos = edit_rules pro_edits pro_names pro_erasures pro_saves
 
--- its files, how its entries are changed, and what its units mean
+-- the directories of a volume on which these places are reserved
+abbrev pub directories_of : FileSystem → List Bool → DirectoryMeaning
+directories_of Dos reserved = dos_directories
+directories_of Prodos reserved = pro_directories reserved
+
+-- its files, its directories, how its entries are changed, and what its units mean
 pub record ChangedMeaning : Type 1 where
   pub files : FileMeaning
+  pub directories : DirectoryMeaning
   pub edits : EditRules
   pub units : Meaning
 
--- that of a file system, whose units mean this
-abbrev pub changed_in : FileSystem → Meaning → ChangedMeaning
-changed_in file_system units = record { files = files_of file_system; edits = edits_of file_system; units = units }
+-- that of a volume of a file system, which may be a data disk, where these places are reserved
+abbrev pub changed_in : FileSystem → Bool → List Bool → ChangedMeaning
+changed_in file_system data_disk reserved = record {
+  files = files_of file_system;
+  directories = directories_of file_system reserved;
+  edits = edits_of file_system;
+  units = meaning_of file_system data_disk reserved;
+}
 
 -- that of a volume that is read so, where these places are reserved
 abbrev pub changed_by : VolumeOptions → List Bool → ChangedMeaning
-changed_by volume reserved = changed_in volume.file_system (meaning_of volume.file_system volume.data_disk reserved)
+changed_by volume reserved = changed_in volume.file_system volume.data_disk reserved

@@ -13,3 +13,4 @@ pub mod ReclaimOutcome
 pub mod SaidFile
 pub mod Replaced
 pub mod Changing
+pub mod MakingOutcome

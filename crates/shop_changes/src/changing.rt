@@ -1,30 +1,32 @@
 // Work that changes the volume of a device where it stands.
 ghost use Rattle.std.specs.Prelude.{◌≡◌, ◌⊎◌, ◌<◌, false, option_map};
 ghost use Rattle.shop_jobs.specs.declared.job.FileSystem.TheVariants.{Dos as OfDos, Prodos as OfProdos};
-ghost use Rattle.shop_replies.specs.Volume.{HasUnitsOf, meaning_of};
+ghost use Rattle.shop_replies.specs.Volume.{HasUnitsOf};
 ghost use Rattle.shop_changes.specs.Changing.{IsChangeOutcome, IsWorkOutcome, KeepsDevice, LacksMemory};
 ghost use Rattle.shop_changes.specs.EditRules.{changed_by, changed_in, edit_rules};
 ghost use Rattle.shop_changes.specs.Work.{work_view};
 ghost use Rattle.vol_format.specs.Fits.{Fits};
 
 use crate::editing::edit_in_place;
+use crate::making::make_in_place;
 use crate::optimizing::optimize_in_place;
 use crate::outcome::Outcome;
 use crate::reclaiming::reclaim_in_place;
 use crate::said_file::save_said;
 use crate::work::Work;
 use a2_device::Device;
+use directory_making::DirectoryFormat;
 use dos_format::Dos33;
+use file_edits::Acceptance;
 use pro_format::Prodos;
 use reserved_places::Reserved;
-use save_formats::SavableFormat;
 use shop_jobs::{FileSystem, VolumeOptions};
 use shop_reads::{reserve_reply, reserved_by};
 use shop_replies::{Failure, Refusal, Reply, form_of};
 use std::alloc::Global;
 
 // Does work on the volume of a device, by its format.
-fn change_by<D: Device, F: SavableFormat>(
+fn change_by<D: Device, F: DirectoryFormat>(
     alloc: Global,
     work: Work<'_>,
     device: D,
@@ -34,6 +36,7 @@ fn change_by<D: Device, F: SavableFormat>(
     requires size { 0 < (D.state device).unit_size }
     ensures { IsWorkOutcome (work_view work.entry) (record {
       files = F.files format.now;
+      directories = F.directories format.now;
       edits = edit_rules (F.edits format.now) (F.names format.now) (F.erasures format.now) (F.saves format.now);
       units = F.meaning format.now;
     }) (D.state device) (D.state result.1) result.0 }
@@ -48,7 +51,7 @@ fn change_by<D: Device, F: SavableFormat>(
             (outcome, device)
         }
         Work::Save { path, said } => {
-            let outcome = save_said(alloc, &mut device, format, path, said);
+            let outcome = save_said(alloc, &mut device, format, Acceptance::Unknown, path, said);
             (outcome, device)
         }
         Work::Replace { .. } => (
@@ -57,6 +60,11 @@ fn change_by<D: Device, F: SavableFormat>(
         ),
         Work::Reclaim => {
             let outcome = reclaim_in_place(alloc, &mut device, format);
+            (outcome, device)
+        }
+        Work::MakeDirectory { path, date } => {
+            let known = Acceptance::Unknown;
+            let outcome = make_in_place(alloc, &mut device, format, known, path, date);
             (outcome, device)
         }
     }
@@ -72,7 +80,7 @@ fn change_dos<D: Device>(
 ) -> (Outcome, D)
     requires { HasUnitsOf OfDos (D.state device) }
     ensures { LacksMemory (D.state device) (D.state result.1) result.0
-        ⊎ IsWorkOutcome (work_view work.entry) (changed_in OfDos (meaning_of OfDos data_disk reserved))
+        ⊎ IsWorkOutcome (work_view work.entry) (changed_in OfDos data_disk reserved)
         (D.state device) (D.state result.1) result.0 }
 {
     let Ok(format) = Dos33::new(alloc, data_disk, reserved) else {
@@ -89,7 +97,7 @@ fn change_prodos<D: Device>(
     reserved: Reserved,
 ) -> (Outcome, D)
     requires { HasUnitsOf OfProdos (D.state device) }
-    ensures { IsWorkOutcome (work_view work.entry) (changed_in OfProdos (meaning_of OfProdos false reserved))
+    ensures { IsWorkOutcome (work_view work.entry) (changed_in OfProdos false reserved)
         (D.state device) (D.state result.1) result.0 }
 {
     let format = Prodos::new(alloc, reserved);

@@ -1,14 +1,15 @@
 //! What becomes of a volume that is changed, on any device that has its units: its files are brought into order, a file
-//! of it is changed, a new one is saved to it, or its lost places are marked free.
+//! of it is changed, a new one is saved to it, its lost places are marked free, or a directory is made in it.
 //!
 //! `change_in_place` does `Work` and hands the device back with an `Outcome`, which `Outcome::tell` tells; the words
 //! may reserve places, and `change_volume` is told them.
 //!
 //! The model. `specs/Work.antt` is the work as contracts see it, and `specs/EditRules.antt` what a format of volumes is
 //! to it. What a change of a file and a new file are, by their writes and what these leave, stands in
-//! `specs/Edits.antt` and `specs/Saves.antt`. What became of the work is an `Outcome` (`specs/Outcome.antt`):
-//! `OptimizeOutcome`, `EditOutcome`, `SaveOutcome` and `ReclaimOutcome` say it of each work by what the optimizer and the commands
-//! promise, and `specs/Changing.antt` of all of them.
+//! `specs/Edits.antt` and `specs/Saves.antt`; what directories are to a format says `directory_making`. What became of
+//! the work is an `Outcome` (`specs/Outcome.antt`): `OptimizeOutcome`, `EditOutcome`, `SaveOutcome`, `ReclaimOutcome`
+//! and `MakingOutcome` say it of each work by what the optimizer and the commands promise, and `specs/Changing.antt` of
+//! all of them.
 //!
 //! A new file is said in words and bytes, and these give a file (`specs/SaidFile.antt`): the bytes as they are, or what
 //! is taken of a text, the listing of a program or an AppleSingle file. The bytes that are saved are the head that DOS
@@ -31,6 +32,7 @@ mod given_error;
 mod given_file;
 mod given_words;
 mod law;
+mod making;
 mod optimizing;
 mod outcome;
 mod plain_file;
@@ -43,10 +45,12 @@ mod saving;
 mod work;
 
 pub use changing::{change_in_place, change_volume};
+pub use editing::edit_refusal_reply;
 pub use given_error::GivenError;
 pub use given_file::{FileUnits, GivenFile, Head, MOST_INPUT, file_units};
 pub use given_words::{head_of, kind_for, kind_named, usual_kind};
 pub use law::a_kind_is_got_back_from_its_type;
+pub use making::make_in_place;
 pub use outcome::Outcome;
 pub use plain_file::{PlainFile, taken_plain};
 pub use replaced_file::{ReplacedFile, find_replaced};

@@ -13,7 +13,7 @@ use vol_mover::Report;
 pub enum Outcome {
     /// Its parts stand in order, or so many writes nearer to it.
     Optimized(Report),
-    /// A file was changed, a new one saved, or the lost places marked free.
+    /// A file was changed, a new one saved, the lost places marked free, or a directory made.
     Changed,
     /// A step of an optimization failed: the volume is sound, and stands so many writes nearer to order.
     Stopped,

@@ -1,5 +1,5 @@
 // The file that words and bytes give.
-ghost use Rattle.std.specs.Prelude.{◌≡◌, ◌<◌, ◌≤◌, IfErr, IfOk, Some, length};
+ghost use Rattle.std.specs.Prelude.{◌≡◌, ◌<◌, ◌≤◌, IfErr, IfOk, IsTrue, Some, length};
 ghost use Rattle.file_forms.specs.Taken.{IsTakenFrom, taken_view};
 ghost use Rattle.shop_changes.specs.GivenFile.{given_view, most_input};
 ghost use Rattle.shop_changes.specs.SaidFile.{
@@ -11,6 +11,7 @@ ghost use Rattle.shop_changes.specs.SaidFile.{
   said_view,
 };
 ghost use Rattle.shop_replies.specs.Volume.{form_of as place_form};
+ghost use Rattle.vol_format.specs.Accepted.{IsVolume};
 ghost use Rattle.vol_format.specs.Fits.{Fits};
 
 use crate::given_file::{GivenFile, MOST_INPUT};
@@ -18,6 +19,7 @@ use crate::given_words::{head_of, kind_for, usual_kind};
 use crate::outcome::Outcome;
 use crate::saving::save_in_place;
 use a2_device::Device;
+use file_edits::Acceptance;
 use file_forms::{GivenForm, TakenFile, TakingError, taken_from};
 use pro_dir::ProDate;
 use save_formats::SavableFormat;
@@ -97,11 +99,14 @@ fn save_from_form<D: Device, F: SavableFormat>(
     alloc: Global,
     device: &mut D,
     format: &F,
+    acceptance: Acceptance,
     path: &[u8],
     said: SaidFile<'_>,
     form: GivenForm,
 ) -> Outcome
     requires fits { Fits (F.meaning format.now) (D.state device.old) }
+    requires accepted { acceptance ≡ Acceptance.Known → IsTrue (D.state device.old).honest
+        → IsVolume (F.meaning format.now) (D.state device.old).store }
     requires size { 0 < (D.state device.old).unit_size }
     requires short { length said.bytes.now ≤ most_input }
     requires form { said.form ≡ Some form }
@@ -115,21 +120,25 @@ fn save_from_form<D: Device, F: SavableFormat>(
     match said.kind_of(&file) {
         Some(kind) => {
             let given = said.given_with(kind, file.aux_type, file.bytes.as_slice());
-            save_in_place(alloc, device, format, path, given)
+            save_in_place(alloc, device, format, acceptance, path, given)
         }
         None => Outcome::Unfinished(Reply::refused(Refusal::Type)),
     }
 }
 
-/// Saves the file that words and bytes give to a device's volume, and tells what became of it.
+/// Saves the file that words and bytes give to a device's volume, and tells what became of it. Where it is known that
+/// the volume is accepted, it is not checked first.
 pub fn save_said<D: Device, F: SavableFormat>(
     alloc: Global,
     device: &mut D,
     format: &F,
+    acceptance: Acceptance,
     path: &[u8],
     said: SaidFile<'_>,
 ) -> Outcome
     requires fits { Fits (F.meaning format.now) (D.state device.old) }
+    requires accepted { acceptance ≡ Acceptance.Known → IsTrue (D.state device.old).honest
+        → IsVolume (F.meaning format.now) (D.state device.old).store }
     requires size { 0 < (D.state device.old).unit_size }
     ensures { IsSaidOutcome path.now (said_view said.entry) (F.saves format.now) (F.meaning format.now)
         (D.state device.old) (D.state device.new) result }
@@ -138,11 +147,11 @@ pub fn save_said<D: Device, F: SavableFormat>(
         return Outcome::Unfinished(Reply::refused(Refusal::InputTooLong));
     }
     match said.form {
-        Some(form) => save_from_form(alloc, device, format, path, said, form),
+        Some(form) => save_from_form(alloc, device, format, acceptance, path, said, form),
         None => {
             let kind = said.kind.unwrap_or(usual_kind(said.file_system));
             let given = said.given_with(kind, 0, said.bytes);
-            save_in_place(alloc, device, format, path, given)
+            save_in_place(alloc, device, format, acceptance, path, given)
         }
     }
 }

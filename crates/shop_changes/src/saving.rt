@@ -12,6 +12,7 @@ ghost use Rattle.shop_changes.specs.Saves.{
   IsSaveCause,
   attributes_of as said_of,
 };
+ghost use Rattle.vol_format.specs.Accepted.{IsVolume};
 ghost use Rattle.vol_format.specs.Fits.{Fits};
 
 use crate::editing::edit_refusal_reply;
@@ -20,7 +21,7 @@ use crate::given_file::{FileUnits, GivenFile, MOST_INPUT, file_units};
 use crate::outcome::Outcome;
 use a2_device::Device;
 use edit_formats::EditError;
-use file_edits::save;
+use file_edits::{Acceptance, save};
 use save_formats::{Attributes, SavableFormat};
 use shop_replies::{Failure, Refusal, Reply};
 use std::alloc::Global;
@@ -44,11 +45,14 @@ fn save_file<D: Device, F: SavableFormat>(
     alloc: Global,
     device: &mut D,
     format: &F,
+    acceptance: Acceptance,
     path: &[u8],
     given: &GivenFile<'_>,
     file: &FileUnits,
 ) -> Result<(), EditError>
     requires fits { Fits (F.meaning format.now) (D.state device.old) }
+    requires accepted { acceptance ≡ Acceptance.Known → IsTrue (D.state device.old).honest
+        → IsVolume (F.meaning format.now) (D.state device.old).store }
     requires short { length given.now.bytes.now ≤ most_input }
     requires stored { file.now.stored.items
         ≡ stored_units (F.meaning format.now).unit_size (content (given_view given.now)) }
@@ -77,6 +81,7 @@ fn save_file<D: Device, F: SavableFormat>(
         alloc,
         device,
         format,
+        acceptance,
         path,
         &attributes,
         stored,
@@ -89,11 +94,14 @@ fn save_units<D: Device, F: SavableFormat>(
     alloc: Global,
     device: &mut D,
     format: &F,
+    acceptance: Acceptance,
     path: &[u8],
     given: &GivenFile<'_>,
     file: &FileUnits,
 ) -> Outcome
     requires fits { Fits (F.meaning format.now) (D.state device.old) }
+    requires accepted { acceptance ≡ Acceptance.Known → IsTrue (D.state device.old).honest
+        → IsVolume (F.meaning format.now) (D.state device.old).store }
     requires short { length given.now.bytes.now ≤ most_input }
     requires stored { file.now.stored.items
         ≡ stored_units (F.meaning format.now).unit_size (content (given_view given.now)) }
@@ -103,21 +111,25 @@ fn save_units<D: Device, F: SavableFormat>(
     ensures { IsSaveTriedOutcome path.now (given_view given.now) (F.saves format.now) (F.meaning format.now)
         (D.state device.old) (D.state device.new) result }
 {
-    match save_file(alloc, device, format, path, given, file) {
+    match save_file(alloc, device, format, acceptance, path, given, file) {
         Ok(()) => Outcome::Changed,
         Err(error) => Outcome::Unfinished(edit_refusal_reply(error)),
     }
 }
 
-/// Saves a new file to a device's volume, and tells what became of it.
+/// Saves a new file to a device's volume, and tells what became of it. Where it is known that the volume is accepted,
+/// it is not checked first.
 pub fn save_in_place<D: Device, F: SavableFormat>(
     alloc: Global,
     device: &mut D,
     format: &F,
+    acceptance: Acceptance,
     path: &[u8],
     given: GivenFile<'_>,
 ) -> Outcome
     requires fits { Fits (F.meaning format.now) (D.state device.old) }
+    requires accepted { acceptance ≡ Acceptance.Known → IsTrue (D.state device.old).honest
+        → IsVolume (F.meaning format.now) (D.state device.old).store }
     requires size { 0 < (D.state device.old).unit_size }
     ensures { IsSaveOutcome path.now (given_view given.entry) (F.saves format.now) (F.meaning format.now)
         (D.state device.old) (D.state device.new) result }
@@ -126,7 +138,7 @@ pub fn save_in_place<D: Device, F: SavableFormat>(
         return Outcome::Unfinished(Reply::refused(Refusal::InputTooLong));
     }
     match file_units(alloc, &given, device.unit()) {
-        Ok(file) => save_units(alloc, device, format, path, &given, &file),
+        Ok(file) => save_units(alloc, device, format, acceptance, path, &given, &file),
         Err(GivenError::TooLong) => Outcome::Unfinished(Reply::refused(Refusal::TooLong)),
         Err(GivenError::Memory) => Outcome::Unfinished(Reply::failed(Failure::Memory)),
     }

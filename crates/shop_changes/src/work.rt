@@ -1,6 +1,7 @@
 // Work that changes a volume, with the bytes of its files read.
 use crate::said_file::SaidFile;
 use file_formats::FileName;
+use pro_dir::ProDate;
 use shop_jobs::Edit;
 
 /// What is changed of a volume, with the bytes of its files read.
@@ -17,4 +18,6 @@ pub enum Work<'a> {
     Replace { path: &'a [u8], said: SaidFile<'a> },
     /// Its lost places are marked free.
     Reclaim,
+    /// A new directory is made in it.
+    MakeDirectory { path: &'a [u8], date: ProDate },
 }

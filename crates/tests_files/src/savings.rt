@@ -6,7 +6,7 @@ use crate::dos_listings::dos_33;
 use crate::pieces::{Piece, hello_with, put_pieces};
 use a2_device::Device;
 use edit_formats::EditError;
-use file_edits::save;
+use file_edits::{Acceptance, save};
 use pro_dir::ProDate;
 use pro_format::Prodos;
 use reserved_places::Reserved;
@@ -38,7 +38,17 @@ fn save_on_dos<A: Allocator + Copy, D: Device>(
         date: ProDate([0; 4]),
     };
     match dos_33(alloc) {
-        Ok(format) => save(alloc, device, &format, path, &said, stored, units).err(),
+        Ok(format) => save(
+            alloc,
+            device,
+            &format,
+            Acceptance::Unknown,
+            path,
+            &said,
+            stored,
+            units,
+        )
+        .err(),
         Err(_) => Some(EditError::Memory),
     }
 }
@@ -64,7 +74,17 @@ fn save_on_blocks<A: Allocator + Copy, D: Device>(
         date: ProDate([0xa1, 0xac, 0x1e, 0x0c]),
     };
     let format = Prodos::new(alloc, Reserved::none(alloc));
-    save(alloc, device, &format, path, &said, stored, units).err()
+    save(
+        alloc,
+        device,
+        &format,
+        Acceptance::Unknown,
+        path,
+        &said,
+        stored,
+        units,
+    )
+    .err()
 }
 
 /// Why the file HI, of one unit, is not saved to a DOS 3.3 volume: its body is the address 768, the length 3, and three
