@@ -8,4 +8,5 @@ mod Edited
 mod Saved
 mod Told
 mod Reclaimed
+mod MadeDirectory
 mod Replaced

@@ -9,6 +9,8 @@ use Rattle.save_formats.specs.Saves.{SaveMeaning}
 use Rattle.file_forms.specs.declared.form.GivenForm.{GivenForm}
 use Rattle.shop_changes.specs.GivenFile.{GivenView}
 use Rattle.shop_changes.specs.SaidFile.{IsNotGivenBy, SaidView, TellsBadLine}
+use Rattle.pro_dir.specs.declared.date.ProDate.{ProDate}
+use Rattle.directory_making.specs.Directories.{DirectoryMeaning}
 use Rattle.shop_jobs.specs.Job.{EditView}
 use Rattle.shop_jobs.specs.Paths.{new_file_of}
 use Rattle.shop_jobs.specs.declared.job.VolumeOptions.{VolumeOptions}
@@ -20,6 +22,7 @@ use Rattle.shop_replies.specs.Reply.{IsMade, IsMadeReply}
 use Rattle.shop_replies.proofs.NotMade.{failed_not_made, refused_not_made, told_not_made}
 use Rattle.shop_changes.specs.EditRules.{ChangedMeaning, EditRules}
 use Rattle.shop_image.specs.EditReply.{IsEdited}
+use Rattle.shop_image.specs.MakingReply.{IsDirectoryMade}
 use Rattle.shop_image.specs.ReclaimReply.{IsReclaimed}
 use Rattle.shop_image.specs.ReplaceReply.{IsPlainReplaced, IsReplaced}
 use Rattle.shop_image.specs.SaveReply.{IsSaidSaved, IsSaved}
@@ -64,6 +67,16 @@ pub reclaimed_image : (format : Meaning) (device : DeviceState) (reply : Reply) 
 reclaimed_image format device reply is made = elim is [
   | inl done ↦ done.image
   | inr (inl refused) ↦ absurd (refused_not_made refusals.Check reply refused.0 made)
+  | inr (inr (inl failed)) ↦ absurd (failed_not_made failures.Device reply failed.0 made)
+  | inr (inr (inr failed)) ↦ absurd (failed_not_made failures.Memory reply failed made)
+]
+
+-- so does one that makes a directory
+pub directory_image : (path : List ℕ) (date : ProDate) (directories : DirectoryMeaning) (format : Meaning) (device : DeviceState) (reply : Reply)
+    → IsDirectoryMade path date directories format device reply → IsMade reply → IsMadeReply reply
+directory_image path date directories format device reply is made = elim is [
+  | inl done ↦ done.image
+  | inr (inl refused) ↦ absurd (refused_not_made refused.0 reply refused.1 made)
   | inr (inr (inl failed)) ↦ absurd (failed_not_made failures.Device reply failed.0 made)
   | inr (inr (inr failed)) ↦ absurd (failed_not_made failures.Memory reply failed made)
 ]

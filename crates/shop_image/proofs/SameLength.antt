@@ -12,7 +12,7 @@ use Rattle.shop_changes.specs.EditRules.{ChangedMeaning, EditRules}
 use Rattle.shop_changes.specs.GivenFile.{GivenView}
 use Rattle.shop_changes.specs.SaidFile.{SaidView}
 use Rattle.shop_changes.specs.Replaced.{IsMadeWay}
-use Rattle.shop_changes.specs.Work.{EditOf, Optimize, Reclaim, Replace, Save, WorkView}
+use Rattle.shop_changes.specs.Work.{EditOf, MakeDirectory, Optimize, Reclaim, Replace, Save, WorkView}
 use Rattle.shop_jobs.specs.declared.job.VolumeOptions.{VolumeOptions}
 use Rattle.shop_reads.proofs.NotMade.{unopened_told_not_made}
 use Rattle.shop_replies.proofs.NotMade.{failed_not_made, refused_not_made}
@@ -110,6 +110,12 @@ module _ (device : DeviceState) (reply : Reply) (form : ImageForm) (is_form : de
   change_length Reclaim rules is made = elim is [
     | inl done ↦ after_writes device reply form is_form done.writes done.made
     | inr (inl refused) ↦ absurd (refused_not_made refusals.Check reply refused.0 made)
+    | inr (inr (inl failed)) ↦ absurd (failed_not_made failures.Device reply failed.0 made)
+    | inr (inr (inr failed)) ↦ absurd (failed_not_made failures.Memory reply failed made)
+  ]
+  change_length (MakeDirectory path date) rules is made = elim is [
+    | inl done ↦ after_writes device reply form is_form done.writes done.made
+    | inr (inl refused) ↦ absurd (refused_not_made refused.0 reply refused.1 made)
     | inr (inr (inl failed)) ↦ absurd (failed_not_made failures.Device reply failed.0 made)
     | inr (inr (inr failed)) ↦ absurd (failed_not_made failures.Memory reply failed made)
   ]

@@ -16,13 +16,14 @@ use Rattle.shop_jobs.specs.Job.{LookView}
 use Rattle.shop_reads.specs.GoingOn.{FailsForLackIn, ReadsFor, going_of}
 use Rattle.shop_changes.specs.Changing.{IsWorkOutcome, LacksMemory}
 use Rattle.shop_changes.specs.EditRules.{ChangedMeaning, changed_by}
-use Rattle.shop_changes.specs.Work.{WorkView, Optimize, EditOf, Reclaim, Replace, Save}
+use Rattle.shop_changes.specs.Work.{WorkView, Optimize, EditOf, MakeDirectory, Reclaim, Replace, Save}
 use Rattle.shop_changes.specs.declared.outcome.Outcome.{Outcome}
 use Rattle.shop_image.specs.ChangeReply.{IsChangeReply, StandsOnDevice, TellsOutcome}
 use Rattle.shop_image.specs.ReplaceReply.{HasDisk, IsOpened}
 use Rattle.shop_image.specs.VolumeReply.{IsVolumeIn, IsVolumeReply}
 use Rattle.shop_image.proofs.Edited.{edited_told}
 use Rattle.shop_image.proofs.Fresh.{IsFresh, failed_for_lack, image_fresh}
+use Rattle.shop_image.proofs.MadeDirectory.{directory_told}
 use Rattle.shop_image.proofs.Optimized.{optimized}
 use Rattle.shop_image.proofs.Reclaimed.{reclaimed_told}
 use Rattle.shop_image.proofs.Saved.{said_told}
@@ -77,6 +78,7 @@ module _ (device : DeviceState) (fresh : IsFresh device) (reply : Reply) where
   work_told (Save path said) format new outcome stands is tells = said_told device new fresh path said format.edits.save format.units outcome reply is tells
   work_told (Replace path said) format new outcome stands is tells = absurd stands
   work_told Reclaim format new outcome stands is tells = reclaimed_told device new fresh format.units outcome reply is tells
+  work_told (MakeDirectory path date) format new outcome stands is tells = directory_told device new fresh path date format.directories format.units outcome reply is tells
 
   pub changed_there : (work : WorkView) (format : ChangedMeaning) (new : DeviceState) (outcome : Outcome) → StandsOnDevice work
       → LacksMemory device new outcome ⊎ IsWorkOutcome work format device new outcome → TellsOutcome new outcome reply

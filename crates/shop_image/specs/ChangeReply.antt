@@ -7,11 +7,12 @@ use Rattle.shop_replies.specs.declared.reply.Status.TheVariants.{Done}
 use Rattle.shop_replies.specs.Reply.{IsHanded, IsInterrupted, IsMadeReply, failed, made_of, text_of}
 use Rattle.shop_changes.specs.EditRules.{ChangedMeaning}
 use Rattle.shop_changes.specs.Outcome.{report_text}
-use Rattle.shop_changes.specs.Work.{WorkView, Optimize, EditOf, Reclaim, Replace, Save}
+use Rattle.shop_changes.specs.Work.{WorkView, Optimize, EditOf, MakeDirectory, Reclaim, Replace, Save}
 use Rattle.shop_changes.specs.declared.outcome.Outcome.{Outcome}
 use Rattle.shop_changes.specs.declared.outcome.Outcome.TheVariants.{Optimized, Changed, Stopped, Unfinished}
 use Rattle.shop_image.specs.EditReply.{IsEdited}
 use Rattle.shop_image.specs.ImageBytes.{AreBytesOf}
+use Rattle.shop_image.specs.MakingReply.{IsDirectoryMade}
 use Rattle.shop_image.specs.OptimizeReply.{IsOptimized}
 use Rattle.shop_image.specs.ReclaimReply.{IsReclaimed}
 use Rattle.shop_image.specs.ReplaceReply.{IsReplaced}
@@ -29,6 +30,7 @@ IsChangeReply (EditOf edit name) format device reply = IsEdited edit name format
 IsChangeReply (Save path said) format device reply = IsSaidSaved path said format.edits.save format.units device reply
 IsChangeReply (Replace path said) format device reply = IsReplaced path said format device reply
 IsChangeReply Reclaim format device reply = IsReclaimed format.units device reply
+IsChangeReply (MakeDirectory path date) format device reply = IsDirectoryMade path date format.directories format.units device reply
 
 -- What is told of what became of the work, with the image that is now under the device: the report, or want of memory for
 -- it; `OK`; that the device failed, with the image as it stands. Of work that is not done the reply, and no image.

@@ -5,6 +5,7 @@ pub mod OptimizeReply
 pub mod EditReply
 pub mod SaveReply
 pub mod ReclaimReply
+pub mod MakingReply
 pub mod ReplaceReply
 pub mod ChangeReply
 pub mod DosCatalogReply

@@ -65,7 +65,11 @@ fn replacement(work: Work<'_>) -> Option<(&[u8], SaidFile<'_>)>
 {
     match work {
         Work::Replace { path, said } => Some((path, said)),
-        Work::Optimize { .. } | Work::Edit { .. } | Work::Save { .. } | Work::Reclaim => None,
+        Work::Optimize { .. }
+        | Work::Edit { .. }
+        | Work::Save { .. }
+        | Work::Reclaim
+        | Work::MakeDirectory { .. } => None,
     }
 }
 

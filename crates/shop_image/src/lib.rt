@@ -5,7 +5,7 @@
 //! The model. `specs/VolumeReply.antt` says what is refused before there is a device, and that what is told is told of
 //! the device of the image's units. Of a look that is `IsLookReply` of `shop_reads` (`specs/LookReply.antt`); of a
 //! change `IsChangeReply` (`specs/ChangeReply.antt`), by cases of the work `OptimizeReply`, `EditReply`,
-//! `SaveReply`, `ReplaceReply` and `ReclaimReply`, which say what the image is that is handed out
+//! `SaveReply`, `ReplaceReply`, `ReclaimReply` and `MakingReply`, which say what the image is that is handed out
 //! (`specs/ImageBytes.antt`). A file takes the place of another one here alone: in memory there is nothing between the
 //! two that could stay. `specs/DosCatalogReply.antt` tells the listing of a DOS 3.3 disk in its format's own words.
 //!

@@ -5,14 +5,16 @@ ghost use Rattle.shop_changes.specs.SaidFile.{said_view};
 ghost use Rattle.shop_image.specs.ReplaceReply.{HasDisk, IsOpened, IsPlainReplaced, IsReopened, IsReplaced};
 ghost use Rattle.shop_jobs.specs.declared.job.FileSystem.TheVariants.{Dos as OfDos, Prodos as OfProdos};
 ghost use Rattle.shop_replies.specs.Reply.{failed};
-ghost use Rattle.shop_replies.specs.Volume.{HasUnitsOf, meaning_of};
+ghost use Rattle.shop_replies.specs.Volume.{HasUnitsOf};
 ghost use Rattle.shop_replies.specs.declared.refusal.Failure.TheVariants.{Memory as OfMemory};
 ghost use Rattle.vol_format.specs.Fits.{Fits};
 
 use crate::changing::outcome_reply;
 use a2_device::Device;
 use a2_media::ImageDevice;
+use directory_making::DirectoryFormat;
 use dos_format::Dos33;
+use file_edits::Acceptance;
 use pro_format::Prodos;
 use reserved_places::Reserved;
 use save_formats::SavableFormat;
@@ -53,7 +55,8 @@ fn replace_plain<F: SavableFormat>(
     match make_way(alloc, &mut device, format, path, said) {
         Ok(given) => {
             let mut device = reopened(device, file_system);
-            let outcome = save_in_place(alloc, &mut device, format, path, given);
+            let known = Acceptance::Unknown;
+            let outcome = save_in_place(alloc, &mut device, format, known, path, given);
             outcome_reply(alloc, device, outcome)
         }
         Err(reply) => reply,
@@ -61,7 +64,7 @@ fn replace_plain<F: SavableFormat>(
 }
 
 // Saves a file as words and bytes say it in the place of another one.
-fn replace_said<F: SavableFormat>(
+fn replace_said<F: DirectoryFormat>(
     alloc: Global,
     device: ImageDevice,
     format: &F,
@@ -75,6 +78,7 @@ fn replace_said<F: SavableFormat>(
     requires opened { IsOpened file_system (⟦<ImageDevice as Device>⟧.state device) }
     ensures { IsReplaced path.now (said_view said.entry) (record {
       files = F.files format.now;
+      directories = F.directories format.now;
       edits = edit_rules (F.edits format.now) (F.names format.now) (F.erasures format.now) (F.saves format.now);
       units = F.meaning format.now;
     }) (⟦<ImageDevice as Device>⟧.state device) result }
@@ -104,7 +108,7 @@ fn replace_dos(
     requires disk { HasDisk OfDos (⟦<ImageDevice as Device>⟧.state device) }
     requires opened { IsOpened OfDos (⟦<ImageDevice as Device>⟧.state device) }
     ensures { (result ≡ failed OfMemory) ⊎ IsReplaced path.now (said_view said.entry)
-        (changed_in OfDos (meaning_of OfDos data_disk reserved)) (⟦<ImageDevice as Device>⟧.state device) result }
+        (changed_in OfDos data_disk reserved) (⟦<ImageDevice as Device>⟧.state device) result }
 {
     let Ok(format) = Dos33::new(alloc, data_disk, reserved) else {
         return Reply::failed(Failure::Memory);
@@ -123,7 +127,7 @@ fn replace_prodos(
     requires units { HasUnitsOf OfProdos (⟦<ImageDevice as Device>⟧.state device) }
     requires disk { HasDisk OfProdos (⟦<ImageDevice as Device>⟧.state device) }
     requires opened { IsOpened OfProdos (⟦<ImageDevice as Device>⟧.state device) }
-    ensures { IsReplaced path.now (said_view said.entry) (changed_in OfProdos (meaning_of OfProdos false reserved))
+    ensures { IsReplaced path.now (said_view said.entry) (changed_in OfProdos false reserved)
         (⟦<ImageDevice as Device>⟧.state device) result }
 {
     let format = Prodos::new(alloc, reserved);

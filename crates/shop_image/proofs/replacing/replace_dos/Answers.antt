@@ -11,5 +11,5 @@ use Rattle.shop_image.proofs.replacing.replace_dos.Goals as goal
 pub returns : goal.returns
 returns c =
     let device = c.args.device in
-    inr (subst (λ (rules : DosRules). IsReplaced c.args.path.now (said_view c.args.said) (changed_in Dos (meaning_of Dos rules.data_disk rules.reserved))
+    inr (subst (λ (rules : DosRules). IsReplaced c.args.path.now (said_view c.args.said) (changed_in Dos rules.data_disk rules.reserved)
     (image_state device.kind device.image device.writes device.standing device.faults) c.replace_said.result) c.in-Ok.ensures c.replace_said.ensures)

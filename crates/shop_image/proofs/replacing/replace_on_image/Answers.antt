@@ -14,13 +14,13 @@ pub returns-in-Dos : goal.returns-in-Dos
 returns-in-Dos c =
     let device = c.args.device in
     subst (λ (system : FileSystem). (c.replace_dos.result ≡ failed Memory) ⊎ IsReplaced c.args.path.now (said_view c.args.said)
-    (changed_in system (meaning_of system c.args.options.data_disk c.args.reserved))
+    (changed_in system c.args.options.data_disk c.args.reserved)
     (image_state device.kind device.image device.writes device.standing device.faults) c.replace_dos.result) (sym c.in-Dos.is) c.replace_dos.ensures
 
 pub returns-in-Prodos : goal.returns-in-Prodos
 returns-in-Prodos c =
     let device = c.args.device in
     subst (λ (system : FileSystem). (c.replace_prodos.result ≡ failed Memory) ⊎ IsReplaced c.args.path.now (said_view c.args.said)
-    (changed_in system (meaning_of system c.args.options.data_disk c.args.reserved))
+    (changed_in system c.args.options.data_disk c.args.reserved)
     (image_state device.kind device.image device.writes device.standing device.faults) c.replace_prodos.result) (sym c.in-Prodos.is)
     (inr c.replace_prodos.ensures)

@@ -11,5 +11,5 @@ use Rattle.shop_image.proofs.replacing.replace_prodos.Goals as goal
 pub returns : goal.returns
 returns c =
     let device = c.args.device in
-    subst (λ (reserved : List Bool). IsReplaced c.args.path.now (said_view c.args.said) (changed_in Prodos (meaning_of Prodos false reserved))
+    subst (λ (reserved : List Bool). IsReplaced c.args.path.now (said_view c.args.said) (changed_in Prodos false reserved)
     (image_state device.kind device.image device.writes device.standing device.faults) c.replace_said.result) c.new-format.ensures c.replace_said.ensures
