@@ -7,9 +7,10 @@ use Rattle.std.specs.Prelude.{◌⊎◌, Option, Some, None, IfSome, IsSome, cod
 use Rattle.file_forms.specs.declared.form.GivenForm.{GivenForm}
 use Rattle.shop_changes.specs.GivenFile.{most_input}
 use Rattle.shop_changes.specs.SaidFile.{SaidView}
-use Rattle.shop_jobs.specs.Job.{AddTo, AskView, AttributesView, ChangeOf, ChangeView, Convert, Create, EditOf, EditView, ExtractFrom, Identify, JobView, LookAt, LookView, Catalog, Entries, Check, Map, Compare, Read, Plan, Verify, Optimize, Reclaim, Save, Survey, Unwrap, Wrap}
+use Rattle.shop_jobs.specs.Job.{AddTo, AskView, AttributesView, ChangeOf, ChangeView, Convert, Create, EditOf, EditView, ExtractFrom, Identify, JobView, LookAt, LookView, MakeDirectory, Catalog, Entries, Check, Map, Compare, Read, Plan, Verify, Optimize, Reclaim, Save, Survey, Unwrap, Wrap}
 use Rattle.shop_jobs.specs.Paths.{HasImage, from_of, is_in_place, new_file_of}
 use Rattle.shop_jobs.specs.declared.job.FileSystem.{FileSystem}
+use Rattle.pro_dir.specs.declared.date.ProDate.{ProDate}
 use Rattle.shop_jobs.specs.declared.job.VolumeOptions.{VolumeOptions}
 use Rattle.shop_words.specs.Job.{asked_job}
 use Rattle.shop_words.specs.declared.fault.WordsFault.{WordsFault}
@@ -34,7 +35,7 @@ use Rattle.shop_image.specs.ChangeReply.{IsChangeReply}
 use Rattle.shop_image.specs.LookReply.{IsImageLook}
 use Rattle.shop_image.specs.VolumeReply.{IsVolumeReply}
 use Rattle.shop_image.proofs.Fronts.{replaced-take, saved-take, volume-told, volume-whole, with_said_bytes}
-use Rattle.shop_image.proofs.NotMade.{edited_image, reclaimed_image, replaced_image, said_image, sided_made, sided_same, volume_made}
+use Rattle.shop_image.proofs.NotMade.{directory_image, edited_image, reclaimed_image, replaced_image, said_image, sided_made, sided_same, volume_made}
 use Rattle.image_readings.proofs.Fronts.{identify-whole}
 use Rattle.image_readings.proofs.NotMade.{identify_not_made}
 use Rattle.shop_replies.specs.Reading.{IsReadFailure, most_beside, most_of_image}
@@ -72,6 +73,7 @@ asked-whole : (volume : VolumeOptions) (reserve : Option (List ℕ)) (image : Li
 asked-whole volume reserve image (Optimize reclaim stop_after cert) front bytes reply taken work asks told = (work, asks, told)
 asked-whole volume reserve image (EditOf name edit) front bytes reply taken work asks told = (work, asks, told)
 asked-whole volume reserve image Reclaim front bytes reply taken work asks told = (work, asks, told)
+asked-whole volume reserve image (MakeDirectory path date) front bytes reply taken work asks told = (work, asks, told)
 asked-whole volume reserve image (Save name attributes form from replace) front bytes reply taken work (said, is, asks) told = (
   saving_work replace name (with_said_bytes said bytes),
   (with_said_bytes said bytes, said-whole volume.file_system attributes form front bytes said is, refl),
@@ -223,6 +225,13 @@ reclaim_makes_image volume reserve image reply is made =
     volume_made volume reserve image (λ (reserved : List Bool). IsChangeReply works.Reclaim (changed_by volume reserved)) reply (IsMadeReply reply)
     (λ reserved device told. reclaimed_image (changed_by volume reserved).units device reply told made) is made
 
+-- so does a directory that is made
+making_makes_image : (volume : VolumeOptions) (reserve : Option (List ℕ)) (image path : List ℕ) (date : ProDate) (reply : Reply)
+    → IsWorkTold volume reserve image (works.MakeDirectory path date) reply → IsMade reply → IsMadeReply reply
+making_makes_image volume reserve image path date reply is made =
+    volume_made volume reserve image (λ (reserved : List Bool). IsChangeReply (works.MakeDirectory path date) (changed_by volume reserved)) reply (IsMadeReply reply)
+    (λ reserved device told. directory_image path date (changed_by volume reserved).directories (changed_by volume reserved).units device reply told made) is made
+
 ok_handed : (reply : Reply) (status : ℕ) (old new : Option (List ℕ)) → IsMadeReply reply → HandsOut reply status old new
     → Appends old new (codes "OK\n") × ((status ≡ 0) ⊎ (status ≡ 4))
 ok_handed reply status old new is out = (
@@ -256,6 +265,11 @@ hands_for (ChangeOf volume reserve Reclaim target) image more reply status old n
 hands_for (ChangeOf volume reserve Reclaim target) image more reply status old new (inr (work, asks, told)) made out =
     ok_handed reply status old new
     (reclaim_makes_image volume reserve image reply (subst (λ (w : WorkView). IsWorkTold volume reserve image w reply) asks told) made) out
+hands_for (ChangeOf volume reserve (MakeDirectory path said) target) image more reply status old new (inl (refusal, told, refuses)) made out =
+    absurd (refused_not_made refusal reply told made)
+hands_for (ChangeOf volume reserve (MakeDirectory path said) target) image more reply status old new (inr (work, (date, is, asks), told)) made out =
+    ok_handed reply status old new
+    (making_makes_image volume reserve image path date reply (subst (λ (w : WorkView). IsWorkTold volume reserve image w reply) asks told) made) out
 hands_for (ChangeOf volume reserve (Save name attributes form from replace) target) image more reply status old new (inl (refusal, told, refuses)) made out =
     absurd (refused_not_made refusal reply told made)
 hands_for (ChangeOf volume reserve (Save name attributes form from replace) target) image more reply status old new (inr (work, (said, is, asks), told)) made out =

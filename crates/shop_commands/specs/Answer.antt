@@ -8,7 +8,8 @@ use Rattle.file_forms.specs.declared.form.GivenForm.{GivenForm}
 use Rattle.shop_changes.specs.GivenWords.{kind_named}
 use Rattle.shop_changes.specs.SaidFile.{SaidView}
 use Rattle.pro_dates.specs.SaidDates.{IsDateOf, NamesDate}
-use Rattle.shop_jobs.specs.Job.{AddTo, AskView, AttributesView, Catalog, ChangeOf, ChangeView, Compare, Convert, Create, EditOf, ExtractFrom, Identify, JobView, LookAt, Optimize, Reclaim, Save, Survey, Unwrap, Wrap}
+use Rattle.pro_dir.specs.declared.date.ProDate.{ProDate}
+use Rattle.shop_jobs.specs.Job.{AddTo, AskView, AttributesView, Catalog, ChangeOf, ChangeView, Compare, Convert, Create, EditOf, ExtractFrom, Identify, JobView, LookAt, MakeDirectory, Optimize, Reclaim, Save, Survey, Unwrap, Wrap}
 use Rattle.shop_jobs.specs.Paths.{HasImage, from_of, is_in_place, new_file_of}
 use Rattle.shop_jobs.specs.declared.job.FileSystem.{FileSystem}
 use Rattle.shop_jobs.specs.declared.job.FileSystem.TheVariants as systems
@@ -73,6 +74,15 @@ abbrev pub saving_work : Bool → Text → SaidView → WorkView
 saving_work true name said = works.Replace name said
 saving_work false name said = works.Save name said
 
+-- a directory is made, with this path and the date that the words say
+abbrev pub IsMakingWork : Text → Option Text → WorkView → Type 0
+IsMakingWork path said work = (date : ProDate) × IsDateOf said date × (work ≡ works.MakeDirectory path date)
+
+-- they say no date
+abbrev pub RefusesDate : Option Text → Refusal → Type 0
+RefusesDate said refusals.Date = ¬ NamesDate said
+RefusesDate said refusal = ⊥
+
 -- the work that a change asks of its volume, with the bytes of a file beside the image
 abbrev pub AsksFor : VolumeOptions → ChangeView → List ℕ → WorkView → Type 0
 AsksFor volume (Optimize reclaim stop_after cert) bytes work = work ≡ works.Optimize reclaim (limit_of stop_after)
@@ -80,10 +90,12 @@ AsksFor volume (EditOf name edit) bytes work = work ≡ works.EditOf edit (named
 AsksFor volume (Save name attributes form from replace) bytes work =
     (said : SaidView) × IsSaid volume.file_system attributes form bytes said × (work ≡ saving_work replace name said)
 AsksFor volume Reclaim bytes work = work ≡ works.Reclaim
+AsksFor volume (MakeDirectory path date) bytes work = IsMakingWork path date work
 
--- the words of a change are refused: those of a saving alone
+-- the words of a change are refused: those of a saving, and of a directory that is made those of its date
 abbrev pub RefusesWords : VolumeOptions → ChangeView → Refusal → Type 0
 RefusesWords volume (Save name attributes form from replace) refusal = RefusesAttributes volume.file_system attributes refusal
+RefusesWords volume (MakeDirectory path date) refusal = RefusesDate date refusal
 RefusesWords volume change refusal = ⊥
 
 -- ---- what is told
@@ -196,7 +208,8 @@ MakesImage (AddTo volume reserve words out) = ⊥
 MakesImage (ChangeOf volume reserve change target) = is_in_place (ChangeOf volume reserve change target) ≡ false
 
 -- the image of a job is handed out, once its text is told: `OK` for a conversion, a container that is made or unwrapped, a
--- new volume, a file that is read, an edit, a saving or lost places marked free, else that of the optimizer's reply
+-- new volume, a file that is read, an edit, a saving, lost places marked free or a directory that is made, else that of the
+-- optimizer's reply
 abbrev pub HandsOutFor : AskView → ℕ → Option (List ℕ) → Option (List ℕ) → Type 0
 HandsOutFor (Convert words) status old new = Appends old new (codes "OK\n") × ((status ≡ 0) ⊎ (status ≡ 4))
 HandsOutFor (Wrap words out) status old new = Appends old new (codes "OK\n") × ((status ≡ 0) ⊎ (status ≡ 4))
@@ -206,6 +219,7 @@ HandsOutFor (LookAt volume reserve look) status old new = Appends old new (codes
 HandsOutFor (ChangeOf volume reserve (EditOf name edit) target) status old new = Appends old new (codes "OK\n") × ((status ≡ 0) ⊎ (status ≡ 4))
 HandsOutFor (ChangeOf volume reserve (Save name attributes form from replace) target) status old new = Appends old new (codes "OK\n") × ((status ≡ 0) ⊎ (status ≡ 4))
 HandsOutFor (ChangeOf volume reserve Reclaim target) status old new = Appends old new (codes "OK\n") × ((status ≡ 0) ⊎ (status ≡ 4))
+HandsOutFor (ChangeOf volume reserve (MakeDirectory path date) target) status old new = Appends old new (codes "OK\n") × ((status ≡ 0) ⊎ (status ≡ 4))
 HandsOutFor ask status old new = HandsImage status old new
 
 -- what is told where bytes could not be read; a comparison says of which of its images

@@ -5,8 +5,10 @@ ghost use Rattle.shop_jobs.specs.Job.{attributes_view, change_view};
 ghost use Rattle.shop_changes.specs.Work.{work_view};
 ghost use Rattle.shop_commands.specs.Answer.{
   AsksFor,
+  IsMakingWork,
   IsSaid,
   RefusesAttributes,
+  RefusesDate,
   RefusesWords,
   kind_said as said_kind,
   limit_of as of_limit,
@@ -78,10 +80,26 @@ fn saving_work<'a>(replace: bool, path: &'a [u8], said: SaidFile<'a>) -> Work<'a
     }
 }
 
+// The work of a directory that is made.
+fn making_work<'a>(path: &'a str, said: Option<&str>) -> Result<Work<'a>, Refusal>
+    ensures work { IfOk result (λ work. IsMakingWork path.entry.now (option_map (λ s. s.now) said.entry)
+        (work_view work)) }
+    ensures refused { IfErr result (RefusesDate (option_map (λ s. s.now) said.entry)) }
+{
+    match date(said) {
+        Some(date) => Ok(Work::MakeDirectory {
+            path: path.as_bytes(),
+            date,
+        }),
+        None => Err(Refusal::Date),
+    }
+}
+
 /// The work that a change asks of its volume, with the bytes of a file beside the image.
 ///
 /// # Errors
-/// Of a saving alone: `Type` for a type that the file system does not have, then `Date` for a date that is none.
+/// Of a saving `Type` for a type that the file system does not have, then `Date` for a date that is none; of a directory
+/// that is made `Date` too. Of another change there is none.
 pub fn change_work<'a>(
     volume: VolumeOptions,
     change: &'a Change,
@@ -114,5 +132,6 @@ pub fn change_work<'a>(
             Ok(saving_work(*replace, name.as_bytes(), said))
         }
         Change::Reclaim => Ok(Work::Reclaim),
+        Change::MakeDirectory { path, date } => making_work(path, date.as_deref()),
     }
 }
