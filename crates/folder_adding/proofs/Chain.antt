@@ -13,6 +13,7 @@ use Rattle.shop_changes.specs.GivenFile.{GivenView, most_input}
 use Rattle.shop_changes.specs.SaidFile.{Gives}
 use Rattle.shop_changes.specs.Saves.{HasGivenSaved}
 use Rattle.shop_changes.specs.declared.outcome.Outcome.TheVariants.{Changed}
+use Rattle.vol_format.specs.Accepted.{IsVolume}
 use Rattle.vol_format.specs.Meaning.{Meaning}
 
 -- of a text that is no longer than is taken, all was read
@@ -36,6 +37,14 @@ module _ (batch : BatchView) (saves : SaveMeaning) (format : Meaning) where
 
   pub item_honest : (holds : Option (ℕ → List ℕ)) (number : ℕ) (item : ItemView) (old new : DeviceState) → IsItemAdded batch holds saves format number item old new → new.honest ≡ old.honest
   item_honest holds number item old new added = (said_same item.path (said_by batch item added.bytes) saves format old new Changed added.saved).honest
+
+  pub item_volume : (holds : Option (ℕ → List ℕ)) (number : ℕ) (item : ItemView) (old new : DeviceState) → IsTrue old.honest → IsItemAdded batch holds saves format number item old new
+      → IsVolume format new.store
+  item_volume holds number item old new honest added =
+      let tried = said_saved item.path (said_by batch item added.bytes) saves format old new added.saved in
+      let done = tells_changed tried.tried.result tried.tried.told in
+      let saved = subst (λ (result : Result (Unit {0}) EditError). OnOk result (HasGivenSaved item.path tried.given saves format old.store new.store)) done (tried.tried.saved honest) in
+      saved.saved.volume
 
   pub added_quiet : (holds : Option (ℕ → List ℕ)) (number : ℕ) (items : List ItemView) (old new : DeviceState) → AreAdded batch holds saves format number items old new → new.faults ≡ old.faults
   added_quiet holds number [] old new added = ap (λ (d : DeviceState). d.faults) added

@@ -11,7 +11,7 @@ use Rattle.std.proofs.lemmas.Slice.Eq.{bytes_eq-Decides}
 use Rattle.folder_adding.specs.HostEntries.{EntryView, entry_view, has_file, has_file_beside, is_file, readable_path}
 use Rattle.folder_adding.specs.declared.host_entry.HostEntry.{HostEntry}
 use Rattle.folder_adding.specs.declared.host_entry.HostKind.{HostKind}
-use Rattle.folder_adding.specs.declared.host_entry.HostKind.TheVariants.{File, Folder, EmptyFolder, Other}
+use Rattle.folder_adding.specs.declared.host_entry.HostKind.TheVariants.{File, Folder, Other}
 
 -- two paths are equal where their readable forms are
 same_beside : (one other : List ℕ) → bytes_eq one other ≡ bytes_eq (readable_path one) (readable_path other)
@@ -50,7 +50,6 @@ cond_or false false = refl
 pub not_file : (kind : HostKind) → (kind ≡ File → ⊥) → is_file kind ≡ false
 not_file File other = absurd (other refl)
 not_file Folder other = refl
-not_file EmptyFolder other = refl
 not_file Other other = refl
 
 -- ---- the entries up to the next one

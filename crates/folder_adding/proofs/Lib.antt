@@ -2,14 +2,15 @@ mod Chain
 mod Entering
 mod FilesBeside
 mod ItemsSaid
-mod LastParts
 mod Looked
+mod KeptDirectories
 mod OneSaid
 mod Outcomes
 mod PathParts
 mod PlanSteps
 mod Replies
 mod SaidAlone
+mod Same
 mod Shown
 mod Steps
 mod Told

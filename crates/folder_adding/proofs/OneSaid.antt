@@ -2,16 +2,15 @@
 use Rattle.std.proofs.Common.{◌≡◌, ◌⊎◌, ◌∙◌, inl, inr, ℕ, List, [], ◌∷◌, ap, ap₂, sym, subst, refl, true, false}
 use Rattle.std.specs.Prelude.{Bool, Option, Some, None, Ok, Err, cond}
 use Rattle.std.proofs.lemmas.Bool.{cond-false, cond-true}
-use Rattle.edit_formats.specs.ProNames.{is_pro_name}
 use Rattle.folder_adding.specs.HostEntries.{EntryView}
-use Rattle.folder_adding.specs.HostPaths.{SaidPath, SayParts, SaysDirectory, SaysPath, Text, last_part, may_have, parts}
+use Rattle.folder_adding.specs.HostPaths.{SaidDirectory, SaidPath, SayPartsIn, SaysDirectory, SaysPath, Text, are_pro_names, may_have, parts}
 use Rattle.folder_adding.specs.OneVerdict.{HasOneVerdict}
-use Rattle.folder_adding.specs.Verdicts.{AddedFolder, IsFileVerdict, IsFolderVerdict, Step, Verdict, adds, leaves, passes, is_directory, is_item, is_second, item_said, no_directory, no_directory_name, no_name, no_path, no_type, second_form}
+use Rattle.folder_adding.specs.Verdicts.{AddedFolder, IsFileVerdict, IsFolderVerdict, Verdict, adds, passes, is_directory, is_item, is_second, item_said, making_said, no_directory, no_directory_name, no_name, no_path, no_type, second_form}
 use Rattle.folder_adding.specs.Verdicts.{IsVerdictOf}
 use Rattle.folder_adding.specs.declared.host_entry.HostKind.{HostKind}
-use Rattle.folder_adding.specs.declared.host_entry.HostKind.TheVariants.{File, Folder, EmptyFolder, Other}
+use Rattle.folder_adding.specs.declared.host_entry.HostKind.TheVariants.{File, Folder, Other}
 use Rattle.host_entries.proofs.One.{one_file, one_folder}
-use Rattle.host_entries.specs.HostEntries.{FileView}
+use Rattle.host_entries.specs.HostEntries.{FileView, SaysFile, SaysFolder}
 use Rattle.reserved_places.specs.declared.form.PlaceForm.TheVariants.{Block, Sector}
 use Rattle.shop_changes.specs.GivenWords.{kind_for}
 use Rattle.shop_jobs.specs.declared.job.FileSystem.{FileSystem}
@@ -20,16 +19,17 @@ use Rattle.shop_replies.specs.declared.refusal.Refusal.TheVariants as refusals
 
 -- ---- what paths say
 
-one_way : (ps names others : List Text) (file other : FileView) → SayParts ps names file → SayParts ps others other → (names ≡ others) × (file ≡ other)
-one_way [] names others file other is also = absurd is
-one_way (last ∷ []) [] [] file other is also = (refl, one_file Block last file other is also)
-one_way (last ∷ []) [] (name ∷ others) file other is also = absurd also
-one_way (last ∷ []) (name ∷ names) others file other is also = absurd is
-one_way (folder ∷ next ∷ behind) [] others file other is also = absurd is
-one_way (folder ∷ next ∷ behind) (name ∷ names) [] file other is also = absurd also
-one_way (folder ∷ next ∷ behind) (name ∷ names) (second ∷ others) file other is also =
-    let rest = one_way (next ∷ behind) names others file other is.1 also.1 in
-    (ap₂ (λ (x : Text) (xs : List Text). x ∷ xs) (one_folder Block folder name second is.0 also.0) rest.0, rest.1)
+module _ {S : Type 0} (Says : Text → S → Type 0) (one_said : (text : Text) (one other : S) → Says text one → Says text other → one ≡ other) where
+  one_way : (ps names others : List Text) (one other : S) → SayPartsIn Says ps names one → SayPartsIn Says ps others other → (names ≡ others) × (one ≡ other)
+  one_way [] names others one other is also = absurd is
+  one_way (last ∷ []) [] [] one other is also = (refl, one_said last one other is also)
+  one_way (last ∷ []) [] (name ∷ others) one other is also = absurd also
+  one_way (last ∷ []) (name ∷ names) others one other is also = absurd is
+  one_way (folder ∷ next ∷ behind) [] others one other is also = absurd is
+  one_way (folder ∷ next ∷ behind) (name ∷ names) [] one other is also = absurd also
+  one_way (folder ∷ next ∷ behind) (name ∷ names) (second ∷ others) one other is also =
+      let rest = one_way (next ∷ behind) names others one other is.1 also.1 in
+      (ap₂ (λ (x : Text) (xs : List Text). x ∷ xs) (one_folder Block folder name second is.0 also.0) rest.0, rest.1)
 
 abbrev said : List Text → FileView → SaidPath
 said names file = record { directories = names; file = file }
@@ -41,30 +41,37 @@ pub one_path : (file_system : FileSystem) (path : Text) (one other : SaidPath) �
 one_path Dos path one other is also =
     same_said one.directories other.directories one.file other.file (is.1 ∙ sym also.1) (one_file Sector path one.file other.file is.2 also.2)
 one_path Prodos path one other is also =
-    let same = one_way (parts path) one.directories other.directories one.file other.file is also in
+    let same = one_way (SaysFile Block) (one_file Block) (parts path) one.directories other.directories one.file other.file is also in
     same_said one.directories other.directories one.file other.file same.0 same.1
 
-one_directory : (file_system : FileSystem) (path one other : Text) → SaysDirectory file_system path one → SaysDirectory file_system path other → one ≡ other
+abbrev said_directory : List Text → Text → SaidDirectory
+said_directory names name = record { directories = names; name = name }
+
+one_directory : (file_system : FileSystem) (path : Text) (one other : SaidDirectory) → SaysDirectory file_system path one → SaysDirectory file_system path other → one ≡ other
 one_directory Dos path one other is also = absurd is
-one_directory Prodos path one other is also = one_folder Block (last_part path) one other is also
+one_directory Prodos path one other is also =
+    let same = one_way (SaysFolder Block) (one_folder Block) (parts path) one.directories other.directories one.name other.name is also in
+    ap₂ said_directory same.0 same.1
 
 -- ---- folders
 
-module _ (file_system : FileSystem) (path : Text) (step : Step) where
-  -- what becomes of the folder of a directory that has this name
-  of_name : Text → Verdict
-  of_name name = cond (is_pro_name name) (Ok step) (Err refusals.Name)
+module _ (folder : AddedFolder) (path : Text) where
+  -- what becomes of the folder whose path says this
+  of_directory : SaidDirectory → Verdict
+  of_directory directory = cond (are_pro_names directory.directories directory.name) (Ok (making_said folder directory)) (Err refusals.Name)
 
-  -- the path says no name, or it says one, and that tells what becomes of it
-  folder_case : (verdict : Verdict) → IsFolderVerdict file_system path step verdict
-      → (((name : Text) → ¬ SaysDirectory file_system path name) × (verdict ≡ Err refusals.Host))
-      ⊎ ((name : Text) × SaysDirectory file_system path name × (verdict ≡ of_name name))
-  unfolding of_name
+  -- the path says no directory, or it says one, and that tells what becomes of it
+  folder_case : (verdict : Verdict) → IsFolderVerdict folder path verdict
+      → (((directory : SaidDirectory) → ¬ SaysDirectory folder.file_system path directory) × (verdict ≡ Err refusals.Host))
+      ⊎ ((directory : SaidDirectory) × SaysDirectory folder.file_system path directory × (verdict ≡ of_directory directory))
+  unfolding of_directory
   folder_case _ (no_directory none) = inl (none, refl)
-  folder_case _ (no_directory_name name says is) = inr (name, says, sym (cond-false (is_pro_name name) (Ok step) (Err refusals.Name) is))
-  folder_case _ (is_directory name says is) = inr (name, says, sym (cond-true (is_pro_name name) (Ok step) (Err refusals.Name) is))
+  folder_case _ (no_directory_name directory says is) =
+      inr (directory, says, sym (cond-false (are_pro_names directory.directories directory.name) (Ok (making_said folder directory)) (Err refusals.Name) is))
+  folder_case _ (is_directory directory says is) =
+      inr (directory, says, sym (cond-true (are_pro_names directory.directories directory.name) (Ok (making_said folder directory)) (Err refusals.Name) is))
 
-  one_folder_verdict : (one other : Verdict) → IsFolderVerdict file_system path step one → IsFolderVerdict file_system path step other → one ≡ other
+  one_folder_verdict : (one other : Verdict) → IsFolderVerdict folder path one → IsFolderVerdict folder path other → one ≡ other
   one_folder_verdict one other is also = elim (folder_case one is) [
     | inl none ↦ elim (folder_case other also) [
       | inl nothing ↦ none.1 ∙ sym nothing.1
@@ -72,7 +79,7 @@ module _ (file_system : FileSystem) (path : Text) (step : Step) where
     ]
     | inr named ↦ elim (folder_case other also) [
       | inl nothing ↦ absurd (nothing.0 named.0 named.1)
-      | inr renamed ↦ named.2 ∙ ap of_name (one_directory file_system path named.0 renamed.0 named.1 renamed.1) ∙ sym renamed.2
+      | inr renamed ↦ named.2 ∙ ap of_directory (one_directory folder.file_system path named.0 renamed.0 named.1 renamed.1) ∙ sym renamed.2
     ]
   ]
 
@@ -134,8 +141,7 @@ module _ (folder : AddedFolder) (path : Text) where
 
 one_of : (folder : AddedFolder) (path : Text) (kind : HostKind) (one other : Verdict) → IsVerdictOf folder path kind one → IsVerdictOf folder path kind other → one ≡ other
 one_of folder path File one other is also = one_file_verdict folder path one other is also
-one_of folder path Folder one other is also = one_folder_verdict folder.file_system path leaves one other is also
-one_of folder path EmptyFolder one other is also = one_folder_verdict folder.file_system path passes one other is also
+one_of folder path Folder one other is also = one_folder_verdict folder path one other is also
 one_of folder path Other one other is also = is ∙ sym also
 
 pub one_verdict : (folder : AddedFolder) (entry : EntryView) → HasOneVerdict folder entry

@@ -8,8 +8,9 @@ use Rattle.std.proofs.lemmas.List.Elements.{filter-append, filter_map-append}
 use Rattle.std.proofs.lemmas.Slice.Zip.{AllZip-long}
 use Rattle.folder_adding.specs.HostEntries.{EntryView, entry_view}
 use Rattle.folder_adding.specs.Items.{ItemView}
-use Rattle.folder_adding.specs.Plan.{AreSteps, IsFirstRefused, IsPlan, PlanView, is_adding, is_passing, item_added, numbers_of, plan_of}
-use Rattle.folder_adding.specs.Verdicts.{AddedFolder, IsVerdict, Step, adds, leaves, passes}
+use Rattle.folder_adding.specs.HostPaths.{Text}
+use Rattle.folder_adding.specs.Plan.{AreSteps, IsFirstRefused, IsPlan, PlanView, directory_made, is_adding, is_making, is_passing, item_added, numbers_of, plan_of}
+use Rattle.folder_adding.specs.Verdicts.{AddedFolder, IsVerdict, Step, adds, makes, passes}
 use Rattle.folder_adding.specs.Weighing.{with_step}
 use Rattle.folder_adding.specs.declared.host_entry.HostEntry.{HostEntry}
 use Rattle.shop_replies.specs.declared.refusal.Refusal.{Refusal}
@@ -31,26 +32,46 @@ module _ (test : Step → Bool) (steps : List Step) (step : Step) where
       ∙ ap (map (λ (n : ℕ × Step). n.0)) (filter-append (λ (n : ℕ × Step). test n.1) all ((length steps, step) ∷ []))
       ∙ map-append (λ (n : ℕ × Step). n.0) (filter (λ (n : ℕ × Step). test n.1) all) (filter (λ (n : ℕ × Step). test n.1) ((length steps, step) ∷ []))
 
-abbrev pub made_of : List ItemView → List ℕ → List ℕ → PlanView
-made_of items files passed = record { items = items; files = files; passed = passed }
+abbrev pub made_of : List Text → List ℕ → List ItemView → List ℕ → List ℕ → PlanView
+made_of directories folders items files passed =
+    record { directories = directories; folders = folders; items = items; files = files; passed = passed }
 
-pub same_plan : (items items' : List ItemView) (files files' passed passed' : List ℕ) → items ≡ items' → files ≡ files' → passed ≡ passed'
-    → made_of items files passed ≡ made_of items' files' passed'
-same_plan items items' files files' passed passed' one two three =
-    ap₂ (λ (i : List ItemView) (f : List ℕ). made_of i f passed) one two ∙ ap (made_of items' files') three
+pub same_plan : (directories directories' : List Text) (folders folders' : List ℕ) (items items' : List ItemView) (files files' passed passed' : List ℕ)
+    → directories ≡ directories' → folders ≡ folders' → items ≡ items' → files ≡ files' → passed ≡ passed'
+    → made_of directories folders items files passed ≡ made_of directories' folders' items' files' passed'
+same_plan directories directories' folders folders' items items' files files' passed passed' one two three four five =
+    ap₂ (λ (d : List Text) (f : List ℕ). made_of d f items files passed) one two
+    ∙ ap₂ (λ (i : List ItemView) (f : List ℕ). made_of directories' folders' i f passed) three four
+    ∙ ap (made_of directories' folders' items' files') five
 
 -- the plan of one step more
+module _ (steps : List Step) (step : Step) where
+  directories_more : filter_map directory_made (steps ++ step ∷ []) ≡ filter_map directory_made steps ++ filter_map directory_made (step ∷ [])
+  directories_more = filter_map-append directory_made steps (step ∷ [])
+
+  items_more : filter_map item_added (steps ++ step ∷ []) ≡ filter_map item_added steps ++ filter_map item_added (step ∷ [])
+  items_more = filter_map-append item_added steps (step ∷ [])
+
 pub plan-more : (steps : List Step) (step : Step) → plan_of (steps ++ step ∷ []) ≡ with_step (length steps) (plan_of steps) step
 plan-more steps (adds item) =
-    same_plan _ _ _ _ _ _ (filter_map-append item_added steps (adds item ∷ [])) (numbers-more is_adding steps (adds item))
+    same_plan _ _ _ _ _ _ _ _ _ _
+    (directories_more steps (adds item) ∙ append-nil (filter_map directory_made steps))
+    (numbers-more is_making steps (adds item) ∙ append-nil (numbers_of is_making steps))
+    (items_more steps (adds item)) (numbers-more is_adding steps (adds item))
     (numbers-more is_passing steps (adds item) ∙ append-nil (numbers_of is_passing steps))
+plan-more steps (makes path) =
+    same_plan _ _ _ _ _ _ _ _ _ _
+    (directories_more steps (makes path)) (numbers-more is_making steps (makes path))
+    (items_more steps (makes path) ∙ append-nil (filter_map item_added steps))
+    (numbers-more is_adding steps (makes path) ∙ append-nil (numbers_of is_adding steps))
+    (numbers-more is_passing steps (makes path) ∙ append-nil (numbers_of is_passing steps))
 plan-more steps passes =
-    same_plan _ _ _ _ _ _ (filter_map-append item_added steps (passes ∷ []) ∙ append-nil (filter_map item_added steps))
-    (numbers-more is_adding steps passes ∙ append-nil (numbers_of is_adding steps)) (numbers-more is_passing steps passes)
-plan-more steps leaves =
-    same_plan _ _ _ _ _ _ (filter_map-append item_added steps (leaves ∷ []) ∙ append-nil (filter_map item_added steps))
-    (numbers-more is_adding steps leaves ∙ append-nil (numbers_of is_adding steps))
-    (numbers-more is_passing steps leaves ∙ append-nil (numbers_of is_passing steps))
+    same_plan _ _ _ _ _ _ _ _ _ _
+    (directories_more steps passes ∙ append-nil (filter_map directory_made steps))
+    (numbers-more is_making steps passes ∙ append-nil (numbers_of is_making steps))
+    (items_more steps passes ∙ append-nil (filter_map item_added steps))
+    (numbers-more is_adding steps passes ∙ append-nil (numbers_of is_adding steps))
+    (numbers-more is_passing steps passes)
 
 -- ---- the entries up to the next one
 

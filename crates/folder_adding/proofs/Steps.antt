@@ -11,8 +11,9 @@ use Rattle.folder_adding.specs.Refused.{CountsFailure, HasRefused, IsItemRefused
 use Rattle.folder_adding.specs.Steps.{IsAddedAt, IsRefusedAt, item_at, no_item}
 use Rattle.folder_adding.specs.declared.adding.Refused.{Refused}
 use Rattle.folder_adding.specs.declared.item.Item.{Item}
-use Rattle.folder_adding.proofs.Chain.{added_quiet, known_stored, one_more}
+use Rattle.folder_adding.proofs.Chain.{added_quiet, item_volume, known_stored, one_more}
 use Rattle.folder_adding.proofs.Outcomes.{said_counts, said_kept}
+use Rattle.folder_adding.proofs.Same.{same_on}
 use Rattle.save_formats.specs.Saves.{SaveMeaning}
 use Rattle.shop_changes.specs.SaidFile.{IsSaidOutcome, SaidView}
 use Rattle.shop_changes.specs.declared.outcome.Outcome.{Outcome}
@@ -23,6 +24,7 @@ use Rattle.shop_replies.specs.declared.reply.Reply.{Reply}
 use Rattle.shop_replies.specs.declared.reply.Told.TheVariants as Told
 use Rattle.shop_replies.specs.Reading.{IsReadFailure}
 use Rattle.shop_replies.specs.Reply.{failed}
+use Rattle.vol_format.specs.Accepted.{IsVolume}
 use Rattle.vol_format.specs.Meaning.{Meaning}
 
 long_enough : (items : List ItemView) (number : ℕ) → number < length items → length (take number items) ≡ number
@@ -62,6 +64,13 @@ pub record AreAddedTo (batch : BatchView) (holds now : Option (ℕ → List ℕ)
   pub files : now ≡ holds
   pub same : IsSameDevice old new
   pub added : AreAdded batch holds saves format 0 (take number batch.items) old new
+
+pub none_added : (batch : BatchView) (holds : Option (ℕ → List ℕ)) (saves : SaveMeaning) (format : Meaning) (device : DeviceState) → AreAddedTo batch holds holds saves format 0 device device
+none_added batch holds saves format device = record {
+  files = refl;
+  same = record { places = refl; unit_size = refl; image = refl; honest = refl; unreadable = refl };
+  added = refl;
+}
 
 module _ {H : Type 0} (may_fail : H → ℕ → Failure → Type 0) (batch : BatchView) (holds : Option (ℕ → List ℕ)) (saves : SaveMeaning) (format : Meaning) where
   -- one more of the first items was saved
@@ -114,16 +123,6 @@ module _ {H : Type 0} (may_fail : H → ℕ → Failure → Type 0) (batch : Bat
 
 -- ---- what the loop keeps, and what it ends with
 
--- two devices one after the other are the same
-same_on : (old mid new : DeviceState) → IsSameDevice old mid → IsSameDevice mid new → IsSameDevice old new
-same_on old mid new first then = record {
-  places = then.places ∙ first.places;
-  unit_size = then.unit_size ∙ first.unit_size;
-  image = then.image ∙ first.image;
-  honest = then.honest ∙ first.honest;
-  unreadable = then.unreadable ∙ first.unreadable;
-}
-
 module _ {H : Type 0} (may_fail : H → ℕ → Failure → Type 0) (batch : BatchView) (holds now : Option (ℕ → List ℕ)) (saves : SaveMeaning) (format : Meaning) (number : ℕ) (old mid : DeviceState)
     (so_far : AreAddedTo batch holds now saves format number old mid) where
   module _ (inside : number < length batch.items) (new : DeviceState) where
@@ -134,6 +133,10 @@ module _ {H : Type 0} (may_fail : H → ℕ → Failure → Type 0) (batch : Bat
       added = more_added may_fail batch holds saves format number old mid new inside so_far.added
           (subst (λ (held : Option (ℕ → List ℕ)). IsAddedAt batch held saves format number mid new) so_far.files last);
     }
+
+    -- and the volume is accepted
+    pub accepted_on : IsAddedAt batch now saves format number mid new → IsTrue old.honest → IsVolume format new.store
+    accepted_on last honest = item_volume batch saves format now number (item_at batch.items number) mid new (subst IsTrue (sym so_far.same.honest) honest) last
 
     module _ (reply : Reply) (refusal : IsRefusedAt may_fail batch now saves format number mid new reply) where
       refused_so : IsRefusedAt may_fail batch holds saves format number mid new reply

@@ -6,6 +6,7 @@ use Rattle.disk_container.specs.declared.shell.Shell.{Shell}
 use Rattle.file_listings.specs.DosText.{Text, line}
 use Rattle.folder_adding.specs.Added.{AreAdded, HasAdded}
 use Rattle.folder_adding.specs.AddedText.{added_text}
+use Rattle.folder_adding.specs.Directories.{AreKept, HasDirectories, HasNoDirectory, Making, making_by}
 use Rattle.folder_adding.specs.HostEntries.{EntryView}
 use Rattle.folder_adding.specs.Items.{BatchView, new_files}
 use Rattle.folder_adding.specs.Numbered.{contents_of}
@@ -17,14 +18,14 @@ use Rattle.folder_adding.specs.declared.host_entry.HostKind.TheVariants.{Other}
 use Rattle.pro_dates.specs.SaidDates.{IsDateOf, NamesDate}
 use Rattle.pro_dir.specs.declared.date.ProDate.{ProDate}
 use Rattle.save_formats.specs.Saves.{SaveMeaning}
-use Rattle.shop_changes.specs.EditRules.{edits_of}
+use Rattle.shop_changes.specs.EditRules.{ChangedMeaning, changed_by}
 use Rattle.shop_image.specs.ImageBytes.{AreBytesOf, KeepsBytes}
 use Rattle.shop_image.specs.VolumeReply.{IsVolumeReply}
 use Rattle.shop_jobs.specs.Job.{AdditionView, AddTo, AskView}
 use Rattle.shop_jobs.specs.declared.job.VolumeOptions.{VolumeOptions}
 use Rattle.shop_replies.specs.ContainerReply.{IsInShell}
 use Rattle.shop_replies.specs.Reply.{IsHanded, IsTold, failed, made_of, refused, text_of}
-use Rattle.shop_replies.specs.Volume.{LacksUnit, meaning_of}
+use Rattle.shop_replies.specs.Volume.{LacksUnit}
 use Rattle.shop_replies.specs.declared.refusal.Failure.TheVariants as failures
 use Rattle.shop_replies.specs.declared.refusal.Failure.{Failure}
 use Rattle.shop_replies.specs.declared.refusal.Refusal.TheVariants as refusals
@@ -63,7 +64,7 @@ path_of entries number = (slice_index_or entries number (record { path = codes "
 
 -- ---- the items of a plan
 
--- what is added: the folder, its plan and the date of each file
+-- what is added: the folder, its plan and the date of each file and directory
 pub record AdditionTo : Type 0 where
   pub folder : AddedFolder
   pub plan : PlanView
@@ -101,31 +102,54 @@ pub record IsNotAllAdded {H : Type 0} (may_fail : H → ℕ → Failure → Type
   pub refused : HasRefused may_fail (batch_of adding) (items_hold adding holds) saves format device left item
   pub told : TellsAt (path_of adding.folder.entries (slice_index_or adding.plan.files item.item 0)) item.reply reply
 
--- what became of the items of a plan
+-- what became of the items of a plan on a volume that has its directories
 abbrev pub AreToldItems : {H : Type 0} → (H → ℕ → Failure → Type 0) → AdditionTo → Option (ℕ → List ℕ) → SaveMeaning → Meaning → DeviceState → Reply → Type 0
 AreToldItems may_fail adding holds saves format device reply =
     IsAllAdded adding holds saves format device reply ⊎ IsNotAllAdded may_fail adding holds saves format device reply
 
--- What is told of the items: that the volume is not accepted, or could not be looked at; or what became of them on a volume
--- that is accepted.
-abbrev pub IsItemsReply : {H : Type 0} → (H → ℕ → Failure → Type 0) → AdditionTo → Option (ℕ → List ℕ) → SaveMeaning → Meaning → DeviceState → Reply → Type 0
-IsItemsReply may_fail adding holds saves format device reply =
-    ((reply ≡ refused refusals.Check) × ¬ IsVolume format device.store)
+-- ---- a plan
+
+abbrev pub making_of : AdditionTo → ChangedMeaning → Making
+making_of adding format = making_by format.directories format.units adding.date
+
+-- All directories are there, and this is told of the items on the volume that has them.
+pub record IsToldBehind {H : Type 0} (may_fail : H → ℕ → Failure → Type 0) (adding : AdditionTo) (holds : Option (ℕ → List ℕ))
+    (format : ChangedMeaning) (device : DeviceState) (reply : Reply) : Type 0 where
+  pub between : DeviceState
+  pub kept : AreKept (making_of adding format) adding.plan.directories device between
+  pub stored : HasDirectories (making_of adding format) adding.plan.directories device.store between.store
+  pub told : AreToldItems may_fail adding holds format.edits.save format.units between reply
+
+-- A directory is not there and was not made: those before it are there, and it is told why, with the path of its folder.
+pub record IsNotAllMade (adding : AdditionTo) (format : ChangedMeaning) (device : DeviceState) (reply : Reply) : Type 0 where
+  pub left : DeviceState
+  pub directory : RefusedItem
+  pub refused : HasNoDirectory (making_of adding format) adding.plan.directories device left directory
+  pub told : TellsAt (path_of adding.folder.entries (slice_index_or adding.plan.folders directory.item 0)) directory.reply reply
+
+abbrev pub IsPlanTold : {H : Type 0} → (H → ℕ → Failure → Type 0) → AdditionTo → Option (ℕ → List ℕ) → ChangedMeaning → DeviceState → Reply → Type 0
+IsPlanTold may_fail adding holds format device reply =
+    IsToldBehind may_fail adding holds format device reply ⊎ IsNotAllMade adding format device reply
+
+-- What is told of a plan: that the volume is not accepted, or could not be looked at; or what became of its directories and
+-- items on a volume that is accepted.
+abbrev pub IsPlanReply : {H : Type 0} → (H → ℕ → Failure → Type 0) → AdditionTo → Option (ℕ → List ℕ) → ChangedMeaning → DeviceState → Reply → Type 0
+IsPlanReply may_fail adding holds format device reply =
+    ((reply ≡ refused refusals.Check) × ¬ IsVolume format.units device.store)
     ⊎ ((reply ≡ failed failures.Device) × LacksUnit device)
     ⊎ (reply ≡ failed failures.Memory)
-    ⊎ (IsVolume format device.store × AreToldItems may_fail adding holds saves format device reply)
+    ⊎ (IsVolume format.units device.store × IsPlanTold may_fail adding holds format device reply)
 
 -- ---- the folder
 
--- What is told of the folder: the first entry that is refused, before anything is read; or what is told of the items of its
--- plan.
-abbrev pub IsFolderReply : {H : Type 0} → (H → ℕ → Failure → Type 0) → AddedFolder → ProDate → Option (ℕ → List ℕ) → SaveMeaning → Meaning → DeviceState → Reply → Type 0
-IsFolderReply may_fail folder date holds saves format device reply =
+-- What is told of the folder: the first entry that is refused, before anything is read; or what is told of its plan.
+abbrev pub IsFolderReply : {H : Type 0} → (H → ℕ → Failure → Type 0) → AddedFolder → ProDate → Option (ℕ → List ℕ) → ChangedMeaning → DeviceState → Reply → Type 0
+IsFolderReply may_fail folder date holds format device reply =
     (reply ≡ failed failures.Memory)
     ⊎ ((number : ℕ) × (refusal : Refusal) × IsFirstRefused folder number refusal
     × TellsAt (path_of folder.entries number) (refused refusal) reply)
     ⊎ ((plan : PlanView) × IsPlan folder plan
-    × IsItemsReply may_fail (record { folder = folder; plan = plan; date = date }) holds saves format device reply)
+    × IsPlanReply may_fail (record { folder = folder; plan = plan; date = date }) holds format device reply)
 
 -- the entries of a folder, added as words say it
 abbrev pub folder_by : VolumeOptions → AdditionView → List EntryView → AddedFolder
@@ -137,8 +161,7 @@ IsAddReply may_fail volume reserve words entries holds image reply =
     ((reply ≡ refused refusals.Date) × ¬ NamesDate words.date)
     ⊎ ((date : ProDate) × IsDateOf words.date date
     × IsVolumeReply volume reserve image (λ reserved device told.
-    IsFolderReply may_fail (folder_by volume words entries) date holds (edits_of volume.file_system).save
-    (meaning_of volume.file_system volume.data_disk reserved) device told) reply)
+    IsFolderReply may_fail (folder_by volume words entries) date holds (changed_by volume reserved) device told) reply)
 
 -- the image that is handed out stands in the shell of the container, where there is one
 abbrev pub IsShelled : Option (Shell Global) → Reply → Reply → Type 0

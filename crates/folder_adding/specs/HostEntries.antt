@@ -4,7 +4,7 @@ use Rattle.std.specs.List.{list_any}
 use Rattle.std.specs.Str.{bytes_eq}
 use Rattle.folder_adding.specs.declared.host_entry.HostEntry.{HostEntry}
 use Rattle.folder_adding.specs.declared.host_entry.HostKind.{HostKind}
-use Rattle.folder_adding.specs.declared.host_entry.HostKind.TheVariants.{File, Folder, EmptyFolder, Other}
+use Rattle.folder_adding.specs.declared.host_entry.HostKind.TheVariants.{File, Folder, Other}
 
 -- an entry as contracts see it: the bytes of its path from the folder on, with `/` between its parts, and what it is
 pub record EntryView : Type 0 where
@@ -18,7 +18,6 @@ entry_view entry = record { path = string_bytes entry.path; kind = entry.kind }
 abbrev pub is_file : HostKind → Bool
 is_file File = true
 is_file Folder = false
-is_file EmptyFolder = false
 is_file Other = false
 
 -- whether one of the entries is a file of this path

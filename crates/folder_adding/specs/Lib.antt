@@ -17,3 +17,4 @@ pub mod Replying
 pub mod Steps
 pub mod Verdicts
 pub mod Weighing
+pub mod Directories

@@ -2,14 +2,13 @@
 use Rattle.std.specs.Prelude.{◌≡◌, ◌&&◌, ℕ, Bool, true, false, List, Option, Some, None, Result, Ok, Err}
 use Rattle.apple_text.specs.declared.form.HighBit.{HighBit}
 use Rattle.apple_text.specs.declared.form.HighBit.TheVariants.{On, Off}
-use Rattle.edit_formats.specs.ProNames.{is_pro_name}
 use Rattle.file_forms.specs.declared.form.GivenForm.{GivenForm}
 use Rattle.file_forms.specs.declared.form.GivenForm.TheVariants as given
 use Rattle.folder_adding.specs.HostEntries.{EntryView, has_file_beside}
-use Rattle.folder_adding.specs.HostPaths.{SaidPath, SaysDirectory, SaysPath, Text, may_have, volume_path}
+use Rattle.folder_adding.specs.HostPaths.{SaidDirectory, SaidPath, SaysDirectory, SaysPath, Text, are_pro_names, may_have, pro_path, volume_path}
 use Rattle.folder_adding.specs.Items.{ItemView}
 use Rattle.folder_adding.specs.declared.host_entry.HostKind.{HostKind}
-use Rattle.folder_adding.specs.declared.host_entry.HostKind.TheVariants.{File, Folder, EmptyFolder, Other}
+use Rattle.folder_adding.specs.declared.host_entry.HostKind.TheVariants.{File, Folder, Other}
 use Rattle.host_entries.specs.declared.entry.Content.{Content}
 use Rattle.host_entries.specs.declared.entry.Content.TheVariants as contents
 use Rattle.shop_changes.specs.GivenWords.{kind_for}
@@ -25,11 +24,12 @@ pub record AddedFolder : Type 0 where
   pub into : Option Text
   pub entries : List EntryView
 
--- what is done with an entry that is not refused: an item is added, it is passed over with a word, or nothing is told of it
+-- what is done with an entry that is not refused: an item is added, the directory of this path is made where none is there,
+-- or the entry is passed over with a word
 pub data Step : Type 0 where
   adds : ItemView → Step
+  makes : Text → Step
   passes : Step
-  leaves : Step
 
 -- what becomes of an entry: a step, or why it is refused
 abbrev pub Verdict : Type 0
@@ -37,14 +37,18 @@ Verdict = Result Step Refusal
 
 -- ---- folders
 
--- A folder: its path says the name of a directory, and a directory may have that name.
-pub data IsFolderVerdict (file_system : FileSystem) (path : Text) (step : Step) : Verdict → Type 0 where
-  no_directory : ((name : Text) → ¬ SaysDirectory file_system path name)
-      → IsFolderVerdict file_system path step (Err refusals.Host)
-  no_directory_name : (name : Text) → SaysDirectory file_system path name → is_pro_name name ≡ false
-      → IsFolderVerdict file_system path step (Err refusals.Name)
-  is_directory : (name : Text) → SaysDirectory file_system path name → is_pro_name name ≡ true
-      → IsFolderVerdict file_system path step (Ok step)
+-- the step of a folder whose path says this
+abbrev pub making_said : AddedFolder → SaidDirectory → Step
+making_said folder said = makes (pro_path folder.into said.directories said.name)
+
+-- A folder: its path says a directory, and directories may have the names.
+pub data IsFolderVerdict (folder : AddedFolder) (path : Text) : Verdict → Type 0 where
+  no_directory : ((said : SaidDirectory) → ¬ SaysDirectory folder.file_system path said)
+      → IsFolderVerdict folder path (Err refusals.Host)
+  no_directory_name : (said : SaidDirectory) → SaysDirectory folder.file_system path said
+      → are_pro_names said.directories said.name ≡ false → IsFolderVerdict folder path (Err refusals.Name)
+  is_directory : (said : SaidDirectory) → SaysDirectory folder.file_system path said
+      → are_pro_names said.directories said.name ≡ true → IsFolderVerdict folder path (Ok (making_said folder said))
 
 -- ---- files
 
@@ -97,12 +101,10 @@ pub data IsFileVerdict (folder : AddedFolder) (path : Text) : Verdict → Type 0
 
 -- ---- all entries
 
--- a folder is left where it has entries, and passed over with a word where it has none; of everything else than files and
--- folders the name is not looked at
+-- of everything else than files and folders the name is not looked at
 abbrev pub IsVerdictOf : AddedFolder → Text → HostKind → Verdict → Type 0
 IsVerdictOf folder path File verdict = IsFileVerdict folder path verdict
-IsVerdictOf folder path Folder verdict = IsFolderVerdict folder.file_system path leaves verdict
-IsVerdictOf folder path EmptyFolder verdict = IsFolderVerdict folder.file_system path passes verdict
+IsVerdictOf folder path Folder verdict = IsFolderVerdict folder path verdict
 IsVerdictOf folder path Other verdict = verdict ≡ Err refusals.Host
 
 abbrev pub IsVerdict : AddedFolder → EntryView → Verdict → Type 0

@@ -4,18 +4,20 @@ use Rattle.std.specs.HashSet.{contains_by}
 use Rattle.std.specs.Option.{option_copied}
 use Rattle.std.specs.Str.{bytes_eq}
 use Rattle.folder_adding.specs.HostEntries.{EntryView, entry_view, has_file}
-use Rattle.folder_adding.specs.HostPaths.{SaidPath, Text}
+use Rattle.folder_adding.specs.HostPaths.{SaidDirectory, SaidPath, SayFolders, SayParts, Text, parts}
 use Rattle.folder_adding.specs.Items.{item_view}
 use Rattle.folder_adding.specs.Plan.{PlanView}
-use Rattle.folder_adding.specs.Verdicts.{AddedFolder, Step, Verdict, adds, passes, leaves}
+use Rattle.folder_adding.specs.Verdicts.{AddedFolder, Step, Verdict, adds, makes, passes}
 use Rattle.folder_adding.specs.declared.beside.FilePaths.{FilePaths}
 use Rattle.folder_adding.specs.declared.step.Destination.{Destination}
+use Rattle.folder_adding.specs.declared.said_path.HostDirectory.{HostDirectory}
 use Rattle.folder_adding.specs.declared.said_path.HostPath.{HostPath}
 use Rattle.folder_adding.specs.declared.step.Step.{Step as StepMade}
-use Rattle.folder_adding.specs.declared.step.Step.TheVariants.{Adds, Passes, Leaves}
+use Rattle.folder_adding.specs.declared.step.Step.TheVariants.{Adds, Makes, Passes}
 use Rattle.folder_adding.specs.declared.step.Weighed.{Weighed}
-use Rattle.folder_adding.specs.declared.step.Weighed.TheVariants.{Makes, Refused}
-use Rattle.host_entries.specs.HostEntries.{file_view}
+use Rattle.folder_adding.specs.declared.step.Weighed.TheVariants.{Step as MakesStep, Refused}
+use Rattle.host_entries.specs.HostEntries.{FileView, SaysFile, SaysFolder, file_view}
+use Rattle.reserved_places.specs.declared.form.PlaceForm.TheVariants.{Block}
 
 -- these are the paths of the files among the entries
 abbrev pub ArePathsOf : List EntryView → FilePaths → Type 0
@@ -29,13 +31,28 @@ pub record IsCut (path folder behind : Text) : Type 0 where
 abbrev pub said_view : HostPath → SaidPath
 said_view said = record { directories = map (λ name. name.items) said.directories.items; file = file_view said.file }
 
+abbrev pub directory_view : HostDirectory → SaidDirectory
+directory_view said = record { directories = map (λ name. name.items) said.directories.items; name = said.name.items }
+
+-- the parts of a path before its last one say these names: what the last one says the path says
+pub record IsParted (path : Text) (names : List Text) (last : Text) : Type 0 where
+  pub file : (file : FileView) → SaysFile Block last file → SayParts (parts path) names file
+  pub file_alone : (all : List Text) (file : FileView) → SayParts (parts path) all file → SaysFile Block last file
+  pub folder : (name : Text) → SaysFolder Block last name → SayFolders (parts path) names name
+  pub folder_alone : (all : List Text) (name : Text) → SayFolders (parts path) all name → SaysFolder Block last name
+
+-- one of them says none
+pub record IsUnsaid (path : Text) : Type 0 where
+  pub file : (all : List Text) (file : FileView) → ¬ SayParts (parts path) all file
+  pub folder : (all : List Text) (name : Text) → ¬ SayFolders (parts path) all name
+
 abbrev pub step_view : StepMade → Step
 step_view (Adds item) = adds (item_view item)
+step_view (Makes path) = makes path.items
 step_view Passes = passes
-step_view Leaves = leaves
 
 abbrev pub verdict_view : Weighed → Verdict
-verdict_view (Makes step) = Ok (step_view step)
+verdict_view (MakesStep step) = Ok (step_view step)
 verdict_view (Refused refusal) = Err refusal
 
 -- the folder of these entries, added to that place of a volume
@@ -45,5 +62,5 @@ folder_at destination entries = record { file_system = destination.file_system; 
 -- the plan with the step of the entry that has this number
 abbrev pub with_step : ℕ → PlanView → Step → PlanView
 with_step number plan (adds item) = record plan { items = plan.items ++ item ∷ []; files = plan.files ++ number ∷ [] }
+with_step number plan (makes path) = record plan { directories = plan.directories ++ path ∷ []; folders = plan.folders ++ number ∷ [] }
 with_step number plan passes = record plan { passed = plan.passed ++ number ∷ [] }
-with_step number plan leaves = plan

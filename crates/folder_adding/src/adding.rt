@@ -5,17 +5,19 @@ ghost use Rattle.folder_adding.specs.Added.{AreAdded, HasAdded};
 ghost use Rattle.folder_adding.specs.Items.{batch_view, new_files};
 ghost use Rattle.folder_adding.specs.Refused.{CountsFailure, HasRefused};
 ghost use Rattle.folder_adding.specs.Steps.{IsAddedAt, IsRefusedAt};
+ghost use Rattle.vol_format.specs.Accepted.{IsVolume};
 ghost use Rattle.vol_format.specs.Fits.{Fits};
 
 use crate::host_files::HostFiles;
 use crate::item::Batch;
 use a2_device::Device;
+use file_edits::Acceptance;
 use save_formats::SavableFormat;
 use shop_changes::{Outcome, save_said};
 use shop_replies::Reply;
 use std::alloc::Global;
 
-/// The first item that was not saved, and why; the items before it were.
+/// The first item that was not saved, or directory that was not made, and why; those before it were.
 #[derive(Debug, Drop)]
 pub struct Refused {
     /// Its number, counted from 0.
@@ -28,12 +30,15 @@ fn add_item<D: Device, F: SavableFormat, H: HostFiles>(
     alloc: Global,
     device: &mut D,
     format: &F,
+    acceptance: Acceptance,
     batch: &Batch<'_>,
     number: usize,
     files: &mut H,
 ) -> Result<(), Reply>
     requires fits { Fits (F.meaning format.now) (D.state device.old) }
     requires size { 0 < (D.state device.old).unit_size }
+    requires accepted { acceptance ≡ Acceptance.Known → IsTrue (D.state device.old).honest
+        → IsVolume (F.meaning format.now) (D.state device.old).store }
     requires inside { number < length batch.now.items.now }
 
     ensures files { H.holds files.new ≡ H.holds files.old }
@@ -49,7 +54,8 @@ fn add_item<D: Device, F: SavableFormat, H: HostFiles>(
         Err(failure) => return Err(Reply::failed(failure)),
     };
     let said = batch.said(item, bytes.as_slice());
-    match save_said(alloc, device, format, item.path.as_slice(), said) {
+    let path = item.path.as_slice();
+    match save_said(alloc, device, format, acceptance, path, said) {
         Outcome::Changed => Ok(()),
         Outcome::Unfinished(reply) => Err(reply),
         _ => unreachable!(),
@@ -57,7 +63,8 @@ fn add_item<D: Device, F: SavableFormat, H: HostFiles>(
 }
 
 /// Saves all items to a device's volume, in order, each with the bytes of the file that has its number. One file is in
-/// memory at a time.
+/// memory at a time. Where it is known that the volume is accepted, it is not checked first, and behind the first item it
+/// is known.
 ///
 /// # Errors
 /// The first item whose file can't be read, or that is not saved, with the reply to that; the items before it were
@@ -66,11 +73,14 @@ pub fn add_all<D: Device, F: SavableFormat, H: HostFiles>(
     alloc: Global,
     device: &mut D,
     format: &F,
+    acceptance: Acceptance,
     batch: &Batch<'_>,
     files: &mut H,
 ) -> Result<(), Refused>
     requires fits { Fits (F.meaning format.now) (D.state device.old) }
     requires size { 0 < (D.state device.old).unit_size }
+    requires accepted { acceptance ≡ Acceptance.Known → IsTrue (D.state device.old).honest
+        → IsVolume (F.meaning format.now) (D.state device.old).store }
 
     // every device
     ensures files { H.holds files.new ≡ H.holds files.old }
@@ -89,13 +99,15 @@ pub fn add_all<D: Device, F: SavableFormat, H: HostFiles>(
         (new_files (batch_view batch.now) contents 0 (batch_view batch.now).items)
         (D.state device.old).store (D.state device.new).store)) }
 {
+    let mut known = acceptance;
     for number in 0..batch.items.len() {
-        if let Err(reply) = add_item(alloc, device, format, batch, number, files) {
+        if let Err(reply) = add_item(alloc, device, format, known, batch, number, files) {
             return Err(Refused {
                 item: number,
                 reply,
             });
         }
+        known = Acceptance::Known;
     }
     Ok(())
 }

@@ -6,10 +6,7 @@ ghost use Rattle.std.specs.List.{starts_with};
 #[derive(Clone, Copy, Debug, PartialEq, Eq, PartialOrd, Ord)]
 pub enum HostKind {
     File,
-    /// A folder with at least one entry.
     Folder,
-    /// A folder without one.
-    EmptyFolder,
     /// A link, a pipe, a device, or what has a name that is no text.
     Other,
 }

@@ -2,10 +2,14 @@
 //! files saved one after the other. All of them are, or the first that was not is told.
 //!
 //! The model of a plan. `specs/HostEntries.antt` has the entries of a folder, `specs/HostPaths.antt` what their paths
-//! say of files and directories of a volume, and `specs/Verdicts.antt` what becomes of an entry: an item is added, it is
-//! passed over with a word, it is left, or it is refused for a cause. `plan` answers the plan of a folder
-//! (`specs/Plan.antt`), in which each entry makes its step, or the first entry that is refused. That an entry has one
-//! verdict alone is a law (`specs/OneVerdict.antt`).
+//! say of files and directories of a volume, and `specs/Verdicts.antt` what becomes of an entry: an item is added, a
+//! directory is made where none is there, the entry is passed over with a word, or it is refused for a cause. `plan`
+//! answers the plan of a folder (`specs/Plan.antt`), in which each entry makes its step, or the first entry that is
+//! refused. That an entry has one verdict alone is a law (`specs/OneVerdict.antt`).
+//!
+//! The model of directories. `make_all` looks for each of a list of paths, and makes the directory where none is there
+//! (`specs/Directories.antt`). That the volume keeps its files by that is a law. All directories are made before the
+//! first file is read, so that each file finds its own.
 //!
 //! The model of what is saved. `specs/Items.antt` has a `Batch`: its `Item`s, each with its path on the volume, what is
 //! said of it and the form in which its bytes are given, and what all of them share, the file system and the date. An
@@ -22,8 +26,9 @@
 //! (`specs/AddedText.antt`), each path of an item as a listing shows that of its file, which is a law too
 //! (`specs/Listed.antt`).
 //!
-//! `add_reply` answers the job (`specs/AddReply.antt`): the plan of the folder, its items saved to the volume of the
-//! image, and the image handed out where all of them were. A refusal for an entry is told with the entry's path.
+//! `add_reply` answers the job (`specs/AddReply.antt`): the plan of the folder, its directories made and its items saved
+//! on the volume of the image, and the image handed out where all of that was done. A refusal for an entry is told with
+//! the entry's path.
 //!
 //! What always holds: one file is in memory at a time; after a failure of the device nothing of it is called again; and
 //! where no failure of the device is told and an item is not saved, the volume is that of the items before it.
@@ -36,6 +41,7 @@ mod host_entry;
 mod host_files;
 mod item;
 mod law;
+mod making;
 mod memory;
 mod numbered;
 mod passing;
@@ -56,7 +62,9 @@ pub use host_files::HostFiles;
 pub use item::{Batch, Item};
 pub use law::{
     a_saved_file_is_told_as_it_is_listed, added_files_are_entered, an_entry_makes_one_step,
+    directories_keep_the_files,
 };
+pub use making::make_all;
 pub use memory::MemoryFiles;
 pub use numbered::NumberedFiles;
 pub use planned::{Plan, PlanError};

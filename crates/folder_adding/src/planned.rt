@@ -10,6 +10,10 @@ use thiserror::Error;
 /// What is to be done with the entries of a folder whose files are added to a volume.
 #[derive(Debug, PartialEq, Eq, Drop)]
 pub struct Plan {
+    /// The paths of the directories that are made, each where none is there.
+    pub directories: Vec<Vec<u8>>,
+    /// For each directory the number of its entry.
+    pub folders: Vec<usize>,
     /// The files that are to be saved.
     pub items: Vec<Item>,
     /// For each item the number of its entry.

@@ -1,4 +1,4 @@
-// Which files of a folder are added to a volume, and as which items.
+// Which files and folders of a folder are added to a volume, and as what.
 ghost use Rattle.std.specs.Prelude.{◌≡◌, IfErr, IfOk, OnOk, map};
 ghost use Rattle.std.specs.Option.{option_copied};
 ghost use Rattle.folder_adding.specs.HostEntries.{entry_view};
@@ -22,8 +22,11 @@ fn push_step(plan: &mut Plan, number: usize, step: Step) -> Result<(), AllocErro
             plan.items.push(item)?;
             plan.files.push(number)?;
         }
+        Step::Makes(path) => {
+            plan.directories.push(path)?;
+            plan.folders.push(number)?;
+        }
         Step::Passes => plan.passed.push(number)?,
-        Step::Leaves => {}
     }
     Ok(())
 }
@@ -53,13 +56,15 @@ pub fn plan(
     let files = file_paths(alloc, entries)?;
     let destination = Destination { file_system, into };
     let mut plan = Plan {
+        directories: Vec::new(alloc),
+        folders: Vec::new(alloc),
         items: Vec::new(alloc),
         files: Vec::new(alloc),
         passed: Vec::new(alloc),
     };
     for (number, entry) in entries.iter().enumerate() {
         match weigh(alloc, &destination, &files, entry)? {
-            Weighed::Makes(step) => push_step(&mut plan, number, step)?,
+            Weighed::Step(step) => push_step(&mut plan, number, step)?,
             Weighed::Refused(refusal) => {
                 return Err(PlanError::Refused {
                     entry: number,

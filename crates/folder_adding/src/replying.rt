@@ -7,7 +7,8 @@ ghost use Rattle.folder_adding.specs.AddReply.{
   IsAddAnswer,
   IsAddReply,
   IsFolderReply,
-  IsItemsReply,
+  IsPlanReply,
+  IsPlanTold,
   IsShelled,
   TellsAdded,
   TellsAt,
@@ -18,12 +19,12 @@ ghost use Rattle.folder_adding.specs.HostEntries.{entry_view};
 ghost use Rattle.folder_adding.specs.Items.{batch_view};
 ghost use Rattle.folder_adding.specs.Plan.{plan_view};
 ghost use Rattle.folder_adding.specs.Replying.{adding_view, folder_view, numbered_may_fail, tells_device};
-ghost use Rattle.shop_changes.specs.EditRules.{edits_of};
+ghost use Rattle.shop_changes.specs.EditRules.{changed_by, changed_in, edit_rules};
 ghost use Rattle.shop_image.specs.ReplaceReply.{IsOpened};
 ghost use Rattle.shop_jobs.specs.Job.{addition_view, ask_view};
 ghost use Rattle.shop_jobs.specs.declared.job.FileSystem.TheVariants.{Dos as OfDos, Prodos as OfProdos};
 ghost use Rattle.shop_replies.specs.Reply.{failed, refused};
-ghost use Rattle.shop_replies.specs.Volume.{HasUnitsOf, meaning_of};
+ghost use Rattle.shop_replies.specs.Volume.{HasUnitsOf};
 ghost use Rattle.shop_replies.specs.declared.refusal.Failure.TheVariants as failures;
 ghost use Rattle.shop_replies.specs.declared.refusal.Refusal.TheVariants as refusals;
 ghost use Rattle.vol_format.specs.Accepted.{IsVolume};
@@ -33,6 +34,7 @@ use crate::adding::{Refused, add_all};
 use crate::host_entry::HostEntry;
 use crate::host_files::HostFiles;
 use crate::item::Batch;
+use crate::making::make_all;
 use crate::numbered::NumberedFiles;
 use crate::planned::{Plan, PlanError};
 use crate::planning::plan;
@@ -40,8 +42,10 @@ use crate::refusing::reply_at;
 use crate::telling::added_text;
 use a2_device::Device;
 use a2_media::ImageDevice;
+use directory_making::DirectoryFormat;
 use disk_container::Shell;
 use dos_format::Dos33;
+use file_edits::Acceptance;
 use pro_dates::date;
 use pro_dir::ProDate;
 use pro_format::Prodos;
@@ -149,7 +153,7 @@ fn refused_reply(alloc: Global, refused: Refused, entries: &[HostEntry], files: 
     reply_at(alloc, path_at(entries, entry_of(files, item)), reply)
 }
 
-// Saves the items of a plan to the volume of an image, one after the other, and tells of them.
+// Saves the items of a plan to the accepted volume of an image, one after the other, and tells of them.
 fn save_items<F: SavableFormat, H: HostFiles>(
     alloc: Global,
     device: ImageDevice,
@@ -161,20 +165,52 @@ fn save_items<F: SavableFormat, H: HostFiles>(
     requires fits { Fits (F.meaning format.now) (⟦<ImageDevice as Device>⟧.state device) }
     requires size { 0 < (⟦<ImageDevice as Device>⟧.state device).unit_size }
     requires honest { IsTrue (⟦<ImageDevice as Device>⟧.state device).honest }
+    requires accepted { IsVolume (F.meaning format.now) (⟦<ImageDevice as Device>⟧.state device).store }
     ensures told { (result ≡ failed failures.Memory) ⊎ AreToldItems (numbered_may_fail H.may_fail) (adding_view folder.now (plan_view plan.now)) (H.holds files.old)
         (F.saves format.now) (F.meaning format.now) (⟦<ImageDevice as Device>⟧.state device) result }
 {
     let mut device = device;
     let batch = batch_of(folder, plan);
     let mut numbered = NumberedFiles::new(plan.files.as_slice(), files);
-    match add_all(alloc, &mut device, format, &batch, &mut numbered) {
+    let known = Acceptance::Known;
+    match add_all(alloc, &mut device, format, known, &batch, &mut numbered) {
         Ok(()) => added_reply(alloc, device, folder, plan),
         Err(refused) => refused_reply(alloc, refused, folder.entries, plan.files.as_slice()),
     }
 }
 
+// Makes the directories of a plan and saves its items, and tells of them.
+fn save_plan<F: DirectoryFormat, H: HostFiles>(
+    alloc: Global,
+    device: ImageDevice,
+    format: &F,
+    folder: &Folder<'_>,
+    plan: &Plan,
+    files: &mut H,
+) -> Reply
+    requires fits { Fits (F.meaning format.now) (⟦<ImageDevice as Device>⟧.state device) }
+    requires size { 0 < (⟦<ImageDevice as Device>⟧.state device).unit_size }
+    requires honest { IsTrue (⟦<ImageDevice as Device>⟧.state device).honest }
+    requires accepted { IsVolume (F.meaning format.now) (⟦<ImageDevice as Device>⟧.state device).store }
+    ensures told { (result ≡ failed failures.Memory) ⊎ IsPlanTold (numbered_may_fail H.may_fail)
+        (adding_view folder.now (plan_view plan.now)) (H.holds files.old) (record {
+          files = F.files format.now;
+          directories = F.directories format.now;
+          edits = edit_rules (F.edits format.now) (F.names format.now) (F.erasures format.now) (F.saves format.now);
+          units = F.meaning format.now;
+        }) (⟦<ImageDevice as Device>⟧.state device) result }
+{
+    let mut device = device;
+    let paths = plan.directories.as_slice();
+    let folders = plan.folders.as_slice();
+    match make_all(alloc, &mut device, format, paths, folder.date) {
+        Ok(()) => save_items(alloc, device, format, folder, plan, files),
+        Err(refused) => refused_reply(alloc, refused, folder.entries, folders),
+    }
+}
+
 // The same, where the volume is accepted.
-fn add_items<F: SavableFormat, H: HostFiles>(
+fn add_plan<F: DirectoryFormat, H: HostFiles>(
     alloc: Global,
     device: ImageDevice,
     format: &F,
@@ -185,12 +221,17 @@ fn add_items<F: SavableFormat, H: HostFiles>(
     requires fits { Fits (F.meaning format.now) (⟦<ImageDevice as Device>⟧.state device) }
     requires size { 0 < (⟦<ImageDevice as Device>⟧.state device).unit_size }
     requires opened { IsOpened folder.now.file_system (⟦<ImageDevice as Device>⟧.state device) }
-    ensures told { IsItemsReply (numbered_may_fail H.may_fail) (adding_view folder.now (plan_view plan.now)) (H.holds files.old)
-        (F.saves format.now) (F.meaning format.now) (⟦<ImageDevice as Device>⟧.state device) result }
+    ensures told { IsPlanReply (numbered_may_fail H.may_fail) (adding_view folder.now (plan_view plan.now))
+        (H.holds files.old) (record {
+          files = F.files format.now;
+          directories = F.directories format.now;
+          edits = edit_rules (F.edits format.now) (F.names format.now) (F.erasures format.now) (F.saves format.now);
+          units = F.meaning format.now;
+        }) (⟦<ImageDevice as Device>⟧.state device) result }
 {
     let mut device = device;
     match weigh_volume(alloc, &mut device, format) {
-        Ok(()) => save_items(alloc, device, format, folder, plan, files),
+        Ok(()) => save_plan(alloc, device, format, folder, plan, files),
         Err(reply) => reply,
     }
 }
@@ -207,13 +248,13 @@ fn add_to_dos<H: HostFiles>(
 ) -> Reply
     requires units { HasUnitsOf OfDos (⟦<ImageDevice as Device>⟧.state device) }
     requires opened { IsOpened folder.now.file_system (⟦<ImageDevice as Device>⟧.state device) }
-    ensures told { IsItemsReply (numbered_may_fail H.may_fail) (adding_view folder.now (plan_view plan.now)) (H.holds files.old)
-        (edits_of OfDos).save (meaning_of OfDos data_disk reserved) (⟦<ImageDevice as Device>⟧.state device) result }
+    ensures told { IsPlanReply (numbered_may_fail H.may_fail) (adding_view folder.now (plan_view plan.now))
+        (H.holds files.old) (changed_in OfDos data_disk reserved) (⟦<ImageDevice as Device>⟧.state device) result }
 {
     let Ok(format) = Dos33::new(alloc, data_disk, reserved) else {
         return Reply::failed(Failure::Memory);
     };
-    add_items(alloc, device, &format, folder, plan, files)
+    add_plan(alloc, device, &format, folder, plan, files)
 }
 
 // The same of a ProDOS volume.
@@ -228,12 +269,12 @@ fn add_to_prodos<H: HostFiles>(
 ) -> Reply
     requires units { HasUnitsOf OfProdos (⟦<ImageDevice as Device>⟧.state device) }
     requires opened { IsOpened folder.now.file_system (⟦<ImageDevice as Device>⟧.state device) }
-    ensures told { IsItemsReply (numbered_may_fail H.may_fail) (adding_view folder.now (plan_view plan.now)) (H.holds files.old)
-        (edits_of OfProdos).save (meaning_of OfProdos data_disk reserved) (⟦<ImageDevice as Device>⟧.state device)
+    ensures told { IsPlanReply (numbered_may_fail H.may_fail) (adding_view folder.now (plan_view plan.now))
+        (H.holds files.old) (changed_in OfProdos data_disk reserved) (⟦<ImageDevice as Device>⟧.state device)
         result }
 {
     let format = Prodos::new(alloc, reserved);
-    add_items(alloc, device, &format, folder, plan, files)
+    add_plan(alloc, device, &format, folder, plan, files)
 }
 
 // Adds the files of a folder to the volume under a device, where each of its entries says what is to be done with it.
@@ -249,8 +290,7 @@ fn add_folder<H: HostFiles>(
     requires opened { IsOpened volume.file_system (⟦<ImageDevice as Device>⟧.state device) }
     requires same { folder.now.file_system ≡ volume.file_system }
     ensures told { IsFolderReply (numbered_may_fail H.may_fail) (folder_view folder.now) folder.now.date (H.holds files.old)
-        (edits_of volume.file_system).save (meaning_of volume.file_system volume.data_disk reserved)
-        (⟦<ImageDevice as Device>⟧.state device) result }
+        (changed_by volume reserved) (⟦<ImageDevice as Device>⟧.state device) result }
 {
     match plan(alloc, folder.file_system, folder.into, folder.entries) {
         Ok(plan) => match volume.file_system {
@@ -324,11 +364,13 @@ fn in_shell(alloc: Global, shell: Option<&Shell>, reply: Reply) -> Reply
 
 /// The reply to a job that adds the files of a folder to the volume of an image, with the bytes of that, or of the
 /// payload of a container with this shell. These are the entries of the folder, and `files` has a file for each number
-/// of an entry; one of them is in memory at a time.
+/// of an entry; one of them is in memory at a time. Of ProDOS each folder in it is a directory, which is made where none
+/// is there, before a file is read.
 ///
 /// Of several refusals the first comes in this order: `Date`; `Reserve`; `Length`; `Host`, `Type` or `Name` of the
-/// first entry that is refused, before a file is read; `Check`; of each file in turn `InputTooLong`, `Text` and those
-/// of a saving. Those of an entry have its path behind them. An image comes where all were added.
+/// first entry that is refused; `Check`; of each folder in turn `Exists`, `DirFull` and the others of a directory that is
+/// made; of each file in turn `InputTooLong`, `Text` and those of a saving. Those of an entry have its path behind them.
+/// An image comes where all were added.
 pub fn add_reply<H: HostFiles>(
     alloc: Global,
     job: &Job,

@@ -1,7 +1,7 @@
 // What the paths of entries say.
-ghost use Rattle.std.specs.Prelude.{◌≡◌, ◌≢◌, ◌↔◌, ℕ, All, IfNone, IfOk, IfSome, IsTrue, List, MatchOption};
-ghost use Rattle.folder_adding.specs.HostPaths.{SaidPath, SaysDirectory, SaysPath, last_part};
-ghost use Rattle.folder_adding.specs.Weighing.{IsCut, said_view};
+ghost use Rattle.std.specs.Prelude.{◌≡◌, ◌≢◌, ◌↔◌, All, IfNone, IfOk, IfSome, IsTrue, MatchOption, map};
+ghost use Rattle.folder_adding.specs.HostPaths.{SaidDirectory, SaidPath, SaysDirectory, SaysPath};
+ghost use Rattle.folder_adding.specs.Weighing.{IsCut, IsParted, IsUnsaid, directory_view, said_view};
 ghost use Rattle.shop_jobs.specs.declared.job.FileSystem.TheVariants.{Dos, Prodos};
 
 use host_entries::{HostFile, file_of, folder_of};
@@ -15,6 +15,15 @@ pub(crate) struct HostPath {
     /// The stored names of the directories that lead to it.
     pub directories: Vec<Vec<u8>>,
     pub file: HostFile<Global>,
+}
+
+/// What the path of a folder says.
+#[derive(Debug, Drop)]
+pub(crate) struct HostDirectory {
+    /// The stored names of the directories that lead to the directory.
+    pub directories: Vec<Vec<u8>>,
+    /// Its own stored name.
+    pub name: Vec<u8>,
 }
 
 // Whether a path has one part alone.
@@ -49,10 +58,10 @@ fn first_folder(path: &str) -> Option<(&str, &str)>
     path.split_once('/')
 }
 
-// What the path of a file says, in ProDOS.
-fn path_in_folders(alloc: Global, path: &str) -> Result<Option<HostPath>, AllocError>
-    ensures { IfOk result (λ found. MatchOption found ((said : SaidPath) → ¬ SaysPath Prodos path.now said)
-        (λ said. SaysPath Prodos path.now (said_view said))) }
+// The names of the directories that the parts of a path before its last one say, and that last part.
+fn folders_of(alloc: Global, path: &str) -> Result<Option<(Vec<Vec<u8>>, &str)>, AllocError>
+    ensures { IfOk result (λ found. MatchOption found (IsUnsaid path.now)
+        (λ parted. IsParted path.now (map (λ name. name.items) parted.0.items) parted.1.now)) }
 {
     let mut directories = Vec::new(alloc);
     let mut rest = path;
@@ -63,8 +72,34 @@ fn path_in_folders(alloc: Global, path: &str) -> Result<Option<HostPath>, AllocE
         directories.push(name)?;
         rest = behind;
     }
-    match file_of(alloc, PlaceForm::Block, rest)? {
+    Ok(Some((directories, rest)))
+}
+
+// What the path of a file says, in ProDOS.
+fn path_in_folders(alloc: Global, path: &str) -> Result<Option<HostPath>, AllocError>
+    ensures { IfOk result (λ found. MatchOption found ((said : SaidPath) → ¬ SaysPath Prodos path.now said)
+        (λ said. SaysPath Prodos path.now (said_view said))) }
+{
+    let Some((directories, last)) = folders_of(alloc, path)? else {
+        return Ok(None);
+    };
+    match file_of(alloc, PlaceForm::Block, last)? {
         Some(file) => Ok(Some(HostPath { directories, file })),
+        None => Ok(None),
+    }
+}
+
+// What the path of a folder says, in ProDOS.
+fn directory_in_folders(alloc: Global, path: &str) -> Result<Option<HostDirectory>, AllocError>
+    ensures { IfOk result (λ found. MatchOption found
+        ((said : SaidDirectory) → ¬ SaysDirectory Prodos path.now said)
+        (λ said. SaysDirectory Prodos path.now (directory_view said))) }
+{
+    let Some((directories, last)) = folders_of(alloc, path)? else {
+        return Ok(None);
+    };
+    match folder_of(alloc, PlaceForm::Block, last)? {
+        Some(name) => Ok(Some(HostDirectory { directories, name })),
         None => Ok(None),
     }
 }
@@ -86,27 +121,20 @@ impl HostPath {
     }
 }
 
-// The last part of a path.
-fn last_part(path: &str) -> &str
-    ensures { result.now ≡ last_part path.now }
-{
-    match path.rsplit_once('/') {
-        Some((_, last)) => last,
-        None => path,
-    }
-}
-
-/// The stored name of the directory that the path of a folder says.
-pub(crate) fn directory_of(
-    alloc: Global,
-    file_system: FileSystem,
-    path: &str,
-) -> Result<Option<Vec<u8>>, AllocError>
-    ensures { IfOk result (λ found. MatchOption found ((name : List ℕ) → ¬ SaysDirectory file_system path.now name)
-        (λ name. SaysDirectory file_system path.now name.items)) }
-{
-    match file_system {
-        FileSystem::Dos => Ok(None),
-        FileSystem::Prodos => folder_of(alloc, PlaceForm::Block, last_part(path)),
+impl HostDirectory {
+    /// What the path of a folder says.
+    pub(crate) fn read(
+        alloc: Global,
+        file_system: FileSystem,
+        path: &str,
+    ) -> Result<Option<HostDirectory>, AllocError>
+        ensures { IfOk result (λ found. MatchOption found
+            ((said : SaidDirectory) → ¬ SaysDirectory file_system path.now said)
+            (λ said. SaysDirectory file_system path.now (directory_view said))) }
+    {
+        match file_system {
+            FileSystem::Dos => Ok(None),
+            FileSystem::Prodos => directory_in_folders(alloc, path),
+        }
     }
 }

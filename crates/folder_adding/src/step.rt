@@ -16,15 +16,15 @@ pub(crate) struct Destination<'a> {
 pub(crate) enum Step {
     /// It is saved.
     Adds(Item),
+    /// A directory of this path is made, where none is there.
+    Makes(Vec<u8>),
     /// It is passed over with a word.
     Passes,
-    /// Nothing is told of it.
-    Leaves,
 }
 
 /// What is done with an entry, or why it is refused.
 #[derive(Debug, Drop)]
 pub(crate) enum Weighed {
-    Makes(Step),
+    Step(Step),
     Refused(Refusal),
 }

@@ -1,11 +1,19 @@
 // The paths of files on a volume, and whether they may have them.
-ghost use Rattle.std.specs.Prelude.{◌≡◌, ◌++◌, false, true, IfOk, MatchOption, OnOk, flat_map};
+ghost use Rattle.std.specs.Prelude.{◌≡◌, ◌++◌, false, true, IfOk, MatchOption, OnOk, flat_map, map};
 ghost use Rattle.std.specs.List.{list_all};
 ghost use Rattle.std.specs.Option.{option_copied, option_to_list};
 ghost use Rattle.edit_formats.specs.ProNames.{is_pro_name as may_be};
-ghost use Rattle.folder_adding.specs.HostPaths.{before, characters, is_stored_character, may_have, volume_path};
+ghost use Rattle.folder_adding.specs.HostPaths.{
+  are_pro_names,
+  before,
+  characters,
+  is_stored_character,
+  may_have,
+  pro_path as path_of_names,
+  volume_path,
+};
 ghost use Rattle.folder_adding.specs.Weighing.{said_view};
-ghost use Rattle.shop_jobs.specs.declared.job.FileSystem.TheVariants.{Dos, Prodos};
+ghost use Rattle.shop_jobs.specs.declared.job.FileSystem.TheVariants.{Dos};
 
 use crate::said_path::HostPath;
 use crate::step::Destination;
@@ -71,31 +79,40 @@ fn front(alloc: Global, into: Option<&str>) -> Result<Vec<u8>, AllocError>
 }
 
 // The names of a path of ProDOS, joined.
-fn joined(alloc: Global, into: Option<&str>, said: &HostPath) -> Result<Vec<u8>, AllocError>
-    ensures { IfOk result (λ path. path.items ≡ volume_path Prodos (option_copied into.entry) (said_view said.now)) }
+fn joined(
+    alloc: Global,
+    into: Option<&str>,
+    directories: &[Vec<u8>],
+    name: &[u8],
+) -> Result<Vec<u8>, AllocError>
+    ensures { IfOk result (λ path. path.items
+        ≡ path_of_names (option_copied into.entry) (map (λ name. name.items) directories.now) name.now) }
 {
     let mut path = front(alloc, into)?;
-    for directory in &said.directories {
+    for directory in directories {
         push_directory(&mut path, directory.as_slice())?;
     }
-    path.extend_from_slice(said.file.name.as_slice())?;
+    path.extend_from_slice(name)?;
     Ok(path)
 }
 
-// The path of a file of ProDOS, where files and directories may have its names.
-fn pro_path(
+/// The path of a file or of a directory of ProDOS, where files and directories may have all of its names.
+pub(crate) fn pro_path(
     alloc: Global,
     into: Option<&str>,
-    said: &HostPath,
+    directories: &[Vec<u8>],
+    name: &[u8],
 ) -> Result<Option<Vec<u8>>, AllocError>
-    ensures { IfOk result (λ found. MatchOption found (may_have Prodos (said_view said.now) ≡ false)
-        (λ path. (may_have Prodos (said_view said.now) ≡ true)
-        × (path.items ≡ volume_path Prodos (option_copied into.entry) (said_view said.now)))) }
+    ensures { IfOk result (λ found. MatchOption found
+        (are_pro_names (map (λ name. name.items) directories.now) name.now ≡ false)
+        (λ path. (are_pro_names (map (λ name. name.items) directories.now) name.now ≡ true)
+        × (path.items
+        ≡ path_of_names (option_copied into.entry) (map (λ name. name.items) directories.now) name.now))) }
 {
-    if !are_names(said.directories.as_slice()) || !is_pro_name(said.file.name.as_slice()) {
+    if !are_names(directories) || !is_pro_name(name) {
         return Ok(None);
     }
-    Ok(Some(joined(alloc, into, said)?))
+    Ok(Some(joined(alloc, into, directories, name)?))
 }
 
 /// The path of a file on the volume, where files and directories may have its names.
@@ -112,6 +129,11 @@ pub(crate) fn volume_path(
 {
     match destination.file_system {
         FileSystem::Dos => dos_path(alloc, said),
-        FileSystem::Prodos => pro_path(alloc, destination.into, said),
+        FileSystem::Prodos => pro_path(
+            alloc,
+            destination.into,
+            said.directories.as_slice(),
+            said.file.name.as_slice(),
+        ),
     }
 }

@@ -1,5 +1,5 @@
 // What becomes of an entry of a folder.
-ghost use Rattle.std.specs.Prelude.{◌≡◌, ◌&&◌, IfOk, List, if◌then◌else◌};
+ghost use Rattle.std.specs.Prelude.{◌≡◌, ◌&&◌, IfOk, List};
 ghost use Rattle.folder_adding.specs.HostEntries.{EntryView, entry_view, has_file_beside};
 ghost use Rattle.folder_adding.specs.Verdicts.{
   IsFileVerdict,
@@ -8,19 +8,16 @@ ghost use Rattle.folder_adding.specs.Verdicts.{
   form_given,
   high_bit,
   is_readable,
-  leaves,
-  passes,
 };
 ghost use Rattle.folder_adding.specs.Weighing.{ArePathsOf, folder_at, verdict_view};
 
 use crate::beside::FilePaths;
 use crate::host_entry::{HostEntry, HostKind};
 use crate::item::Item;
-use crate::said_path::{HostPath, directory_of};
+use crate::said_path::{HostDirectory, HostPath};
 use crate::step::{Destination, Step, Weighed};
-use crate::volume_path::volume_path;
+use crate::volume_path::{pro_path, volume_path};
 use apple_text::HighBit;
-use edit_formats::is_pro_name;
 use file_forms::GivenForm;
 use host_entries::Content;
 use shop_changes::kind_for;
@@ -70,22 +67,19 @@ fn is_second(files: &FilePaths<'_>, path: &str, content: Content) -> bool
 // What becomes of a folder.
 fn weigh_folder(
     alloc: Global,
-    file_system: FileSystem,
+    destination: &Destination<'_>,
     path: &str,
-    empty: bool,
 ) -> Result<Weighed, AllocError>
-    ensures { IfOk result (λ weighed. IsFolderVerdict file_system path.now (if empty then passes else leaves)
-        (verdict_view weighed)) }
+    ensures { (entries : List EntryView) → IfOk result
+        (λ weighed. IsFolderVerdict (folder_at destination.now entries) path.now (verdict_view weighed)) }
 {
-    let Some(name) = directory_of(alloc, file_system, path)? else {
+    let Some(said) = HostDirectory::read(alloc, destination.file_system, path)? else {
         return Ok(Weighed::Refused(Refusal::Host));
     };
-    if !is_pro_name(name.as_slice()) {
-        Ok(Weighed::Refused(Refusal::Name))
-    } else if empty {
-        Ok(Weighed::Makes(Step::Passes))
-    } else {
-        Ok(Weighed::Makes(Step::Leaves))
+    let directories = said.directories.as_slice();
+    match pro_path(alloc, destination.into, directories, said.name.as_slice())? {
+        Some(path) => Ok(Weighed::Step(Step::Makes(path))),
+        None => Ok(Weighed::Refused(Refusal::Name)),
     }
 }
 
@@ -104,7 +98,7 @@ fn weigh_file(
         return Ok(Weighed::Refused(Refusal::Host));
     };
     if is_second(files, path, said.file.content) {
-        return Ok(Weighed::Makes(Step::Passes));
+        return Ok(Weighed::Step(Step::Passes));
     }
     let Some(kind) = kind_for(file_system, said.file.file_type) else {
         return Ok(Weighed::Refused(Refusal::Type));
@@ -112,7 +106,7 @@ fn weigh_file(
     let Some(path) = volume_path(alloc, destination, &said)? else {
         return Ok(Weighed::Refused(Refusal::Name));
     };
-    Ok(Weighed::Makes(Step::Adds(Item {
+    Ok(Weighed::Step(Step::Adds(Item {
         path,
         kind: Some(kind),
         aux: Some(said.file.aux_type),
@@ -130,12 +124,10 @@ pub(crate) fn weigh(
     ensures { (entries : List EntryView) → ArePathsOf entries files.now → IfOk result
         (λ weighed. IsVerdict (folder_at destination.now entries) (entry_view entry.now) (verdict_view weighed)) }
 {
-    let file_system = destination.file_system;
     let path = entry.path.as_str();
     match entry.kind {
         HostKind::File => weigh_file(alloc, destination, files, path),
-        HostKind::Folder => weigh_folder(alloc, file_system, path, false),
-        HostKind::EmptyFolder => weigh_folder(alloc, file_system, path, true),
+        HostKind::Folder => weigh_folder(alloc, destination, path),
         HostKind::Other => Ok(Weighed::Refused(Refusal::Host)),
     }
 }

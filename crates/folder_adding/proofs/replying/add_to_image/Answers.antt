@@ -8,9 +8,8 @@ use Rattle.folder_adding.specs.Replying.{numbered_may_fail}
 use Rattle.folder_adding.proofs.Replies.{volume_told}
 use Rattle.folder_adding.proofs.replying.add_to_image.Goals as goal
 use Rattle.pro_dates.specs.SaidDates.{IsDateOf}
-use Rattle.shop_changes.specs.EditRules.{edits_of}
+use Rattle.shop_changes.specs.EditRules.{changed_by}
 use Rattle.shop_jobs.specs.Job.{addition_view}
-use Rattle.shop_replies.specs.Volume.{meaning_of}
 use Rattle.shop_replies.specs.declared.reply.Reply.{Reply}
 
 pub returns-in-Ok : goal.returns-in-Ok
@@ -22,15 +21,14 @@ returns-in-Ok g c =
     let device = image_state c.in-Ok.device.kind c.in-Ok.device.image c.in-Ok.device.writes c.in-Ok.device.standing c.in-Ok.device.faults in
     let said = subst (λ (word : Option (List ℕ)). IsDateOf word date) c.as_deref.ensures.value c.in-Some.ensures.said in
     let told = subst (λ (into : Option (List ℕ)). IsFolderReply (numbered_may_fail g.H.HostFiles.may_fail) (record { file_system = volume.file_system; into = into; entries = entries }) date
-    (g.H.HostFiles.holds c.args.files.now) (edits_of volume.file_system).save (meaning_of volume.file_system volume.data_disk c.in-Ok.reserved) device c.add_folder.result)
+    (g.H.HostFiles.holds c.args.files.now) (changed_by volume c.in-Ok.reserved) device c.add_folder.result)
     c.as_deref-2.ensures.value c.add_folder.ensures.told in
     record {
       told = inr (
         date,
         said,
         volume_told volume (option_map (λ s. s.now) c.args.reserve) c.args.image.items device c.in-Ok.reserved (λ (reserved : List Bool) (device : DeviceState) (told : Reply).
-            IsFolderReply (numbered_may_fail g.H.HostFiles.may_fail) (folder_by volume words entries) date (g.H.HostFiles.holds c.args.files.now) (edits_of volume.file_system).save
-            (meaning_of volume.file_system volume.data_disk reserved) device told) c.add_folder.result c.in-Ok.ensures.volume told,
+            IsFolderReply (numbered_may_fail g.H.HostFiles.may_fail) (folder_by volume words entries) date (g.H.HostFiles.holds c.args.files.now) (changed_by volume reserved) device told) c.add_folder.result c.in-Ok.ensures.volume told,
       );
     }
 

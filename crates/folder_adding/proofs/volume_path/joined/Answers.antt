@@ -7,11 +7,6 @@ use Rattle.folder_adding.proofs.volume_path.joined.Goals as goal
 
 pub returns : goal.returns
 returns c =
-    let into = option_copied c.args.into in
-    let name = c.args.said.now.file.name.items in
     c.in_ok-extend_from_slice.ensures.items
-    ∙ ap (λ (last : Text). c.loop-directory.path.items ++ last) c.as_slice-2.ensures.value
-    ∙ pro_joined c.deref-directory-items.result.now name into c.in_ok-path.path.items c.loop-directory.path.items c.loop-directory.directory-index
+    ∙ pro_joined c.args.directories.now c.args.name.now (option_copied c.args.into) c.in_ok-path.path.items c.loop-directory.path.items c.loop-directory.directory-index
     c.in_ok-path.ensures c.loop-directory.invariant (omega arith)
-    ∙ ap (λ (names : List (Vec ℕ Global)). flat_map before (option_to_list into ++ map (λ directory. directory.items) names) ++ name)
-    c.deref-directory-items.ensures.value
