@@ -138,9 +138,9 @@ def entries_below(place, above):
         except UnicodeDecodeError:
             yield Entry(above[:-1] or ".", "other", item.path)
             continue
-        below = list(entries_below(item.path, host + "/")) if kind_of(item) == "folder" else []
-        yield Entry(host, kind_of(item) if below or kind_of(item) != "folder" else "empty", item.path)
-        yield from below
+        yield Entry(host, kind_of(item), item.path)
+        if kind_of(item) == "folder":
+            yield from entries_below(item.path, host + "/")
 
 
 def entries_of(folder):
@@ -179,6 +179,39 @@ class ProTarget(random_edits.ProVolume):
 
     def name(self, at):
         return self.image[at + 1:at + 1 + self.image[at] % 16].decode("latin-1")
+
+    def has_directory(self, path):
+        return any(self.image[at] >> 4 == 0xD and other == path.upper() for at, _, other in self.tree())
+
+    def make_directory(self, path, date, reserve):
+        """An empty directory of one block under a path."""
+        above, _, name = path.rpartition("/")
+        key = self.directory(above) if "/" in path else 2
+        if not self.may_have(name):
+            raise random_edits.Refused("Name")
+        if name.upper() in map(self.name, self.slots(key)):
+            raise random_edits.Refused("Exists")
+        slot = next((at for at in self.all_slots(key) if not self.image[at] & 0xF0), None)
+        if slot is None:
+            raise random_edits.Refused("DirFull")
+        free = self.free_places(self.reserved(reserve))
+        if not free:
+            raise random_edits.Refused("VolumeFull")
+        self.put_directory(free[0], key, slot, name.upper().encode("ascii"), random_edits.date_bytes(date))
+
+    def put_directory(self, block, key, slot, name, date):
+        """The block of a new directory, its mark, its entry, and the count of files of its parent."""
+        holder, number = slot // 512, (slot % 512 - 4) // 39 + 1
+        padded = name.ljust(15, b"\0")
+        self.image[512 * block:512 * (block + 1)] = (
+            bytes(4) + bytes([0xE0 + len(name)]) + padded + b"\x75" + bytes(7) + date + b"\0\0\xC3\x27\x0D\0\0"
+            + holder.to_bytes(2, "little") + bytes([number, 0x27])).ljust(512, b"\0")
+        self.image[self.map() + block // 8] &= ~(0x80 >> block % 8)
+        self.image[slot:slot + 39] = (
+            bytes([0xD0 + len(name)]) + padded + b"\x0F" + block.to_bytes(2, "little") + b"\1\0\0\2\0" + date + b"\0\0\xE3\0\0" + date
+            + key.to_bytes(2, "little"))
+        count = 512 * key + 0x25
+        self.image[count:count + 2] = (self.word(count) + 1).to_bytes(2, "little")
 
     def shown(self, path):
         return looks.shown(path.upper().encode("latin-1"))
@@ -305,7 +338,7 @@ class Adding:
 
     def __init__(self, request):
         self.request = request
-        self.passed, self.items = [], []
+        self.passed, self.items, self.directories = [], [], []
 
     def told(self):
         """The status, the text and the image, or None where none is handed out."""
@@ -334,6 +367,8 @@ class Adding:
         self.check(way, reserved)
         units = sectors_of(request.image, *way)
         self.volume = DosTarget(units, request.data_disk) if self.file_system == "dos" else ProTarget(units)
+        for entry, path in self.directories:
+            self.make(entry, path)
         for item in self.items:
             self.save(item)
         return image_file(request._replace(image=image_in(self.volume.image, *way)))
@@ -377,16 +412,16 @@ class Adding:
 
     # -- what an entry says
     def weigh(self, entry):
-        """Takes up what an entry says: an item, or one that is passed over."""
+        """Takes up what an entry says: an item, a directory, or one that is passed over."""
         *above, last = entry.host.split("/")
         if entry.kind == "other" or self.file_system == "dos" and (entry.kind != "file" or above):
             refuse("Host", told_host(entry.host))
         if entry.kind == "file":
             self.weigh_file(entry, above, last)
             return
-        self.weigh_names(entry, [folder_says(self.file_system, last)])
-        if entry.kind == "empty":
-            self.passed.append(entry)
+        names = [folder_says(self.file_system, part) for part in [*above, last]]
+        self.weigh_names(entry, names)
+        self.directories.append((entry, self.pro_path(names)))
 
     def weigh_file(self, entry, above, last):
         said, names = file_says(self.file_system, last), [folder_says(self.file_system, part) for part in above]
@@ -417,9 +452,20 @@ class Adding:
         """What is saved of a file, as `random_edits.py` saves it."""
         if self.file_system == "dos":
             return Item(entry, low_letters(said.name), said.type, KINDS[said.type], said.aux, said.readable)
+        return Item(entry, self.pro_path(names), said.type, said.type, said.aux, said.readable)
+
+    def pro_path(self, names):
         above = [] if self.request.into is None else [self.request.into]
-        path = "/".join(above + [name.decode("latin-1") for name in names])
-        return Item(entry, path, said.type, said.type, said.aux, said.readable)
+        return "/".join(above + [name.decode("latin-1") for name in names])
+
+    # -- directories
+    def make(self, entry, path):
+        if self.volume.has_directory(path):
+            return
+        try:
+            self.volume.make_directory(path, self.request.date, self.request.reserve)
+        except random_edits.Refused as reason:
+            refuse(str(reason), told_host(entry.host))
 
     # -- its bytes
     def save(self, item):

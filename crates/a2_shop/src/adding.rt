@@ -104,46 +104,39 @@ impl Walk<'_, '_> {
         self.push(path, HostKind::Other)
     }
 
-    // Takes up a name of a folder, and answers whether it is an entry.
-    fn take_name(&mut self, folder: &str, name: &str) -> Result<bool, Stop> {
+    // Takes up a name of a folder.
+    fn take_name(&mut self, folder: &str, name: &str) -> Result<(), Stop> {
         if is_hidden(name) {
-            return Ok(false);
+            return Ok(());
         }
         let path = path_in(self.rt.alloc(), folder, name)?;
-        self.take(path)?;
-        Ok(true)
+        self.take(path)
     }
 
-    // Takes up all names of a folder, and answers whether one is an entry.
-    fn take_names(&mut self, folder: &str) -> Result<bool, Stop> {
+    // Takes up all names of a folder.
+    fn take_names(&mut self, folder: &str) -> Result<(), Stop> {
         let place = place_in(self.rt.alloc(), self.root, folder)?;
         let names = match fs::read_dir(self.rt, place.as_str()) {
             Ok(names) => names,
             Err(error) => return Err(Stop::Failed(failure_of(&error))),
         };
-        let mut has_one = false;
         for name in names {
             match name {
-                Ok(name) => has_one |= self.take_name(folder, name.file_name())?,
+                Ok(name) => self.take_name(folder, name.file_name())?,
                 Err(error) if error.kind() == ErrorKind::InvalidFilename => {
                     self.take_unnamed(folder)?;
-                    has_one = true;
                 }
                 Err(error) => return Err(Stop::Failed(failure_of(&error))),
             }
         }
-        Ok(has_one)
+        Ok(())
     }
 
     // Looks through a folder, the path of which is empty where it is the whole.
     fn take_folder(&mut self, folder: String) -> Result<(), Stop> {
-        let kind = if self.take_names(folder.as_str())? {
-            HostKind::Folder
-        } else {
-            HostKind::EmptyFolder
-        };
+        self.take_names(folder.as_str())?;
         if !folder.is_empty() {
-            self.push(folder, kind)?;
+            self.push(folder, HostKind::Folder)?;
         }
         Ok(())
     }

@@ -76,11 +76,17 @@ fn names_directory(word: &String) -> bool {
     word.as_str() == "--into" || word.as_str().starts_with("--into=")
 }
 
+// Whether the words name a directory of a volume: one that is made, or one that files are added to.
+fn has_directory(words: &[String]) -> bool {
+    is_command(words, "mkdir")
+        || is_command(words, "add") && words.iter().any(|word| names_directory(word))
+}
+
 /// The words with ProDOS in the place of a file system that they leave to the image, where they name
-/// a directory of the volume that files are added to: a DOS 3.3 disk has none.
+/// a directory of the volume: a DOS 3.3 disk has none.
 pub fn of_prodos(alloc: Global, words: Vec<String>) -> Result<Vec<String>, AllocError> {
     let option = AutoOption::FileSystem;
-    if !is_command(words.as_slice(), "add") || !words.iter().any(|word| names_directory(word)) {
+    if !has_directory(words.as_slice()) {
         return Ok(words);
     }
     let file_system = file_system_word(FileSystem::Prodos);

@@ -6,6 +6,7 @@ use crate::dos_listings::dos_33;
 use crate::late_failures::{Failure as Late, late};
 use crate::pieces::{Piece, hello_with, put_writes, tree_with};
 use a2_device::Device;
+use file_edits::Acceptance;
 use file_forms::GivenForm;
 use folder_adding::{
     Batch, FailingFiles, HostEntry, HostFiles, HostKind, Item, MemoryFiles, Refused, add_all,
@@ -193,7 +194,7 @@ fn add_on_dos<D: Device, H: HostFiles>(
         items,
     };
     match dos_33(alloc) {
-        Ok(format) => add_all(alloc, device, &format, &batch, files)
+        Ok(format) => add_all(alloc, device, &format, Acceptance::Unknown, &batch, files)
             .err()
             .map(reason),
         Err(_) => Some(Why::Other),
@@ -216,7 +217,7 @@ fn add_on_blocks<D: Device, H: HostFiles>(
         items,
     };
     let format = Prodos::new(alloc, Reserved::none(alloc));
-    add_all(alloc, device, &format, &batch, files)
+    add_all(alloc, device, &format, Acceptance::Unknown, &batch, files)
         .err()
         .map(reason)
 }

@@ -7,6 +7,7 @@ use a2_device::Device;
 use a2_media::ImageDevice;
 use directory_making::make_directory;
 use edit_formats::EditError;
+use file_edits::Acceptance;
 use pro_dir::ProDate;
 use pro_format::Prodos;
 use reserved_places::Reserved;
@@ -21,7 +22,7 @@ fn make<A: Allocator + Copy, D: Device>(alloc: A, device: &mut D, path: &[u8]) -
 {
     let format = Prodos::new(alloc, Reserved::none(alloc));
     let date = ProDate([0xa1, 0xac, 0x1e, 0x0c]);
-    make_directory(alloc, device, &format, path, date).err()
+    make_directory(alloc, device, &format, Acceptance::Unknown, path, date).err()
 }
 
 /// Why a directory is not made, and whether the image then has these bytes; `None` where there is no image.

@@ -59,6 +59,35 @@ fn planned(
     plan(alloc, file_system, into, &entries)
 }
 
+/// The number of the entry of a folder, and the path of its directory.
+type Made = (usize, &'static [u8]);
+
+/// Whether a plan makes these directories alone.
+fn makes(plan: &Plan, directories: &[Made]) -> bool {
+    if plan.directories.len() != directories.len() || plan.folders.len() != directories.len() {
+        return false;
+    }
+    for (number, (entry, path)) in directories.iter().enumerate() {
+        if plan.folders[number] != *entry || plan.directories[number].as_slice() != *path {
+            return false;
+        }
+    }
+    true
+}
+
+/// Whether the plan of entries makes these directories alone.
+fn plans_directories(
+    alloc: Global,
+    into: Option<&str>,
+    rows: &[(&str, HostKind)],
+    directories: &[Made],
+) -> bool {
+    match planned(alloc, FileSystem::Prodos, into, rows) {
+        Ok(plan) => makes(&plan, directories),
+        Err(_) => false,
+    }
+}
+
 /// Whether a plan has these items alone, and passes these entries over.
 fn has(plan: &Plan, items: &[Said], passed: &[usize]) -> bool {
     if plan.items.len() != items.len() || plan.files.len() != items.len() {
@@ -226,13 +255,22 @@ fn folders_of_prodos(rt: HostRuntime) {
         ("SUB", HostKind::Folder),
         ("SUB/DEEP~2", HostKind::Folder),
         ("SUB/DEEP~2/A#060300", HostKind::File),
-        ("SUB/NONE", HostKind::EmptyFolder),
-        ("%5AED", HostKind::EmptyFolder),
+        ("SUB/NONE", HostKind::Folder),
+        ("%5AED", HostKind::Folder),
     ];
     let items: [Said; 1] = [(2, b"SUB/DEEP/A", 0x06, 0x0300, Given::Bytes)];
-    assert!(rt; plans(rt.alloc(), PRODOS, &rows, &items, &[3, 4]));
+    assert!(rt; plans(rt.alloc(), PRODOS, &rows, &items, &[]));
+    let made: [Made; 4] = [(0, b"SUB"), (1, b"SUB/DEEP"), (3, b"SUB/NONE"), (4, b"ZED")];
+    assert!(rt; plans_directories(rt.alloc(), None, &rows, &made));
     let below: [Said; 1] = [(2, b"LIB/NEW/SUB/DEEP/A", 0x06, 0x0300, Given::Bytes)];
-    assert!(rt; plans_into(rt.alloc(), PRODOS, Some("LIB/NEW"), &rows, &below, &[3, 4]));
+    assert!(rt; plans_into(rt.alloc(), PRODOS, Some("LIB/NEW"), &rows, &below, &[]));
+    let made: [Made; 4] = [
+        (0, b"LIB/NEW/SUB"),
+        (1, b"LIB/NEW/SUB/DEEP"),
+        (3, b"LIB/NEW/SUB/NONE"),
+        (4, b"LIB/NEW/ZED"),
+    ];
+    assert!(rt; plans_directories(rt.alloc(), Some("LIB/NEW"), &rows, &made));
 }
 
 #[test]
@@ -290,9 +328,8 @@ fn what_is_no_file(rt: HostRuntime) {
         assert!(rt; refused(alloc, file_system, &[(".", HostKind::Other)]) == host);
     }
     assert!(rt; refused(alloc, DOS, &[("SUB", HostKind::Folder)]) == host);
-    assert!(rt; refused(alloc, DOS, &[("SUB", HostKind::EmptyFolder)]) == host);
     assert!(rt; refused(alloc, PRODOS, &[("S*B", HostKind::Folder)]) == host);
-    assert!(rt; refused(alloc, PRODOS, &[("SUB/~2", HostKind::EmptyFolder)]) == host);
+    assert!(rt; refused(alloc, PRODOS, &[("SUB/~2", HostKind::Folder)]) == host);
 }
 
 #[test]
@@ -357,7 +394,7 @@ fn names_that_no_file_of_prodos_may_have(rt: HostRuntime) {
     }
     let name = Some((0, Refusal::Name));
     assert!(rt; refused(rt.alloc(), PRODOS, &[("A#040000", HostKind::Folder)]) == name);
-    assert!(rt; refused(rt.alloc(), PRODOS, &[("SUB/%", HostKind::EmptyFolder)]) == name);
+    assert!(rt; refused(rt.alloc(), PRODOS, &[("SUB/%", HostKind::Folder)]) == name);
     let long = [("a23456789012345#060300", HostKind::File)];
     let items: [Said; 1] = [(0, b"a23456789012345", 0x06, 0x0300, Given::Bytes)];
     assert!(rt; plans(rt.alloc(), PRODOS, &long, &items, &[]));
@@ -402,9 +439,8 @@ static LAST_WRITES: [&[Piece]; 4] = [
     ],
 ];
 
-/// Three files of ProDOS behind a folder without files, and what they hold.
-static TREE_ROWS: [(&str, HostKind, &[u8]); 4] = [
-    ("EMPTY", HostKind::EmptyFolder, b""),
+/// Three files of ProDOS, and what they hold.
+static TREE_ROWS: [(&str, HostKind, &[u8]); 3] = [
     ("note#062000", HostKind::File, b"abc"),
     ("TWO#041234", HostKind::File, b"xy"),
     ("N3#040000.utf8.txt", HostKind::File, b"HI\n"),
@@ -491,7 +527,7 @@ fn a_folder_is_added(rt: HostRuntime) -> Result<(), Fail> {
     assert!(rt; adds(alloc, Volume::Hello, DOS, &ADDED_ROWS, &image, text));
     let mut image = image_after(alloc, Volume::Tree, 6)?;
     put_writes(&mut image, 512, &LAST_BLOCKS, 3);
-    let text = "ADDED NOTE\nADDED TWO\nADDED N3\nPASSED EMPTY\nADDED files 3\n";
+    let text = "ADDED NOTE\nADDED TWO\nADDED N3\nADDED files 3\n";
     assert!(rt; adds(alloc, Volume::Tree, PRODOS, &TREE_ROWS, &image, text));
     Ok(())
 }
