@@ -1,0 +1,14 @@
+mod Above
+mod Bodies
+mod Entries
+mod Forms
+mod Items
+mod Made
+mod Own
+mod Paths
+mod Places
+mod Planning
+mod Says
+mod Steps
+mod Stored
+mod Whole

@@ -1,0 +1,4 @@
+pub mod Extracted
+pub mod Planned
+pub mod Stored
+pub mod Whole
