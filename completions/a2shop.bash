@@ -3,7 +3,7 @@ _a2shop() {
   local word=${COMP_WORDS[COMP_CWORD]} before=${COMP_WORDS[COMP_CWORD-1]}
   COMPREPLY=()
   if [ "$COMP_CWORD" -eq 1 ]; then
-    mapfile -t COMPREPLY < <(compgen -W "catalog list compare map check read extract convert plan optimize lock unlock delete rename save verify identify wrap unwrap survey create reclaim add help --help --version" -- "$word")
+    mapfile -t COMPREPLY < <(compgen -W "catalog list compare map check read extract convert plan optimize lock unlock delete rename save verify identify wrap unwrap survey create reclaim add mkdir help --help --version" -- "$word")
     return
   fi
   case "${COMP_WORDS[1]} $before" in
@@ -100,6 +100,11 @@ _a2shop() {
     'add --into') return ;;
     'add --date') return ;;
     'add --reserve') return ;;
+    'mkdir --fs') mapfile -t COMPREPLY < <(compgen -W "auto prodos" -- "$word"); return ;;
+    'mkdir --order') mapfile -t COMPREPLY < <(compgen -W "auto 2img dos prodos nibble" -- "$word"); return ;;
+    'mkdir --out') mapfile -t COMPREPLY < <(compgen -f -- "$word"); return ;;
+    'mkdir --date') return ;;
+    'mkdir --reserve') return ;;
   esac
   if [[ $word != -* ]]; then
     mapfile -t COMPREPLY < <(compgen -f -- "$word")
@@ -129,6 +134,7 @@ _a2shop() {
     create) mapfile -t COMPREPLY < <(compgen -W "--fs --order --out --blocks --name --date --volume --data-disk --boot --auto --explain --help" -- "$word") ;;
     reclaim) mapfile -t COMPREPLY < <(compgen -W "--fs --order --out --in-place --data-disk --reserve --auto --explain --help" -- "$word") ;;
     add) mapfile -t COMPREPLY < <(compgen -W "--fs --order --from --out --into --date --data-disk --reserve --auto --explain --help" -- "$word") ;;
+    mkdir) mapfile -t COMPREPLY < <(compgen -W "--fs --order --out --in-place --date --reserve --auto --explain --help" -- "$word") ;;
   esac
 }
 complete -o filenames -F _a2shop a2shop
