@@ -4,6 +4,7 @@ ghost use Rattle.a2_device.specs.Orders.{HasSameUnits};
 ghost use Rattle.test_volumes.specs.Unbounded.{unbounded};
 
 use a2_device::{Device, DeviceError, FaultDevice};
+use a2_media::ImageDevice;
 
 /// Passes calls on, but for one read or one write, which fails: the one after so many others of its kind.
 #[derive(Drop)]
@@ -105,5 +106,25 @@ impl<D: Device> Device for LateFailure<D> {
     fn write(&mut self, place: u32, unit: &[u8]) -> Result<(), DeviceError> {
         self.count_write();
         self.device.write(place, unit)
+    }
+}
+
+/// The call that fails: a read, or a write, of which `took` says whether its new unit stands.
+#[derive(Clone, Copy)]
+pub enum Failure {
+    Read,
+    Write { took: bool },
+}
+
+/// The device with this failure after so many calls.
+pub fn late(device: ImageDevice, failure: Failure, before: u64) -> LateFailure<ImageDevice>
+    ensures unit { (⟦<LateFailure<ImageDevice> as Device>⟧.state result).unit_size
+        ≡ (⟦<ImageDevice as Device>⟧.state device).unit_size }
+    ensures places { (⟦<LateFailure<ImageDevice> as Device>⟧.state result).places
+        ≡ (⟦<ImageDevice as Device>⟧.state device).places }
+{
+    match failure {
+        Failure::Read => LateFailure::read(device, before),
+        Failure::Write { took } => LateFailure::write(device, before, took),
     }
 }

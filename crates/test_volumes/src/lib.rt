@@ -10,6 +10,7 @@
 
 mod blocks;
 mod late_failure;
+mod pieces;
 mod refusing;
 mod rule;
 
@@ -21,7 +22,8 @@ use a2_media::ImageDevice;
 pub use blocks::{
     LARGE_BYTES, block_device, put_in_block, seedlings_far_out, tree, tree_and_subdirectory,
 };
-pub use late_failure::LateFailure;
+pub use late_failure::{Failure, LateFailure, late};
+pub use pieces::{Piece, hello_with, put_pieces, put_writes, sub_with, tree_with};
 pub use refusing::Refusing;
 use std::alloc::{AllocError, Allocator, Global};
 
