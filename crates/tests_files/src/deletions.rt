@@ -3,7 +3,6 @@ ghost use Rattle.std.specs.Prelude.{◌≡◌, ◌<◌, ◌≤◌, vec_len};
 ghost use Rattle.a2_device.specs.Device.{DeviceState};
 
 use crate::dos_listings::dos_33;
-use crate::pieces::{Piece, hello_with, put_pieces, sub_with};
 use a2_device::Device;
 use edit_formats::EditError;
 use file_edits::delete;
@@ -12,7 +11,10 @@ use pro_format::Prodos;
 use reserved_places::Reserved;
 use std::alloc::{AllocError, Allocator, Global};
 use std::test::Fail;
-use test_volumes::{block_device, dos_device, seedlings_far_out, tree_and_subdirectory};
+use test_volumes::{
+    Piece, block_device, dos_device, hello_with, put_pieces, seedlings_far_out, sub_with,
+    tree_and_subdirectory,
+};
 
 /// Why a file of a DOS 3.3 volume is not deleted; `None` where it is.
 pub fn delete_on_dos<A: Allocator + Copy, D: Device>(

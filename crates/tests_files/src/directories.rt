@@ -2,7 +2,6 @@
 ghost use Rattle.std.specs.Prelude.{◌≡◌, ◌<◌, ◌≤◌, length, vec_len, IfOk};
 ghost use Rattle.a2_device.specs.Device.{DeviceState};
 
-use crate::pieces::{Piece, put_pieces, put_writes, sub_with, tree_with};
 use a2_device::Device;
 use a2_media::ImageDevice;
 use directory_making::make_directory;
@@ -13,7 +12,9 @@ use pro_format::Prodos;
 use reserved_places::Reserved;
 use std::alloc::{AllocError, Allocator, Global};
 use std::test::Fail;
-use test_volumes::{LateFailure, Refusing, block_device};
+use test_volumes::{
+    LateFailure, Piece, Refusing, block_device, put_pieces, put_writes, sub_with, tree_with,
+};
 
 /// Why a directory is not made on a ProDOS volume, on 1 May 1986, 12:30; `None` where it is.
 fn make<A: Allocator + Copy, D: Device>(alloc: A, device: &mut D, path: &[u8]) -> Option<EditError>

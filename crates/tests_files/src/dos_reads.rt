@@ -3,7 +3,6 @@ ghost use Rattle.std.specs.Prelude.{◌≡◌, ◌<◌, vec_len, IfOk};
 ghost use Rattle.a2_device.specs.Device.{DeviceState};
 
 use crate::dos_listings::dos_33;
-use crate::pieces::{Piece, hello_with, put_pieces};
 use crate::runs::are_runs;
 use a2_device::{Device, Order};
 use a2_image::Image;
@@ -12,7 +11,10 @@ use file_cmds::{CmdError, read};
 use file_formats::FileName;
 use std::alloc::{AllocError, Allocator, Global};
 use std::test::Fail;
-use test_volumes::{FIRST_CATALOG, Refusing, dos_device, dos_volume, hello, put_entry};
+use test_volumes::{
+    FIRST_CATALOG, Piece, Refusing, dos_device, dos_volume, hello, hello_with, put_entry,
+    put_pieces,
+};
 
 /// The runs of the body of HELLO.
 static HELLO_BODY: [(usize, u8); 3] = [(1, 169), (1, 0), (1, 96)];

@@ -4,14 +4,15 @@ ghost use Rattle.std.specs.Prelude.{◌≡◌, ◌<◌, ◌≤◌};
 ghost use Rattle.a2_device.specs.Device.{DeviceState};
 
 use crate::deletions::{delete_on_blocks, delete_on_dos};
-use crate::late_failures::{Failure, late};
-use crate::pieces::{Piece, hello_with, put_writes, sub_with, tree_with};
 use crate::savings::{fill_block, save_hi, save_hole, save_note};
 use a2_device::Device;
 use edit_formats::EditError;
 use std::alloc::{AllocError, Allocator, Global};
 use std::test::Fail;
-use test_volumes::{FIRST_CATALOG, IMAGE_BYTES, Refusing, VTOC, block_device, dos_device};
+use test_volumes::{
+    FIRST_CATALOG, Failure, IMAGE_BYTES, Piece, Refusing, VTOC, block_device, dos_device,
+    hello_with, late, put_writes, sub_with, tree_with,
+};
 
 /// A job on a DOS 3.3 volume.
 #[derive(Clone, Copy)]

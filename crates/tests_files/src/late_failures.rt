@@ -3,7 +3,6 @@ ghost use Rattle.std.specs.Prelude.{◌≡◌, ◌<◌, ◌≤◌, vec_len, IfOk
 ghost use Rattle.a2_device.specs.Device.{DeviceState};
 
 use crate::dos_listings::dos_33;
-use crate::pieces::{hello_with, sub_with};
 use a2_device::Device;
 use a2_media::ImageDevice;
 use edit_formats::EditError;
@@ -13,7 +12,9 @@ use file_formats::FileName;
 use pro_format::Prodos;
 use reserved_places::Reserved;
 use std::alloc::{AllocError, Global};
-use test_volumes::{FIRST_CATALOG, LateFailure, block_device, dos_device};
+use test_volumes::{
+    FIRST_CATALOG, Failure, LateFailure, block_device, dos_device, hello_with, late, sub_with,
+};
 
 /// A volume: HELLO of DOS 3.3, or the one of ProDOS with a subdirectory.
 #[derive(Clone, Copy)]
@@ -28,13 +29,6 @@ enum Call {
     List,
     Read,
     Lock,
-}
-
-/// A failure that comes after so many calls of its kind.
-#[derive(Clone, Copy)]
-pub enum Failure {
-    Read,
-    Write { took: bool },
 }
 
 /// How a call ends.
@@ -114,19 +108,6 @@ fn is_image(alloc: Global, volume: Volume, is_locked: bool, image: &[u8]) -> boo
     match &wanted {
         Ok(wanted) => image == wanted.as_slice(),
         Err(_) => false,
-    }
-}
-
-/// The device with this failure after so many calls.
-pub fn late(device: ImageDevice, failure: Failure, before: u64) -> LateFailure<ImageDevice>
-    ensures unit { (⟦<LateFailure<ImageDevice> as Device>⟧.state result).unit_size
-        ≡ (⟦<ImageDevice as Device>⟧.state device).unit_size }
-    ensures places { (⟦<LateFailure<ImageDevice> as Device>⟧.state result).places
-        ≡ (⟦<ImageDevice as Device>⟧.state device).places }
-{
-    match failure {
-        Failure::Read => LateFailure::read(device, before),
-        Failure::Write { took } => LateFailure::write(device, before, took),
     }
 }
 

@@ -1,13 +1,8 @@
-//! Tests of the libraries of files: of `file_cmds`, `file_listings` and `file_edits` worked volumes of DOS 3.3 and
-//! ProDOS with the literal text of their listings and the literal bytes of their files, each public call on its happy
-//! path, refused memory, and each read and write failing in turn; of `shop_files` files that are replaced in a folder
-//! in memory, whose calls fail in turn; of `host_folders` names, folders in memory and new folders of the
-//! system; of `host_entries` what names say; of `folder_adding` files that are saved one after the other, and
-//! the plans of folders.
+//! Tests of the libraries of files: of `file_cmds`, `file_listings`, `file_edits` and `directory_making` worked volumes of
+//! DOS 3.3 and ProDOS with the literal text of their listings and the literal bytes of their files, each public call on
+//! its happy path, refused memory, and each read and write failing in turn.
 #![tactic(auto)]
 
-#[cfg(test)]
-mod additions;
 #[cfg(test)]
 mod deletions;
 #[cfg(test)]
@@ -17,29 +12,13 @@ mod dos_listings;
 #[cfg(test)]
 mod dos_reads;
 #[cfg(test)]
-mod folder;
-#[cfg(test)]
-mod foreign_files;
-#[cfg(test)]
-mod host_names;
-#[cfg(test)]
 mod jobs;
 #[cfg(test)]
 mod late_failures;
 #[cfg(test)]
 mod locks;
 #[cfg(test)]
-mod names_read_back;
-#[cfg(test)]
-mod new_folders;
-#[cfg(test)]
-mod new_folders_memory;
-#[cfg(test)]
-mod pieces;
-#[cfg(test)]
 mod plan_lines;
-#[cfg(test)]
-mod plans;
 #[cfg(test)]
 mod prodos_files;
 #[cfg(test)]
@@ -52,5 +31,3 @@ mod runs;
 mod savings;
 #[cfg(test)]
 mod stored_names;
-#[cfg(test)]
-mod whole_files;

@@ -3,7 +3,6 @@ ghost use Rattle.std.specs.Prelude.{◌≡◌, ◌<◌, ◌≤◌, vec_len, IfOk
 ghost use Rattle.a2_device.specs.Device.{DeviceState};
 
 use crate::dos_listings::dos_33;
-use crate::pieces::{hello_with, sub_with};
 use a2_device::{Device, FaultDevice};
 use edit_formats::EditError;
 use file_edits::{lock, unlock};
@@ -13,7 +12,8 @@ use reserved_places::Reserved;
 use std::alloc::{AllocError, Allocator, Global};
 use std::test::Fail;
 use test_volumes::{
-    FIRST_CATALOG, Refusing, block_device, dos_device, hello, tree_and_subdirectory,
+    FIRST_CATALOG, Refusing, block_device, dos_device, hello, hello_with, sub_with,
+    tree_and_subdirectory,
 };
 
 /// Why a file of a DOS 3.3 volume is not locked; `None` where it is.

@@ -3,8 +3,6 @@ ghost use Rattle.std.specs.Prelude.{◌≡◌, ◌<◌, ◌≤◌};
 ghost use Rattle.a2_device.specs.Device.{DeviceState};
 
 use crate::dos_listings::dos_33;
-use crate::late_failures::{Failure, late};
-use crate::pieces::{Piece, hello_with, put_pieces, put_writes, sub_with};
 use a2_device::Device;
 use edit_formats::EditError;
 use file_edits::reclaim;
@@ -12,7 +10,8 @@ use pro_format::Prodos;
 use reserved_places::Reserved;
 use std::alloc::{AllocError, Allocator, Global};
 use test_volumes::{
-    IMAGE_BYTES, Refusing, VTOC, block_device, dos_device, hello, seedlings_far_out,
+    Failure, IMAGE_BYTES, Piece, Refusing, VTOC, block_device, dos_device, hello, hello_with, late,
+    put_pieces, put_writes, seedlings_far_out, sub_with,
 };
 
 /// A volume with lost places, or HELLO with none: HELLO of DOS 3.3, or of ProDOS the one with a subdirectory or that of

@@ -3,7 +3,6 @@ ghost use Rattle.std.specs.Prelude.{◌≡◌, ◌<◌, ◌≤◌, vec_len};
 ghost use Rattle.a2_device.specs.Device.{DeviceState};
 
 use crate::dos_listings::dos_33;
-use crate::pieces::{Piece, hello_with, sub_with};
 use a2_device::Device;
 use edit_formats::EditError;
 use file_edits::rename;
@@ -12,7 +11,10 @@ use pro_format::Prodos;
 use reserved_places::Reserved;
 use std::alloc::Global;
 use std::test::Fail;
-use test_volumes::{FIRST_CATALOG, block_device, dos_device, hello, tree_and_subdirectory};
+use test_volumes::{
+    FIRST_CATALOG, Piece, block_device, dos_device, hello, hello_with, sub_with,
+    tree_and_subdirectory,
+};
 
 /// Why a file of a DOS 3.3 volume is not renamed; `None` where it is.
 fn rename_on_dos<D: Device>(

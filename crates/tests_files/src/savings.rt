@@ -3,7 +3,6 @@ ghost use Rattle.std.specs.Prelude.{◌≡◌, ◌*◌, ◌<◌, ◌≤◌, leng
 ghost use Rattle.a2_device.specs.Device.{DeviceState};
 
 use crate::dos_listings::dos_33;
-use crate::pieces::{Piece, hello_with, put_pieces};
 use a2_device::Device;
 use edit_formats::EditError;
 use file_edits::{Acceptance, save};
@@ -14,8 +13,8 @@ use save_formats::Attributes;
 use std::alloc::{AllocError, Allocator, Global};
 use std::test::Fail;
 use test_volumes::{
-    ENTRY_BYTES, FIRST_CATALOG, FIRST_ENTRY, VTOC, block_device, dos_device, dos_volume, hello,
-    put, tree_and_subdirectory,
+    ENTRY_BYTES, FIRST_CATALOG, FIRST_ENTRY, Piece, VTOC, block_device, dos_device, dos_volume,
+    hello, hello_with, put, put_pieces, tree_and_subdirectory,
 };
 
 /// Why a file is not saved to a DOS 3.3 volume; `None` where it is.

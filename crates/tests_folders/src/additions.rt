@@ -2,10 +2,8 @@
 ghost use Rattle.std.specs.Prelude.{◌≡◌, ◌<◌, ◌≤◌};
 ghost use Rattle.a2_device.specs.Device.{DeviceState};
 
-use crate::dos_listings::dos_33;
-use crate::late_failures::{Failure as Late, late};
-use crate::pieces::{Piece, hello_with, put_writes, tree_with};
 use a2_device::Device;
+use dos_format::Dos33;
 use file_edits::Acceptance;
 use file_forms::GivenForm;
 use folder_adding::{
@@ -19,7 +17,10 @@ use shop_jobs::FileSystem;
 use shop_replies::{Failure, Refusal, Reply, Told};
 use std::alloc::{AllocError, Global};
 use std::test::Fail;
-use test_volumes::{FIRST_CATALOG, IMAGE_BYTES, VTOC, block_device, dos_device};
+use test_volumes::{
+    FIRST_CATALOG, Failure as Late, IMAGE_BYTES, Piece, VTOC, block_device, dos_device, hello_with,
+    late, put_writes, tree_with,
+};
 
 /// A volume: HELLO of DOS 3.3, or the one of ProDOS with BIG.
 #[derive(Clone, Copy)]
@@ -193,7 +194,7 @@ fn add_on_dos<D: Device, H: HostFiles>(
         date: DATE,
         items,
     };
-    match dos_33(alloc) {
+    match Dos33::new(alloc, false, Reserved::none(alloc)) {
         Ok(format) => add_all(alloc, device, &format, Acceptance::Unknown, &batch, files)
             .err()
             .map(reason),

@@ -1,7 +1,5 @@
 //! The plan of a folder whose files are added to a volume: `plan`, and the files that it names, saved by `add_all`.
 use crate::additions::{DATE, NEVER, Volume, Why, dos_ended, image_after, pro_ended};
-use crate::late_failures::Failure as Late;
-use crate::pieces::{Piece, put_writes};
 use file_forms::GivenForm;
 use folder_adding::{
     Batch, HostEntry, HostKind, MemoryFiles, NumberedFiles, Plan, PlanError, added_text, plan,
@@ -10,7 +8,7 @@ use shop_jobs::FileSystem;
 use shop_replies::Refusal;
 use std::alloc::{AllocError, Global};
 use std::test::Fail;
-use test_volumes::{FIRST_CATALOG, VTOC};
+use test_volumes::{FIRST_CATALOG, Failure as Late, Piece, VTOC, put_writes};
 
 const DOS: FileSystem = FileSystem::Dos;
 
