@@ -2,7 +2,8 @@
 # make demo       builds it; identifies, lists, compares, draws, checks, plans and optimizes a DOS sample, in place too, and lists it again, from disk bytes too;
 #                 takes all files out of a ProDOS sample, saves a file to a DOS one and reads it back; locks, unlocks, renames and deletes files; checks, plans and optimizes a ProDOS sample, lists it before and after, and verifies the plan
 # make test       runs the gate (the proofs from nothing, the must-fail edits), all tests, and the end-to-end tests
-# make assure     tries the further edits, crates/*/assure, that the prover must refuse; each run of the gate tries a share
+# make assure     tries the further edits, crates/*/assure, that the prover must refuse; each run of the gate tries a share; with
+#                 CRATES="NAME .." all edits of these crates
 # make install    copies the program that was built, its manual page and the completions of the shells to $(PREFIX), and proves nothing
 # make bench      measures the program beside plain programs of the same work; no part of the tests
 
@@ -65,7 +66,7 @@ test:
 	bash tests/run
 
 assure:
-	bash tests/gate assure
+	bash tests/gate assure $(CRATES)
 
 install:
 	@test -x a2shop || { echo "there is no ./a2shop to install: run make first"; exit 1; }
