@@ -36,7 +36,7 @@ complete -c a2shop -n __fish_use_subcommand -f -a read -d 'Write the bytes of a 
 complete -c a2shop -n '__fish_seen_subcommand_from read' -l fs -x -a 'auto dos prodos' -d 'File system of the volume, auto for the one that identify names: auto, dos or prodos'
 complete -c a2shop -n '__fish_seen_subcommand_from read' -l order -x -a 'auto 2img dos prodos nibble' -d 'Order of the sectors in the image, auto for the one that identify names, 2img for that of a 2IMG file: auto, 2img, dos, prodos or nibble'
 complete -c a2shop -n '__fish_seen_subcommand_from read' -l whole -d 'Take all bytes of the file\'s sectors, and not its content alone'
-complete -c a2shop -n '__fish_seen_subcommand_from read' -l as -x -d 'Form that the file is told in: text, applesoft or integer for the listing of a program, single for an AppleSingle file, shown for text or a listing by the file\'s type'
+complete -c a2shop -n '__fish_seen_subcommand_from read' -l as -x -d 'Form in which the file is printed: text, applesoft or integer for the listing of a program, single for an AppleSingle file, shown for text or a listing by the file\'s type'
 complete -c a2shop -n '__fish_seen_subcommand_from read' -l out -x -d 'New file that they are written to, whole or not at all'
 complete -c a2shop -n '__fish_seen_subcommand_from read' -l data-disk -d 'Tracks 1 and 2 hold files, as on a disk without DOS'
 complete -c a2shop -n '__fish_seen_subcommand_from read' -l stored -d 'The name is the stored one in hexadecimal digits, two a byte, as list tells it in JSON; for DOS 3.3 without the spaces behind it or with them'

@@ -38,7 +38,7 @@ names; where it names none, the job is refused. The word
 .B auto
 says the same as the value of one of them.
 .B \\-\\-explain
-may stand with any command: standard error then says in whole sentences what was told, and what to do next.
+may stand with any command: standard error then says in whole sentences what the answer means, and what to do next.
 .B \\-\\-version
 tells the version."""
 

@@ -191,7 +191,7 @@ pub static FINDINGS: [Explanation; 32] = [
     Explanation {
         front: "----------------------------------------------------------------",
         meaning: "The file has no digest, since it can't be read: one of its pointers leads nowhere, two of its parts \
-            stand at one place, or a sector or block of it can't be read. The other files are told all the same.",
+            stand at one place, or a sector or block of it can't be read. The other files are listed all the same.",
         advice: "`a2shop check` tells the faults of the volume. Take the files that can be read off the image, and look \
             for another copy of the disk.",
     },

@@ -170,14 +170,14 @@ pub static REFUSALS: [Explanation; 35] = [
     },
     Explanation {
         front: "REFUSED TooLarge",
-        meaning: "The files of the volume that are read or written, and the units of the parts that are told, have \
+        meaning: "The files of the volume that are read or written, and the units of the parts that are listed, have \
             more bytes in all than `--most` allows, or than 1,073,741,824 where it is left out. A file of ProDOS may \
             have many bytes of which the volume holds none, and the files of a damaged volume may share their parts.",
         advice: "Give a greater number behind `--most`; of a list leave `--digests` and `--places` out.",
     },
     Explanation {
         front: "REFUSED Form",
-        meaning: "The file can't be told in the form that `--as` names: its bytes are no program of that BASIC, or \
+        meaning: "The file can't be printed in the form that `--as` names: its bytes are no program of that BASIC, or \
             with `shown` it is neither a text nor a program.",
         advice: "Look at its type with `a2shop catalog`. Its bytes as they are come without `--as`, all bytes of its \
             sectors with `--whole`.",

@@ -121,7 +121,7 @@ impl Help {
             Help::MostWritten =>
                 "How many bytes the files that are written may have in all; 1073741824 if left out",
             Help::ReadAs =>
-                "Form that the file is told in: text, applesoft or integer for the listing of a program, single for an \
+                "Form in which the file is printed: text, applesoft or integer for the listing of a program, single for an \
                     AppleSingle file, shown for text or a listing by the file's type",
             Help::NewFile => "New file that they are written to, whole or not at all",
             Help::SaveAs =>

@@ -36,7 +36,7 @@ Examples:
   a2shop list disk.dsk --format json --places
 
 --fs and --order are auto where they are left out. A name of a directory has a slash behind it.
-With --digests each file is read; one that can't be read has no digest, and the others are told.
+With --digests each file is read; one that can't be read has no digest, and the list goes on.
 With --places each object of JSON has its parts, as \"body 0 3/14\"; no other form can tell them.
 
 Status:
@@ -44,7 +44,7 @@ Status:
   1  they are, and a file has no digest, since it can't be read
   3  REFUSED Length    the image has another length than one in its order
      REFUSED Check     the header, the directory or the map's pointer has a fault
-     REFUSED TooLarge  the files, or the parts that are told, have more bytes than --most
+     REFUSED TooLarge  the files, or the parts that are listed, have more bytes than --most
   4  FAILED Input, Device or Memory: the file, a sector of the image or memory failed";
 
 const COMPARE: &str = "\
@@ -81,7 +81,7 @@ Example:
   .  it is free
 
 Status:
-  0  the picture is told
+  0  the picture is printed
   3  REFUSED Reserve  the word of --reserve is no list of places
      REFUSED Length   the image has another length than one in its order
      REFUSED Check    the volume has a fault; check tells which
@@ -109,7 +109,7 @@ Examples:
   a2shop read disk.dsk PICTURE --auto --as single --out picture.as
   a2shop read disk.dsk C8C5CCCCCF --stored --auto
 
-What is told as a text or a listing is UTF-8, and a control character is told as its picture, as ␄.
+A text or a listing is printed in UTF-8, and a control character as its picture, as ␄.
 
 Status:
   0  the bytes of the file are written
@@ -171,7 +171,7 @@ Examples:
 In words each move has a line: the file, its part, and the places from and to which it moves.
 
 Status:
-  0  the plan is told
+  0  the plan is printed
   3  REFUSED Reserve      the word of --reserve is no list of places
      REFUSED Length       the image has another length than one in its order
      REFUSED Check        the volume has a fault; check tells which
@@ -349,7 +349,7 @@ const UNWRAP: &str = "\
 Example:
   a2shop unwrap disk.2mg --out disk.po
 
-The order of the image is told by identify.
+Ask identify for the order of the image.
 
 Status:
   0  the image is written
@@ -373,8 +373,8 @@ SHA is the SHA-256 of the file, and of what the files of the volume are called a
 with the same content as another: SAME K PATH, those of one K have one content. Links are not followed.
 
 Status:
-  0  all is told
-  1  a file is told as AMBIGUOUS, NONE or UNREAD
+  0  each file has its line
+  1  a line says AMBIGUOUS, NONE or UNREAD
   4  FAILED Input or Memory: the path or memory failed";
 
 const CREATE: &str = "\
@@ -423,7 +423,7 @@ Examples:
 
 The name of each file says its name and its type, as extract writes them: NAME#TTAAAA, with the type and
 the aux type in hexadecimal digits. NAME#TTAAAA.utf8.txt is a text or a listing in UTF-8 that is turned
-into the bytes of the file; where NAME#TTAAAA stands beside it, it is told as PASSED and not added. Names
+into the bytes of the file; where NAME#TTAAAA stands beside it, its line says PASSED and it is not added. Names
 that begin with a point are passed over. The files are saved in the order of their names. Locks, dates,
 and the holes of sparse files are not carried. On a ProDOS volume each folder is made as a directory where
 none is there, before the files are saved; the directory of --into has to be there.
