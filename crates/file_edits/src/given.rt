@@ -1,11 +1,12 @@
 // A new file as its owner gives it.
 use save_formats::Attributes;
 
-// A new file as its owner gives it; `stored` says of each of its units whether it is stored or a hole.
+/// A new file as its owner gives it: its path, what is said of it, and its units one after the other, each as long as a
+/// unit of the volume. `stored` says of each whether it is stored or a hole, of which `units` is not read.
 #[derive(Clone, Copy)]
-pub(crate) struct NewFile<'a> {
-    pub(crate) path: &'a [u8],
-    pub(crate) attributes: &'a Attributes,
-    pub(crate) stored: &'a [bool],
-    pub(crate) units: &'a [u8],
+pub struct NewFile<'a> {
+    pub path: &'a [u8],
+    pub attributes: &'a Attributes,
+    pub stored: &'a [bool],
+    pub units: &'a [u8],
 }

@@ -45,6 +45,7 @@ pub use deletion::{
     a_deletion_made_takes_out_one_file, a_dos_entry_is_erased_by_one_write,
     an_erased_entry_and_released_places_are_a_deletion,
 };
+pub use given::NewFile;
 pub use locking::{lock, unlock};
 pub use naming::rename;
 pub use places::first_places;

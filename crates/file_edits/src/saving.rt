@@ -1,5 +1,5 @@
 // The command that saves a new file.
-ghost use Rattle.std.specs.Prelude.{◌≡◌, ◌*◌, length, Err, IfErr, IsTrue, OnOk};
+ghost use Rattle.std.specs.Prelude.{◌≡◌, Err, IfErr, IsTrue, OnOk};
 ghost use Rattle.vol_format.specs.Fits.{Fits};
 ghost use Rattle.vol_format.specs.Accepted.{IsVolume};
 ghost use Rattle.edit_formats.specs.Writes.{HasEdited};
@@ -24,7 +24,7 @@ use crate::given::NewFile;
 use crate::preparing::prepare;
 use a2_device::Device;
 use edit_formats::{EditError, write_all};
-use save_formats::{Attributes, SavableFormat};
+use save_formats::SavableFormat;
 use std::alloc::Allocator;
 
 // Saves a new file; all writes are made ready before the first.
@@ -53,11 +53,10 @@ fn save_new<D: Device, F: SavableFormat, A: Allocator + Copy>(
     write_all(device, writes.as_slice())
 }
 
-/// Saves a new file under a path that no file has. Its units stand one after the other in `units`, each as long as a
-/// unit of the volume; `stored` says of each whether it is stored or a hole. The parts of the file get the first free
-/// places, in the order of the available places, and its entry the first free slot of its directory. The units are
-/// written first, then the marks of their places, then the entry. All writes are prepared before the first is made.
-/// Where it is known that the volume is accepted, the parts of its files are not walked first.
+/// Saves a new file under a path that no file has. The parts of the file get the first free places, in the order of the
+/// available places, and its entry the first free slot of its directory. The units are written first, then the marks of
+/// their places, then the entry. All writes are prepared before the first is made. Where it is known that the volume is
+/// accepted, the parts of its files are not walked first.
 ///
 /// # Errors
 /// Of several the first in this order: `Check` where the volume is not accepted; `NotFound` where it has no such
@@ -70,52 +69,46 @@ pub fn save<D: Device, F: SavableFormat, A: Allocator + Copy>(
     device: &mut D,
     format: &F,
     acceptance: Acceptance,
-    path: &[u8],
-    attributes: &Attributes,
-    stored: &[bool],
-    units: &[u8],
+    file: &NewFile<'_>,
 ) -> Result<(), EditError>
     requires fits { Fits (F.meaning format.now) (D.state device.old) }
     requires accepted { acceptance ≡ Acceptance.Known → IsTrue (D.state device.old).honest
         → IsVolume (F.meaning format.now) (D.state device.old).store }
-    requires units { (F.meaning format.now).unit_size * length stored.now ≡ length units.now }
+    requires units { HasUnitsOf (F.meaning format.now) file.now }
 
     // every device
     ensures edited { HasEdited (IsSaveEdit (F.meaning format.now) (F.saves format.now)
-        (D.state device.old).store path.now attributes.now stored.now units.now)
+        (D.state device.old).store
+        file.now.path.now file.now.attributes.now file.now.stored.now file.now.units.now)
         result (D.state device.old) (D.state device.new) }
     ensures refusals { IfErr result IsSaveRefusal }
 
     // an honest device
     ensures saved { IsTrue (D.state device.old).honest
-        → OnOk result (HasSaved (F.meaning format.now) (F.saves format.now) path.now attributes.now stored.now units.now
+        → OnOk result (HasSaved (F.meaning format.now) (F.saves format.now)
+        file.now.path.now file.now.attributes.now file.now.stored.now file.now.units.now
         (D.state device.old).store (D.state device.new).store) }
     ensures stopped { IsTrue (D.state device.old).honest → result ≡ Err EditError.Device
         → IsOldOrSaved (F.meaning format.now) (F.saves format.now)
-        path.now attributes.now stored.now units.now (D.state device.old).store (D.state device.new).store }
+        file.now.path.now file.now.attributes.now file.now.stored.now file.now.units.now
+        (D.state device.old).store (D.state device.new).store }
     ensures check { IsTrue (D.state device.old).honest → result ≡ Err EditError.Check
         → IsVolume (F.meaning format.now) (D.state device.old).store → ⊥ }
     ensures not_found { IsTrue (D.state device.old).honest → result ≡ Err EditError.NotFound
-        → HasNoDirectory (F.meaning format.now) (F.saves format.now) (D.state device.old).store path.now }
+        → HasNoDirectory (F.meaning format.now) (F.saves format.now) (D.state device.old).store file.now.path.now }
     ensures name { IsTrue (D.state device.old).honest → result ≡ Err EditError.Name
-        → HasNoName (F.meaning format.now) (F.saves format.now) (D.state device.old).store path.now }
+        → HasNoName (F.meaning format.now) (F.saves format.now) (D.state device.old).store file.now.path.now }
     ensures exists { IsTrue (D.state device.old).honest → result ≡ Err EditError.Exists
-        → HasNameInUse (F.meaning format.now) (F.saves format.now) (D.state device.old).store path.now }
+        → HasNameInUse (F.meaning format.now) (F.saves format.now) (D.state device.old).store file.now.path.now }
     ensures too_long { IsTrue (D.state device.old).honest → result ≡ Err EditError.TooLong
         → IsTooLong (F.meaning format.now) (F.saves format.now)
-        (D.state device.old).store path.now attributes.now stored.now }
+        (D.state device.old).store file.now.path.now file.now.attributes.now file.now.stored.now }
     ensures dir_full { IsTrue (D.state device.old).honest → result ≡ Err EditError.DirFull
         → HasFullDirectory (F.meaning format.now) (F.saves format.now)
-        (D.state device.old).store path.now attributes.now stored.now }
+        (D.state device.old).store file.now.path.now file.now.attributes.now file.now.stored.now }
     ensures volume_full { IsTrue (D.state device.old).honest → result ≡ Err EditError.VolumeFull
         → HasFewPlaces (F.meaning format.now) (F.saves format.now)
-        (D.state device.old).store path.now attributes.now stored.now }
+        (D.state device.old).store file.now.path.now file.now.attributes.now file.now.stored.now }
 {
-    let file = NewFile {
-        path,
-        attributes,
-        stored,
-        units,
-    };
-    save_new(alloc, device, format, acceptance, &file)
+    save_new(alloc, device, format, acceptance, file)
 }

@@ -21,7 +21,7 @@ use crate::given_file::{FileUnits, GivenFile, MOST_INPUT, file_units};
 use crate::outcome::Outcome;
 use a2_device::Device;
 use edit_formats::EditError;
-use file_edits::{Acceptance, save};
+use file_edits::{Acceptance, NewFile, save};
 use save_formats::{Attributes, SavableFormat};
 use shop_replies::{Failure, Refusal, Reply};
 use std::alloc::Global;
@@ -76,17 +76,13 @@ fn save_file<D: Device, F: SavableFormat>(
         (D.state device.old).store)) }
 {
     let attributes = attributes_of(given);
-    let stored = file.stored.as_slice();
-    save(
-        alloc,
-        device,
-        format,
-        acceptance,
+    let new_file = NewFile {
         path,
-        &attributes,
-        stored,
-        file.units.as_slice(),
-    )
+        attributes: &attributes,
+        stored: file.stored.as_slice(),
+        units: file.units.as_slice(),
+    };
+    save(alloc, device, format, acceptance, &new_file)
 }
 
 // Saves a file with its units, and tells what became of it.

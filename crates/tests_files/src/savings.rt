@@ -5,7 +5,7 @@ ghost use Rattle.a2_device.specs.Device.{DeviceState};
 use crate::dos_listings::dos_33;
 use a2_device::Device;
 use edit_formats::EditError;
-use file_edits::{Acceptance, save};
+use file_edits::{Acceptance, NewFile, save};
 use pro_dir::ProDate;
 use pro_format::Prodos;
 use reserved_places::Reserved;
@@ -36,18 +36,14 @@ fn save_on_dos<A: Allocator + Copy, D: Device>(
         eof: 0,
         date: ProDate([0; 4]),
     };
+    let file = NewFile {
+        path,
+        attributes: &said,
+        stored,
+        units,
+    };
     match dos_33(alloc) {
-        Ok(format) => save(
-            alloc,
-            device,
-            &format,
-            Acceptance::Unknown,
-            path,
-            &said,
-            stored,
-            units,
-        )
-        .err(),
+        Ok(format) => save(alloc, device, &format, Acceptance::Unknown, &file).err(),
         Err(_) => Some(EditError::Memory),
     }
 }
@@ -72,18 +68,14 @@ fn save_on_blocks<A: Allocator + Copy, D: Device>(
         eof,
         date: ProDate([0xa1, 0xac, 0x1e, 0x0c]),
     };
-    let format = Prodos::new(alloc, Reserved::none(alloc));
-    save(
-        alloc,
-        device,
-        &format,
-        Acceptance::Unknown,
+    let file = NewFile {
         path,
-        &said,
+        attributes: &said,
         stored,
         units,
-    )
-    .err()
+    };
+    let format = Prodos::new(alloc, Reserved::none(alloc));
+    save(alloc, device, &format, Acceptance::Unknown, &file).err()
 }
 
 /// Why the file HI, of one unit, is not saved to a DOS 3.3 volume: its body is the address 768, the length 3, and three

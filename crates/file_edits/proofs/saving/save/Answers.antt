@@ -8,7 +8,7 @@ returns-clause-saved g c = λ honest.
     let meaning = g.F.Format.meaning format in
     let old = g.D.Device.state c.args.device.now in
     saving_done meaning (g.met.F.Format.readable format) (g.met.F.WritableFormat.movable format) (g.met.F.WritableFormat.writable format) (g.met.F.EditableFormat.file_free format)
-    (g.F.SavableFormat.saves format) (g.met.F.SavableFormat.savable format) c.args.path.now c.args.attributes.now c.args.stored.now c.args.units.now
+    (g.F.SavableFormat.saves format) (g.met.F.SavableFormat.savable format) c.args.file.now.path.now c.args.file.now.attributes.now c.args.file.now.stored.now c.args.file.now.units.now
     old (g.D.Device.state c.save_new.new.device)
     (whole_units meaning old (g.met.D.Device.whole c.args.device.now honest) c.requires.fits.unit) c.save_new.result honest c.save_new.ensures.edited
 
@@ -18,6 +18,6 @@ returns-clause-stopped g c = λ honest is.
     let meaning = g.F.Format.meaning format in
     let old = g.D.Device.state c.args.device.now in
     saving_stopped meaning (g.met.F.Format.readable format) (g.met.F.WritableFormat.movable format) (g.met.F.WritableFormat.writable format) (g.met.F.EditableFormat.file_free format)
-    (g.F.SavableFormat.saves format) (g.met.F.SavableFormat.savable format) c.args.path.now c.args.attributes.now c.args.stored.now c.args.units.now
+    (g.F.SavableFormat.saves format) (g.met.F.SavableFormat.savable format) c.args.file.now.path.now c.args.file.now.attributes.now c.args.file.now.stored.now c.args.file.now.units.now
     old (g.D.Device.state c.save_new.new.device)
     (whole_units meaning old (g.met.D.Device.whole c.args.device.now honest) c.requires.fits.unit) c.save_new.result honest c.save_new.ensures.edited is
