@@ -82,8 +82,8 @@ fn has_directory(words: &[String]) -> bool {
         || is_command(words, "add") && words.iter().any(|word| names_directory(word))
 }
 
-/// The words with ProDOS in the place of a file system that they leave to the image, where they name
-/// a directory of the volume: a DOS 3.3 disk has none.
+/// The words with ProDOS in the place of a file system that they leave to the image, where they
+/// name a directory of the volume: a DOS 3.3 disk has none.
 pub fn of_prodos(alloc: Global, words: Vec<String>) -> Result<Vec<String>, AllocError> {
     let option = AutoOption::FileSystem;
     if !has_directory(words.as_slice()) {

@@ -7,8 +7,8 @@
 //! has its file: `words.rt`, `asking.rt`, `inputs.rt`, `settling.rt`, `doing.rt` and `ending.rt`;
 //! a job that makes a folder is done and ended in `extracting.rt`, one that adds the files of a
 //! folder in `adding.rt`, one that surveys a folder in `surveying.rt`, one that makes a volume in
-//! `creating.rt`, and `stop.rt` has what ends the line early. `streams.rt` takes the descriptors
-//! of closed streams, so that no file gets one.
+//! `creating.rt`. `walking.rt` looks through a folder for two of them, and `stop.rt` has what ends
+//! the line early. `streams.rt` takes the descriptors of closed streams, so that no file gets one.
 #![tactic(auto)]
 
 mod adding;
@@ -23,6 +23,7 @@ mod stages;
 mod stop;
 mod streams;
 mod surveying;
+mod walking;
 mod words;
 
 use std::process::ExitCode;

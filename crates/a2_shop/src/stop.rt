@@ -1,11 +1,13 @@
 // What ends the line of stages early.
+ghost use Rattle.shop_replies.specs.Reading.{IsReadFailure};
+
 use crate::words::WORDS_REFUSED;
 use a2_media::FileError;
 use shop_files::{Clash, Unwritten};
 use shop_jobs::{Ask, Job, Look};
 use shop_replies::{FAILED, Failure, Refusal, Reply, Side, written};
-use std::alloc::AllocError;
-use std::io::Write;
+use std::alloc::{AllocError, AllocFailed};
+use std::io::{self, ErrorKind, Write};
 
 /// The status of a refused job.
 const REFUSED: u8 = 3;
@@ -46,6 +48,17 @@ fn compares(job: &Job) -> bool {
             ..
         }
     )
+}
+
+/// Why a call of the system failed: for want of memory, or else.
+pub fn failure_of(error: &io::Error) -> Failure
+    ensures { IsReadFailure result }
+{
+    if error.kind() == ErrorKind::OutOfMemory {
+        Failure::Memory
+    } else {
+        Failure::Input
+    }
 }
 
 impl Stop {
@@ -109,6 +122,12 @@ impl From<Failure> for Stop {
 
 impl From<AllocError> for Stop {
     fn from(_: AllocError) -> Stop {
+        Stop::Failed(Failure::Memory)
+    }
+}
+
+impl<T: Drop> From<AllocFailed<T>> for Stop {
+    fn from(_: AllocFailed<T>) -> Stop {
         Stop::Failed(Failure::Memory)
     }
 }

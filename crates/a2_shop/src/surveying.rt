@@ -1,28 +1,19 @@
 // A survey: of the files that a path leads to, or of those that standard input names.
-use crate::stop::Stop;
+use crate::stop::{Stop, failure_of};
+use crate::walking::{Finder, Kind, Root};
 use disk_container::MOST_BYTES;
 use image_survey::{Survey, SurveyError, Surveyed, survey_image};
 use shop_files::{Ending, Unwritten, foreign_of, tell_foreign};
 use shop_jobs::{Job, SurveyForm, is_on_standard_input};
 use shop_replies::{Failure, read_front};
-use std::alloc::AllocError;
 use std::fs::{self, File, Metadata};
-use std::io::{self, ErrorKind, Read, Write};
+use std::io::{Read, Write};
 
 /// A file that is told of, by its path; or a folder with a name in it that can't be read.
 #[derive(Debug, PartialEq, Eq, PartialOrd, Ord, Drop)]
 struct Item {
     path: String,
     is_unread: bool,
-}
-
-// Why a call of the system failed: for want of memory, or else.
-fn failure_of(error: &io::Error) -> Failure {
-    if error.kind() == ErrorKind::OutOfMemory {
-        Failure::Memory
-    } else {
-        Failure::Input
-    }
 }
 
 // The bytes of a regular file, up to one past the most of a container.
@@ -111,89 +102,42 @@ fn tell_items<T: Write>(
     Ok(())
 }
 
-// The path of a name in a folder.
-fn path_in(rt: &HostRuntime, folder: &str, name: &str) -> Result<String, AllocError> {
-    format!(in rt.alloc(); "{folder}/{name}")
+/// What a folder has that is told of.
+#[derive(Drop)]
+struct Items<'r, 'a> {
+    root: Root<'r, 'a>,
+    found: Vec<Item>,
 }
 
-// Adds a folder that can't be read, or a name in it.
-fn add_unread(rt: &HostRuntime, folder: &str, items: &mut Vec<Item>) -> Result<(), AllocError> {
-    items.push(Item {
-        path: folder.to_string(rt.alloc())?,
-        is_unread: true,
-    })?;
-    Ok(())
-}
-
-// Adds what a name in a folder leads to, without following a link: a file to the items, a folder to
-// those that are still to be looked through.
-fn add_entry(
-    rt: &HostRuntime,
-    path: String,
-    items: &mut Vec<Item>,
-    folders: &mut Vec<String>,
-) -> Result<(), AllocError> {
-    match fs::symlink_metadata(rt, path.as_str()) {
-        Ok(found) if found.is_dir() => {
-            folders.push(path)?;
-        }
-        Ok(found) if found.is_file() => {
-            items.push(Item {
-                path,
-                is_unread: false,
-            })?;
-        }
-        Ok(_) => {}
-        Err(error) if error.kind() == ErrorKind::OutOfMemory => return Err(AllocError),
-        Err(_) => {
-            items.push(Item {
-                path,
-                is_unread: true,
-            })?;
-        }
+impl Finder for Items<'_, '_> {
+    fn passes_over(&self, _name: &str) -> bool {
+        false
     }
-    Ok(())
-}
 
-// Adds all that a folder has.
-fn add_folder(
-    rt: &HostRuntime,
-    folder: &str,
-    items: &mut Vec<Item>,
-    folders: &mut Vec<String>,
-) -> Result<(), AllocError> {
-    let place = if folder.is_empty() { "/" } else { folder };
-    let entries = match fs::read_dir(rt, place) {
-        Ok(entries) => entries,
-        Err(error) if error.kind() == ErrorKind::OutOfMemory => return Err(AllocError),
-        Err(_) => return add_unread(rt, folder, items),
-    };
-    for entry in entries {
-        match entry {
-            Ok(entry) => {
-                let path = path_in(rt, folder, entry.file_name())?;
-                add_entry(rt, path, items, folders)?;
-            }
-            Err(error) if error.kind() == ErrorKind::OutOfMemory => return Err(AllocError),
-            Err(_) => add_unread(rt, folder, items)?,
-        }
+    fn take(&mut self, path: String, kind: Kind) -> Result<(), Stop> {
+        let is_unread = match kind {
+            Kind::File => false,
+            Kind::Unread | Kind::Unnamed => true,
+            Kind::Folder | Kind::Other => return Ok(()),
+        };
+        self.found.push(Item {
+            path: self.root.place_of(path.as_str())?,
+            is_unread,
+        })?;
+        Ok(())
     }
-    Ok(())
 }
 
 // The files of a folder and of all folders in it, in the order of their paths' bytes.
-fn items_of(rt: &HostRuntime, folder: &str) -> Result<Vec<Item>, AllocError> {
-    let mut items = Vec::new(rt.alloc());
-    let mut folders = Vec::new(rt.alloc());
-    folders.push(folder.trim_end_matches('/').to_string(rt.alloc())?)?;
-    for _ in 0..u64::MAX {
-        let Some(next) = folders.pop() else {
-            break;
-        };
-        add_folder(rt, next.as_str(), &mut items, &mut folders)?;
-    }
-    items.sort()?;
-    Ok(items)
+fn items_of(root: Root<'_, '_>) -> Result<Vec<Item>, Stop> {
+    let mut items = Items {
+        root,
+        found: Vec::new(root.rt.alloc()),
+    };
+    root.look_through(&mut items)?;
+    let Items { mut found, .. } = items;
+    found.sort()?;
+    Ok(found)
 }
 
 // What standard input has.
@@ -224,10 +168,10 @@ fn survey_folder<T: Write>(
     path: &str,
     text: &mut T,
 ) -> Result<(), Stop> {
-    if let Err(error) = fs::read_dir(surveying.rt, path) {
-        return Err(Stop::Failed(failure_of(&error)));
-    }
-    let items = items_of(surveying.rt, path)?;
+    let items = items_of(Root {
+        rt: surveying.rt,
+        path: path.trim_end_matches('/'),
+    })?;
     tell_items(surveying, items.as_slice(), text)
 }
 
