@@ -143,15 +143,14 @@ fn pro_ended<A: Allocator + Copy>(
     })
 }
 
-/// The end on a volume.
+/// The end on a volume with this image.
 fn ended<A: Allocator + Copy>(
-    alloc: Global,
     heap: A,
     volume: Volume,
+    image: Vec<u8>,
     failure: Failure,
     before: u64,
 ) -> Option<End> {
-    let image = image_after(alloc, volume, 0).ok()?;
     match volume {
         Volume::Hello | Volume::HelloWhole => dos_ended(heap, image, failure, before),
         Volume::Sub | Volume::Far => pro_ended(heap, image, failure, before),
@@ -164,10 +163,19 @@ type Told = (Option<EditError>, u64, u64, bool);
 
 /// What is told of a volume with a failure after so many calls of its kind.
 fn told(alloc: Global, volume: Volume, failure: Failure, before: u64, stand: u64) -> Option<Told> {
+    let image = image_after(alloc, volume, 0).ok()?;
     let wanted = image_after(alloc, volume, stand).ok()?;
-    let end = ended(alloc, alloc, volume, failure, before)?;
+    let end = ended(alloc, volume, image, failure, before)?;
     let is_wanted = end.image.as_slice() == wanted.as_slice();
     Some((end.error, end.writes, end.faults, is_wanted))
+}
+
+/// What is told of a volume with this image and a read that fails after so many, and whether the image is left.
+fn told_of_read(alloc: Global, volume: Volume, image: &[u8], before: u64) -> Option<Told> {
+    let copy = Vec::from_slice(alloc, image).ok()?;
+    let end = ended(alloc, volume, copy, Failure::Read, before)?;
+    let is_left = end.image.as_slice() == image;
+    Some((end.error, end.writes, end.faults, is_left))
 }
 
 /// A failure that does not come.
@@ -234,8 +242,11 @@ fn each_write_failing(rt: HostRuntime) {
 
 /// Whether six reads or more are made, of which each that fails leaves the image.
 fn tells_reads(alloc: Global, volume: Volume) -> bool {
+    let Ok(image) = image_after(alloc, volume, 0) else {
+        return false;
+    };
     for before in 0..NEVER {
-        match told(alloc, volume, Failure::Read, before, 0) {
+        match told_of_read(alloc, volume, image.as_slice(), before) {
             Some((Some(EditError::Device), 0, 1, true)) => {}
             Some((None, _, 0, _)) => return before >= 6,
             _ => return false,
@@ -251,27 +262,32 @@ fn each_read_failing(rt: HostRuntime) {
     }
 }
 
-/// Why lost places are not reclaimed over a heap, whether the image is then as it was, and how many blocks are asked of
-/// the heap.
+/// Why lost places of a volume with this image are not reclaimed over a heap, whether the image is then as it was, and
+/// how many blocks are asked of the heap.
 fn told_over(
     alloc: Global,
     volume: Volume,
+    image: &[u8],
     heap: Refusing<Global>,
 ) -> Option<(Option<EditError>, bool, u64)> {
-    let wanted = image_after(alloc, volume, 0).ok()?;
-    let end = ended(alloc, &heap, volume, Failure::Read, NEVER)?;
-    let is_old = end.image.as_slice() == wanted.as_slice();
+    let copy = Vec::from_slice(alloc, image).ok()?;
+    let end = ended(&heap, volume, copy, Failure::Read, NEVER)?;
+    let is_old = end.image.as_slice() == image;
     Some((end.error, is_old, heap.asked()))
 }
 
 /// Whether five blocks or more are asked for, and each that is refused is want of memory and leaves the image.
 fn tells_refusals(alloc: Global, volume: Volume) -> bool {
-    let asked = match told_over(alloc, volume, Refusing::none(alloc)) {
+    let Ok(image) = image_after(alloc, volume, 0) else {
+        return false;
+    };
+    let image = image.as_slice();
+    let asked = match told_over(alloc, volume, image, Refusing::none(alloc)) {
         Some((None, _, asked)) => asked,
         _ => return false,
     };
     for before in 0..asked {
-        match told_over(alloc, volume, Refusing::one(alloc, before)) {
+        match told_over(alloc, volume, image, Refusing::one(alloc, before)) {
             Some((Some(EditError::Memory), true, _)) => {}
             _ => return false,
         }
