@@ -7,7 +7,8 @@ import re
 import sys
 
 TOP = pathlib.Path(__file__).resolve().parent.parent
-FOR_TESTS = ("tests_", "test_volumes")
+FOR_TESTS = ("library_tests", "test_volumes")
+TESTS = TOP / "crates/library_tests/src"
 IMPL_OR_FUNCTION = re.compile(r"^(impl[^\n{]*)|^( *)(pub )?fn (\w+)(?:<[^(]*>)?\(([^{;]*?)\)(?: ->|\n| \{)", re.M)
 
 
@@ -56,13 +57,14 @@ def missing_calls():
 
 
 def missing_tests():
-    """The tests that a row names and that are not there."""
+    """The tests that a row names and that are not there: each is named by its layer, its file and its function."""
+    layers = re.findall(r"^mod (\w+);$", (TESTS / "lib.rt").read_text(), re.M)
     cases = "".join(file.read_text() for file in [TOP / "tests/end_to_end", *sorted((TOP / "tests/cases").iterdir())])
     for _, tests in rows():
-        for crate, file, test in re.findall(r"`(tests_\w+)` `(\w+)` `(\w+)`", tests):
-            source = TOP / "crates" / crate / "src" / f"{file}.rt"
-            if not source.exists() or not re.search(rf"#\[test\]\s*fn {test}\(", source.read_text()):
-                yield f"no test {test} in {file} of {crate}"
+        for layer, file, test in re.findall(r"`(\w+)` `(\w+)` `(\w+)`", tests):
+            source = TESTS / layer / f"{file}.rt"
+            if layer not in layers or not source.exists() or not re.search(rf"#\[test\]\s*fn {test}\(", source.read_text()):
+                yield f"no test {test} in {file} of {layer}"
         for case in re.findall(r"'([^']+)'", tests):
             if f"'{case}'" not in cases:
                 yield f"no case '{case}'"

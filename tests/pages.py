@@ -11,14 +11,12 @@ import re
 import sys
 import textwrap
 
-EXAMPLE = re.compile(r"^```rust\n((?:(?!```).*\n)*)```\n\nThese lines stand in `(\w+)`", re.M)
+EXAMPLE = re.compile(r"^```rust\n((?:(?!```).*\n)*)```\n\nThese lines stand in `(\w+)`(?: of `(\w+)`)?", re.M)
 CODE = re.compile(r"^```.*?^```$", re.M | re.S)
 FILE = re.compile(r"(?:crates/(\w+)/)?(?:(specs|src|proofs)/)?((?:\w+/)*\w+\.(?:antt|rt))")
 # How a heading, a row, or an item of a list begins.
 BEGINS = re.compile(r"#|\||- |\d+\. ")
 TICKED = re.compile(r"`([^`\n]+)`")
-# A wrong body: the file that it changes, the text that stands there, and the text in its place.
-EDIT = re.compile(r"file: (?P<file>\S+)\nold: (?P<old>.+?)\nnew: .*", re.S)
 # The most characters of a paragraph, or of a cell of a table.
 MOST = 1000
 
@@ -44,10 +42,11 @@ def examples_of(crates, name, page):
     """How many examples the page of a crate has, and those that stand in no test."""
     found = EXAMPLE.findall(page.read_text(encoding="utf-8"))
     lost = []
-    for example, tests in found:
-        sources = [path.read_text(encoding="utf-8") for path in (crates / tests / "src").rglob("*.rt")]
+    for example, place, crate in found:
+        folder = crates / crate / "src" / place if crate else crates / place / "src"
+        sources = [path.read_text(encoding="utf-8") for path in folder.rglob("*.rt")]
         if not any(has_lines(source, example) for source in sources):
-            lost.append(f"{name}: its example is not in {tests}")
+            lost.append(f"{name}: its example is not in {place}{crate and f' of {crate}'}")
     return len(found), lost
 
 
@@ -74,13 +73,17 @@ def long_pieces(page, piece):
 
 
 def lost_edits(crates):
-    """A line for each wrong body whose old text does not stand just once in the file that it names: such a body would never be tried."""
+    """A line for each wrong body of which an old text does not stand just once in the file that it names: it would never be tried."""
     for edit in sorted([*crates.glob("*/assure/*.edit"), *crates.glob("*/must-fail/*.edit")]):
-        parts = EDIT.fullmatch(edit.read_text(encoding="utf-8"))
-        crate = edit.parent.parent
-        count = (crate / parts["file"]).read_text(encoding="utf-8").count(parts["old"]) if parts else 0
-        if count != 1:
-            yield f"{crate.name}/{edit.parent.name}/{edit.name} changes text that stands {count} times"
+        crate, source, counts = edit.parent.parent, "", []
+        for line in edit.read_text(encoding="utf-8").splitlines():
+            word, _, text = line.partition(": ")
+            if word == "file":
+                source = (crate / text).read_text(encoding="utf-8") if (crate / text).is_file() else ""
+            elif word == "old":
+                counts.append(source.count(text))
+        if not counts or any(count != 1 for count in counts):
+            yield f"{crate.name}/{edit.parent.name}/{edit.name} changes text that stands {' and '.join(map(str, counts)) or 0} times"
 
 
 def main(top):
@@ -93,7 +96,7 @@ def main(top):
         if page.is_file():
             count, lost = examples_of(crates, name, page)
             examples, wrong = examples + count, wrong + lost
-        elif not name.startswith("tests_"):
+        elif name != "library_tests":
             wrong.append(f"{name} has no page")
     if examples < 20:
         wrong.append(f"{examples} examples")

@@ -1,3 +1,17 @@
 pub mod Readers
 pub mod Holders
 pub mod OwnParts
+pub mod Numbers
+pub mod Windows
+pub mod Places
+pub mod Rewritten
+pub mod Rewrites
+pub mod OneMore
+pub mod SlotWrites
+pub mod Entered
+pub mod UsedSlots
+pub mod Erased
+pub mod Building
+pub mod ListWrites
+pub mod FreeSlots
+pub mod SameCatalog

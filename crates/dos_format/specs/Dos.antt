@@ -13,7 +13,7 @@ use Rattle.dos_catalog.specs.Catalog.{IsCatalog, CatalogFaultAt}
 use Rattle.dos_catalog.specs.Writes.{slot_offset, with_place}
 use Rattle.dos_tslist.specs.Pointers.{pair_of, pair_offset, link_offset}
 use Rattle.dos_tslist.specs.Reach.{entry_pointer, place_named, rank_of}
-use Rattle.reserved_places.specs.Reserved.{is_reserved}
+use Rattle.vol_layout.specs.Reserved.{is_reserved}
 use Rattle.vol_format.specs.declared.link.Link.{Link}
 use Rattle.vol_format.specs.declared.link.Link.TheVariants.{Null, Wild, To}
 use Rattle.vol_format.specs.Directory.{Directory, Listed}

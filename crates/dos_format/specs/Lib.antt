@@ -1,4 +1,9 @@
 pub mod Dos
 pub mod DosVolume
 pub mod DosHolders
+pub mod Slots
+pub mod Rewriting
+pub mod Erasing
+pub mod Plan
+pub mod SameCatalog
 pub mod lemmas

@@ -13,3 +13,4 @@ pub mod DosMovable
 pub mod DosClearing
 pub mod DosSystemContents
 pub mod DosWritable
+pub mod FileFree

@@ -1,6 +1,6 @@
 // DOS 3.3.
 ghost use Rattle.std.specs.Prelude.{◌≡◌, ◌≢◌, ◌<◌, ◌≤◌, [], length, IfOk, IfNone, IfSome, IsTrue, map};
-ghost use Rattle.reserved_places.specs.Reserved.{is_reserved};
+ghost use Rattle.vol_layout.specs.Reserved.{is_reserved};
 ghost use Rattle.dos_catalog.specs.Found.{AreOnTrack};
 ghost use Rattle.dos_catalog.specs.Listed.{entries_of_catalog};
 ghost use Rattle.dos_tslist.specs.Reach.{entry_pointer};
@@ -17,10 +17,10 @@ use a2_device::{Device, Fault, Part, PartKind, WalkError};
 use dos_catalog::{Catalog, Entry};
 use dos_tslist::{PAIRS, next, pair};
 use dos_vtoc::{VTOC_PLACE, Vtoc};
-use reserved_places::Reserved;
 use std::alloc::{AllocError, Allocator, Global};
 use std::marker::Model;
 use vol_format::{Format, Holder, Link, PlaceOrder};
+use vol_layout::Reserved;
 
 /// The places of a volume: 35 tracks of 16 sectors.
 const PLACES: u32 = 560;

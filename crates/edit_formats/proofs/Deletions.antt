@@ -23,7 +23,7 @@ use Rattle.edit_formats.specs.declared.error.EditError.TheVariants.{Device}
 use Rattle.edit_formats.specs.Deleted.{HasFirstUnprotected, HasPlacesOf, IsDeleteRefusal, IsDeleteTold, places_of_file}
 use Rattle.edit_formats.specs.Erasing.{EraseMeaning, HasWholeUnits, IsErasable}
 use Rattle.edit_formats.specs.Markings.{AreMarked}
-use Rattle.edit_formats.proofs.MarkingWrites.{same_number}
+use Rattle.edit_formats.specs.lemmas.Numbers.{same_number}
 use Rattle.edit_formats.proofs.WholeDelete.{whole_delete}
 
 -- what follows of a value that is told

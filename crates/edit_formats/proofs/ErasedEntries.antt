@@ -11,7 +11,7 @@ use Rattle.pro_dir.specs.Volume.{Directory as Tree, Describes, VolumeFaultAt}
 use Rattle.vol_format.specs.Directory.{Listed, entries}
 use Rattle.dos_format.specs.Dos.{dos_directory}
 use Rattle.pro_format.specs.Pro.{no_slot}
-use Rattle.pro_entries.proofs.EntrySlots.{each_slot_of}
+use Rattle.pro_format.proofs.EntrySlots.{each_slot_of}
 use Rattle.vol_laws.specs.Writes.{Write}
 use Rattle.file_formats.proofs.DosEntries.{entry_read}
 use Rattle.a2_device.specs.declared.fault.Fault.{Fault}

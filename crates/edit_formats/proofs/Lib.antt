@@ -1,3 +1,7 @@
+mod Ranges
+mod ListWrites
+mod TableWrites
+pub mod Bodies
 pub mod Changed
 pub mod EntryWrites
 pub mod MadeDeletion
@@ -11,3 +15,6 @@ mod Making
 mod Nearest
 mod MarkedUnits
 pub mod MarkingWrites
+mod Walked
+mod ProTargets
+mod PathStarts

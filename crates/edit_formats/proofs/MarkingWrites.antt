@@ -1,7 +1,7 @@
 -- The writes of units of the map, as markings.
-use Rattle.std.specs.Prelude.{◌≡◌, ◌≢◌, ◌<◌, ◌==◌, ℕ, zero, suc, Bool, true, false, List, [], ◌∷◌, ◌++◌, length, map, slice_index_or, All, AllPairs, Contains, IsTrue}
-use Rattle.std.proofs.Common.{refl, sym, ◌∙◌, ap, subst, arith, inl, inr}
-use Rattle.std.proofs.lemmas.Bool.{cases_Bool, eqb-true, eqb-false}
+use Rattle.std.specs.Prelude.{◌≡◌, ◌<◌, ◌==◌, ℕ, zero, suc, Bool, true, List, [], ◌∷◌, ◌++◌, length, map, slice_index_or, All, AllPairs, Contains, IsTrue}
+use Rattle.std.proofs.Common.{refl, sym, ◌∙◌, ap, subst, arith}
+use Rattle.std.proofs.lemmas.Bool.{eqb-true}
 use Rattle.std.proofs.lemmas.List.{map-append, length-map, get_or-map}
 use Rattle.std.proofs.lemmas.List.Elements.{All-map, All-filter, All-head, All-tail, All-contains_itself, filter_passes}
 use Rattle.a2_device.specs.Device.{DeviceState}
@@ -13,18 +13,7 @@ use Rattle.vol_laws.specs.Writes.{Write}
 use Rattle.edit_formats.specs.declared.writes.Prepared.{Prepared}
 use Rattle.edit_formats.specs.Prepared.{write_of}
 use Rattle.edit_formats.specs.Markings.{marked_in, IsMarking, AreMarked}
-
-pub same_number : (a b : ℕ) → a ≡ b → (a == b) ≡ true
-same_number a b same = elim (cases_Bool (a == b)) [
-  | inl is ↦ is
-  | inr is ↦ absurd (eqb-false a b is same)
-]
-
-pub other_number : (a b : ℕ) → a ≢ b → (a == b) ≡ false
-other_number a b apart = elim (cases_Bool (a == b)) [
-  | inl is ↦ absurd (apart (eqb-true a b is))
-  | inr is ↦ is
-]
+use Rattle.edit_formats.specs.lemmas.Numbers.{same_number}
 
 module _ {A : Type 0} (format : Meaning) (free : Bool) (directory : Directory) (places : List ℕ) (old : DeviceState) (start writes : List (Prepared A))
     (honest : IsTrue old.honest) (all : AreMarked format free directory places old start writes) where

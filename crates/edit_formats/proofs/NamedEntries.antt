@@ -19,7 +19,7 @@ use Rattle.pro_dir.specs.lemmas.VolumeLaws.{one_directory}
 use Rattle.vol_format.specs.Directory.{Listed, entries, entry_of}
 use Rattle.dos_format.specs.Dos.{dos_directory, numbered}
 use Rattle.pro_format.specs.Pro.{no_slot, directory_with}
-use Rattle.pro_entries.specs.Rewritten.{access_at, with_name}
+use Rattle.pro_format.specs.Rewritten.{access_at, with_name}
 use Rattle.file_formats.specs.DosFiles.{dos_name}
 use Rattle.file_formats.specs.lemmas.ProShown.{behind_key}
 use Rattle.file_formats.proofs.DosEntries.{entry_read}

@@ -2,7 +2,7 @@
 use Rattle.std.specs.Prelude.{◌≡◌, ℕ, nat_le, List, [], ◌∷◌, slice_index}
 use Rattle.vol_format.specs.Directory.{Directory}
 use Rattle.dos_catalog.specs.Writes.{erased}
-use Rattle.dos_entries.specs.Rewriting.{place_of_entry, slot_of_entry, sector_of_entry}
+use Rattle.dos_format.specs.Rewriting.{place_of_entry, slot_of_entry, sector_of_entry}
 use Rattle.vol_laws.specs.Writes.{Write}
 use Rattle.edit_formats.specs.Erasing.{EraseMeaning}
 

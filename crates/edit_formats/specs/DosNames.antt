@@ -5,7 +5,7 @@ use Rattle.std.specs.Str.{bytes_eq}
 use Rattle.dos_catalog.specs.Writes.{slot_offset, with_bytes}
 use Rattle.vol_format.specs.Directory.{Listed}
 use Rattle.file_formats.specs.DosFiles.{dos_name}
-use Rattle.dos_entries.specs.Rewriting.{with_name}
+use Rattle.dos_format.specs.Rewriting.{with_name}
 use Rattle.edit_formats.specs.Names.{NameMeaning}
 
 -- a byte that a name may have: a character from the space to the tilde that is no comma

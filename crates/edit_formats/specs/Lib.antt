@@ -1,3 +1,9 @@
+pub mod Parts
+pub mod Order
+pub mod Placed
+pub mod ListUnit
+pub mod TableUnit
+pub mod Filling
 pub mod Edits
 pub mod Lists
 pub mod Edited
@@ -12,8 +18,11 @@ pub mod DosNames
 pub mod ProNames
 pub mod Renamed
 pub mod Deleted
-pub mod lemmas
 pub mod Refusal
 pub mod Writes
 pub mod Prepared
 pub mod Markings
+pub mod Saves
+pub mod DosSaves
+pub mod ProSaves
+pub mod lemmas

@@ -1,7 +1,7 @@
 -- What is written into an entry of a ProDOS directory (ProDOS 8 Technical Reference Manual, Appendix B).
 use Rattle.std.specs.Prelude.{ℕ, Bool, true, false, slice_index, slice_set, bit_and, bit_or}
 use Rattle.pro_dir.specs.Writes.{slot_offset}
-use Rattle.pro_entries.specs.Rewritten.{access_at, with_access}
+use Rattle.pro_format.specs.Rewritten.{access_at, with_access}
 use Rattle.edit_formats.specs.Edits.{EditMeaning}
 
 -- The access bits of a file that is locked: destroy, rename and write are off; or unlocked: these and read are on. All others stay.

@@ -5,7 +5,7 @@ use Rattle.pro_dir.specs.declared.entry.Entry.{Entry}
 use Rattle.pro_dir.specs.Parents.{entry_in}
 use Rattle.pro_dir.specs.Volume.{Directory as Tree, Describes}
 use Rattle.pro_dir.specs.Writes.{slot_offset}
-use Rattle.pro_entries.specs.Rewritten.{access_at}
+use Rattle.pro_format.specs.Rewritten.{access_at}
 use Rattle.vol_laws.specs.Writes.{Write}
 use Rattle.edit_formats.specs.declared.counting.FileCount.TheVariants.{Less}
 use Rattle.edit_formats.specs.Counting.{counted_writes}

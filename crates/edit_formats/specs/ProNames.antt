@@ -8,7 +8,7 @@ use Rattle.pro_dir.specs.Parents.{entry_in}
 use Rattle.pro_dir.specs.Paths.{folded}
 use Rattle.pro_dir.specs.Volume.{Directory as Tree, Describes}
 use Rattle.pro_dir.specs.Writes.{slot_offset}
-use Rattle.pro_entries.specs.Rewritten.{access_at, renamed, with_name}
+use Rattle.pro_format.specs.Rewritten.{access_at, renamed, with_name}
 use Rattle.edit_formats.specs.Names.{NameMeaning}
 
 -- letters of either case, digits and the period

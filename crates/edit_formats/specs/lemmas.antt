@@ -1,3 +1,11 @@
+pub mod Numbers
+pub mod Pushed
+pub mod Membership
+pub mod DosOrder
+pub mod ProOrder
+pub mod Parts
+pub mod DosBuilt
+pub mod ProPlanned
 pub mod DosLocking
 pub mod ProLocking
 pub mod DosNaming
@@ -5,3 +13,5 @@ pub mod ProNaming
 pub mod Fronts
 pub mod DosErasable
 pub mod ProErasable
+pub mod DosSavable
+pub mod ProSavable

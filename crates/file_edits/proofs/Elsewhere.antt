@@ -10,7 +10,7 @@ use Rattle.vol_laws.specs.Marked.{with_marks}
 use Rattle.vol_laws.specs.Markings.{Marking, marking_of, mark_as, marking_write}
 use Rattle.vol_laws.specs.Writes.{Write, store_after}
 use Rattle.vol_laws.proofs.Fronts.{unit_after}
-use Rattle.save_formats.specs.Saves.{IsElsewhere}
+use Rattle.edit_formats.specs.Saves.{IsElsewhere}
 
 pub same_length : (writes : List Write) (store : List (List ℕ)) → length (store_after writes store) ≡ length store
 same_length [] store = refl

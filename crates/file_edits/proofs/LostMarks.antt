@@ -19,7 +19,8 @@ use Rattle.edit_formats.specs.declared.writes.Prepared.{Prepared}
 use Rattle.edit_formats.specs.Markings.{marked_in, AreMarked}
 use Rattle.edit_formats.specs.Prepared.{write_of}
 use Rattle.edit_formats.proofs.Deletions.{all_inside, all_sizes}
-use Rattle.edit_formats.proofs.MarkingWrites.{same_number, markings, markings_are, markings_rising, of_markings, marking_each, marking_some}
+use Rattle.edit_formats.specs.lemmas.Numbers.{same_number}
+use Rattle.edit_formats.proofs.MarkingWrites.{markings, markings_are, markings_rising, of_markings, marking_each, marking_some}
 use Rattle.file_edits.specs.Reclaimed.{IsLostHere, IsReclaiming, IsReclaimRefusal}
 
 -- the lost places are places of the volume

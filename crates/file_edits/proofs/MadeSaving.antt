@@ -12,16 +12,16 @@ use Rattle.vol_laws.specs.Writes.{Write, store_after}
 use Rattle.vol_laws.proofs.Fronts.{after_both}
 use Rattle.vol_laws.specs.Saved.{HasNothingSaved}
 use Rattle.vol_laws.proofs.WholeSaving as whole
-use Rattle.new_files.specs.Placed.{stored_units}
-use Rattle.new_files.proofs.Bodies.{body_placed}
+use Rattle.edit_formats.specs.Placed.{stored_units}
+use Rattle.edit_formats.proofs.Bodies.{body_placed}
 use Rattle.edit_formats.specs.declared.error.EditError.{EditError}
 use Rattle.edit_formats.specs.declared.error.EditError.TheVariants.{Device}
 use Rattle.edit_formats.specs.Erasing.{HasWholeUnits}
 use Rattle.edit_formats.specs.Writes.{HasEdited, StopsIn, device_after, no_write}
 use Rattle.edit_formats.proofs.Changed.{read_keeps, write_leaves}
 use Rattle.edit_formats.proofs.MadeDeletion.{store_of}
-use Rattle.save_formats.specs.declared.target.Attributes.{Attributes}
-use Rattle.save_formats.specs.Saves.{SaveMeaning, IsSavable}
+use Rattle.edit_formats.specs.declared.target.Attributes.{Attributes}
+use Rattle.edit_formats.specs.Saves.{SaveMeaning, IsSavable}
 use Rattle.file_edits.specs.Saved.{IsSaveEdit, HasSaved, HasNotSaved, IsOldOrSaved, kept_units, new_places, saved_file}
 use Rattle.file_edits.proofs.NewPlaces.{count_is}
 use Rattle.file_edits.proofs.Plans.{planned_places}

@@ -8,8 +8,8 @@ use Rattle.vol_format.specs.Directory.{Directory, is_free}
 use Rattle.vol_format.specs.Laws.{IsDirectory}
 use Rattle.vol_format.specs.Meaning.{Meaning}
 use Rattle.vol_laws.specs.Saving.{IsNewPlace}
-use Rattle.new_files.specs.declared.part.NewPart.{NewPart}
-use Rattle.new_files.specs.Placed.{HavePlaces}
+use Rattle.edit_formats.specs.declared.new_part.NewPart.{NewPart}
+use Rattle.edit_formats.specs.Placed.{HavePlaces}
 use Rattle.file_edits.specs.Places.{first_places, free_places}
 
 module _ (directory : Directory) (count : ℕ) where

@@ -4,9 +4,9 @@ use Rattle.std.proofs.Common.{refl, sym, subst, arith, inl, inr}
 use Rattle.std.proofs.lemmas.Bool.{cases_lt}
 use Rattle.std.proofs.lemmas.List.{length-append, get_or_append_left, get_or_push}
 use Rattle.vol_laws.specs.Writes.{Write}
-use Rattle.new_files.specs.declared.part.NewPart.{NewPart}
+use Rattle.edit_formats.specs.declared.new_part.NewPart.{NewPart}
 use Rattle.edit_formats.specs.Writes.{no_write}
-use Rattle.save_formats.specs.Saves.{SaveMeaning}
+use Rattle.edit_formats.specs.Saves.{SaveMeaning}
 use Rattle.file_edits.specs.Parts.{HasPartWrites, IsPartWrite}
 
 module _ (saves : SaveMeaning) (size : ℕ) (parts : List NewPart) (places : List ℕ) (stored : List Bool) (text : List ℕ) where

@@ -7,12 +7,12 @@ use Rattle.a2_device.specs.Device.{DeviceState}
 use Rattle.vol_format.specs.Directory.{Directory}
 use Rattle.vol_format.specs.Meaning.{Meaning}
 use Rattle.vol_laws.specs.Writes.{Write}
-use Rattle.new_files.specs.declared.part.NewPart.{NewPart}
+use Rattle.edit_formats.specs.declared.new_part.NewPart.{NewPart}
 use Rattle.edit_formats.specs.declared.writes.Prepared.{Prepared}
 use Rattle.edit_formats.specs.Markings.{AreMarked}
 use Rattle.edit_formats.specs.Prepared.{write_of}
 use Rattle.edit_formats.specs.Writes.{no_write}
-use Rattle.save_formats.specs.Saves.{SaveMeaning}
+use Rattle.edit_formats.specs.Saves.{SaveMeaning}
 use Rattle.file_edits.specs.Parts.{HasPartWrites}
 
 module _ {A : Type 0} (format : Meaning) (saves : SaveMeaning) (directory : Directory) (size : ℕ) (parts : List NewPart) (places : List ℕ) (stored : List Bool) (text : List ℕ)

@@ -7,15 +7,15 @@ use Rattle.a2_device.specs.declared.part.PartKind.TheVariants.{Body}
 use Rattle.vol_laws.specs.Built.{Planned, no_plan, plan_of, place_of, unit_of}
 use Rattle.vol_laws.specs.Writes.{Write}
 use Rattle.vol_laws.specs.Saving.{unit_write, places_of}
-use Rattle.new_files.specs.declared.part.NewPart.{NewPart}
-use Rattle.new_files.specs.Order.{HasStored, part_at}
-use Rattle.new_files.specs.Parts.{new_part}
-use Rattle.new_files.proofs.Membership.{inside_file}
-use Rattle.new_files.specs.Placed.{HasPlaced, HasBodyUnits, plan_with}
-use Rattle.new_files.proofs.Bodies.{plan_placed, plan_unit}
-use Rattle.new_files.proofs.Parts.{part_is, plan_place}
+use Rattle.edit_formats.specs.declared.new_part.NewPart.{NewPart}
+use Rattle.edit_formats.specs.Order.{HasStored, part_at}
+use Rattle.edit_formats.specs.Parts.{new_part}
+use Rattle.edit_formats.specs.lemmas.Membership.{inside_file}
+use Rattle.edit_formats.specs.Placed.{HasPlaced, HasBodyUnits, plan_with}
+use Rattle.edit_formats.proofs.Bodies.{plan_placed, plan_unit}
+use Rattle.edit_formats.specs.lemmas.Parts.{part_is, plan_place}
 use Rattle.edit_formats.specs.Writes.{no_write}
-use Rattle.save_formats.specs.Saves.{SaveMeaning, HasTables}
+use Rattle.edit_formats.specs.Saves.{SaveMeaning, HasTables}
 use Rattle.file_edits.specs.Given.{given_unit, given_units}
 use Rattle.file_edits.specs.Parts.{HasPartWrites}
 

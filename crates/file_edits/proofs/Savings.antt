@@ -19,20 +19,20 @@ use Rattle.vol_laws.specs.Writes.{Write, store_after}
 use Rattle.vol_laws.specs.Saving.{IsNewPlace, IsPlacing, IsPlannedPlace, IsSaving, unit_write, with_places}
 use Rattle.vol_laws.proofs.SavedMarks.{marked_listed, marked_system}
 use Rattle.vol_laws.proofs.Unsaved.{all_stands}
-use Rattle.new_files.specs.declared.part.NewPart.{NewPart}
-use Rattle.new_files.specs.Placed.{HavePlaces, HasPlaced}
-use Rattle.new_files.proofs.Parts.{plan_place}
+use Rattle.edit_formats.specs.declared.new_part.NewPart.{NewPart}
+use Rattle.edit_formats.specs.Placed.{HavePlaces, HasPlaced}
+use Rattle.edit_formats.specs.lemmas.Parts.{plan_place}
 use Rattle.edit_formats.specs.declared.writes.Prepared.{Prepared}
 use Rattle.edit_formats.specs.Erasing.{HasWholeUnits}
 use Rattle.edit_formats.specs.Markings.{marked_in, AreMarked}
 use Rattle.edit_formats.specs.Prepared.{write_of}
 use Rattle.edit_formats.specs.Writes.{no_write}
 use Rattle.edit_formats.proofs.MarkingWrites.{markings, markings_are, markings_rising, of_markings, marked_here, marking_each, marking_some}
-use Rattle.save_formats.specs.declared.target.Attributes.{Attributes}
-use Rattle.save_formats.specs.declared.target.Extent.{Extent}
-use Rattle.save_formats.specs.declared.target.Slot.{Slot}
-use Rattle.save_formats.specs.declared.target.Target.TheVariants.{At}
-use Rattle.save_formats.specs.Saves.{SaveMeaning, IsSavable, IsElsewhere, HasEntering}
+use Rattle.edit_formats.specs.declared.target.Attributes.{Attributes}
+use Rattle.edit_formats.specs.declared.target.Extent.{Extent}
+use Rattle.edit_formats.specs.declared.target.Slot.{Slot}
+use Rattle.edit_formats.specs.declared.target.Target.TheVariants.{At}
+use Rattle.edit_formats.specs.Saves.{SaveMeaning, IsSavable, IsElsewhere, HasEntering}
 use Rattle.file_edits.specs.Parts.{HasPartWrites}
 use Rattle.file_edits.specs.Places.{first_places, free_places}
 use Rattle.file_edits.specs.Saved.{IsSaveEdit, extent_of, new_places}

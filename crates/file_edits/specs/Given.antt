@@ -2,7 +2,7 @@
 use Rattle.std.specs.Prelude.{◌≡◌, ℕ, ◌+◌, ◌*◌, Bool, if◌then◌else◌, List, length, map, replicate, slice_range}
 use Rattle.std.specs.List.{range_with_len}
 use Rattle.vol_format.specs.Meaning.{Meaning}
-use Rattle.new_files.specs.Parts.{is_stored}
+use Rattle.edit_formats.specs.Parts.{is_stored}
 use Rattle.file_edits.specs.declared.given.NewFile.{NewFile}
 
 -- Unit `number` of a file whose units, of a size, stand one after the other; a hole is zeros.

@@ -8,3 +8,12 @@ pub mod Saving
 pub mod Slots
 pub mod Placing
 pub mod Reclaimed
+pub mod NewDirectory
+pub mod Leaf
+pub mod WithDirectory
+pub mod Making
+pub mod DirectorySlots
+pub mod Made
+pub mod Preparing
+pub mod Directories
+pub mod lemmas

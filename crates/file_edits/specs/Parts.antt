@@ -1,12 +1,12 @@
 -- The writes of the parts of a new file.
 use Rattle.std.specs.Prelude.{◌≡◌, ◌≢◌, ◌<◌, ℕ, Bool, false, List, length, slice_index, slice_index_or, All}
 use Rattle.a2_device.specs.declared.part.PartKind.TheVariants.{Body}
-use Rattle.new_files.specs.declared.part.NewPart.{NewPart}
-use Rattle.new_files.specs.Order.{part_at}
+use Rattle.edit_formats.specs.declared.new_part.NewPart.{NewPart}
+use Rattle.edit_formats.specs.Order.{part_at}
 use Rattle.vol_format.specs.Meaning.{Meaning}
 use Rattle.vol_laws.specs.Writes.{Write}
 use Rattle.edit_formats.specs.Writes.{no_write}
-use Rattle.save_formats.specs.Saves.{SaveMeaning}
+use Rattle.edit_formats.specs.Saves.{SaveMeaning}
 use Rattle.file_edits.specs.declared.building.PlacedParts.{PlacedParts}
 use Rattle.file_edits.specs.Given.{given_unit}
 

@@ -6,8 +6,8 @@ use Rattle.vol_format.specs.Meaning.{Meaning}
 use Rattle.edit_formats.specs.declared.writes.Prepared.{Prepared}
 use Rattle.edit_formats.specs.Markings.{AreMarked}
 use Rattle.edit_formats.specs.Prepared.{write_of}
-use Rattle.save_formats.specs.declared.target.Extent.{Extent}
-use Rattle.save_formats.specs.Saves.{SaveMeaning}
+use Rattle.edit_formats.specs.declared.target.Extent.{Extent}
+use Rattle.edit_formats.specs.Saves.{SaveMeaning}
 use Rattle.file_edits.specs.declared.preparing.PlacedFile.{PlacedFile}
 use Rattle.file_edits.specs.Parts.{HasPartWrites}
 use Rattle.file_edits.specs.Places.{first_places}

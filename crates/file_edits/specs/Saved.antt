@@ -8,15 +8,15 @@ use Rattle.vol_laws.specs.Built.{Planned}
 use Rattle.vol_laws.specs.Writes.{Write}
 use Rattle.vol_laws.specs.Saved.{HasFileSaved, HasNothingSaved}
 use Rattle.vol_laws.specs.Saving.{IsSaving}
-use Rattle.new_files.specs.Placed.{HasPlaced, HasBodyUnits, stored_units}
+use Rattle.edit_formats.specs.Placed.{HasPlaced, HasBodyUnits, stored_units}
 use Rattle.edit_formats.specs.declared.error.EditError.{EditError}
 use Rattle.edit_formats.specs.declared.error.EditError.TheVariants.{Check, NotFound, Name, Exists, TooLong, DirFull, VolumeFull, Device, Memory}
-use Rattle.save_formats.specs.declared.target.Attributes.{Attributes}
-use Rattle.save_formats.specs.declared.target.Extent.{Extent}
-use Rattle.save_formats.specs.declared.target.Slot.{Slot}
-use Rattle.save_formats.specs.declared.target.Target.{Target}
-use Rattle.save_formats.specs.declared.target.Target.TheVariants.{NoDirectory, NoName, InUse, Full, At}
-use Rattle.save_formats.specs.Saves.{SaveMeaning, HasTables}
+use Rattle.edit_formats.specs.declared.target.Attributes.{Attributes}
+use Rattle.edit_formats.specs.declared.target.Extent.{Extent}
+use Rattle.edit_formats.specs.declared.target.Slot.{Slot}
+use Rattle.edit_formats.specs.declared.target.Target.{Target}
+use Rattle.edit_formats.specs.declared.target.Target.TheVariants.{NoDirectory, NoName, InUse, Full, At}
+use Rattle.edit_formats.specs.Saves.{SaveMeaning, HasTables}
 use Rattle.file_edits.specs.Given.{given_units}
 use Rattle.file_edits.specs.Places.{first_places, free_places}
 

@@ -3,7 +3,7 @@ use Rattle.std.specs.Prelude.{ℕ, List, Result}
 use Rattle.vol_format.specs.Meaning.{Meaning}
 use Rattle.vol_laws.specs.Writes.{Write}
 use Rattle.edit_formats.specs.declared.error.EditError.{EditError}
-use Rattle.save_formats.specs.Saves.{SaveMeaning}
+use Rattle.edit_formats.specs.Saves.{SaveMeaning}
 use Rattle.file_edits.specs.declared.given.NewFile.{NewFile}
 use Rattle.file_edits.specs.Saved.{IsSaveEdit, IsSaveTold}
 

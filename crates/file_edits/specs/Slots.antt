@@ -2,10 +2,10 @@
 use Rattle.std.specs.Prelude.{◌≡◌, ℕ, Bool, true, false, List, length, if◌then◌else◌, Result, Ok, Err}
 use Rattle.edit_formats.specs.declared.error.EditError.{EditError}
 use Rattle.edit_formats.specs.declared.error.EditError.TheVariants.{Check, NotFound, Name, Exists, TooLong, DirFull, Device, Memory}
-use Rattle.save_formats.specs.declared.target.Slot.{Slot}
-use Rattle.save_formats.specs.declared.target.Target.{Target}
-use Rattle.save_formats.specs.declared.target.Target.TheVariants.{NoDirectory, NoName, InUse, Full, At}
-use Rattle.save_formats.specs.Saves.{SaveMeaning}
+use Rattle.edit_formats.specs.declared.target.Slot.{Slot}
+use Rattle.edit_formats.specs.declared.target.Target.{Target}
+use Rattle.edit_formats.specs.declared.target.Target.TheVariants.{NoDirectory, NoName, InUse, Full, At}
+use Rattle.edit_formats.specs.Saves.{SaveMeaning}
 use Rattle.file_edits.specs.declared.given.NewFile.{NewFile}
 use Rattle.file_edits.specs.Saved.{IsVacant}
 

@@ -18,16 +18,14 @@ ghost use Rattle.std.specs.Prelude.{
   IsTrue,
 };
 ghost use Rattle.a2_device.specs.declared.part.PartKind.TheVariants.{Body};
-ghost use Rattle.new_files.specs.Order.{part_at};
+ghost use Rattle.edit_formats.specs.Order.{part_at};
 ghost use Rattle.edit_formats.specs.declared.writes.Prepared.{Prepared};
 ghost use Rattle.edit_formats.specs.Prepared.{write_of};
 ghost use Rattle.file_edits.specs.Given.{given_unit};
 ghost use Rattle.file_edits.specs.Parts.{AreBuildable, HasPartWrites, IsPartWrite};
 
 use a2_device::PartKind;
-use edit_formats::{Prepared, behind};
-use new_files::NewPart;
-use save_formats::SavableFormat;
+use edit_formats::{NewPart, Prepared, SavableFormat, behind};
 use std::alloc::{AllocError, Allocator};
 
 // The parts of a new file, each with its place.

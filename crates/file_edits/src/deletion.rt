@@ -20,7 +20,7 @@ ghost use Rattle.file_formats.specs.FileNames.{FileNameView};
 ghost use Rattle.a2_device.specs.Device.{DeviceState};
 ghost use Rattle.vol_format.specs.Directory.{Directory, entries};
 ghost use Rattle.dos_format.specs.Dos.{DescribesDos, dos_meaning};
-ghost use Rattle.dos_entries.specs.Rewriting.{sector_of_entry};
+ghost use Rattle.dos_format.specs.Rewriting.{sector_of_entry};
 ghost use Rattle.vol_laws.specs.Deleted.{HasFileDeleted};
 ghost use Rattle.edit_formats.specs.DosErasing.{dos_erasing};
 ghost use Rattle.edit_formats.specs.Erasing.{HasWholeUnits, IsErasing};

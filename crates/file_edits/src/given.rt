@@ -1,5 +1,5 @@
 // A new file as its owner gives it.
-use save_formats::Attributes;
+use edit_formats::Attributes;
 
 /// A new file as its owner gives it: its path, what is said of it, and its units one after the other, each as long as a
 /// unit of the volume. `stored` says of each whether it is stored or a hole, of which `units` is not read.

@@ -21,8 +21,8 @@ ghost use Rattle.vol_format.specs.Accepted.{IsAccepted};
 ghost use Rattle.vol_format.specs.Fits.{Fits};
 ghost use Rattle.edit_formats.specs.Prepared.{write_of};
 ghost use Rattle.edit_formats.specs.Refusal.{told_device, IsPrepareRefusal};
-ghost use Rattle.save_formats.specs.declared.target.Target.TheVariants.{At};
-ghost use Rattle.save_formats.specs.Saves.{IsSlotWithin};
+ghost use Rattle.edit_formats.specs.declared.target.Target.TheVariants.{At};
+ghost use Rattle.edit_formats.specs.Saves.{IsSlotWithin};
 ghost use Rattle.file_edits.specs.Fitting.{AreWritesFor};
 ghost use Rattle.file_edits.specs.Given.{HasUnitsOf};
 ghost use Rattle.file_edits.specs.Placing.{placed_extent, read_volume, HasFirstPlaces, HasPlacedWrites};
@@ -35,9 +35,9 @@ use crate::given::NewFile;
 use crate::places::first_places;
 use crate::slots::free_slot;
 use a2_device::Device;
-use edit_formats::{EditError, Prepared, mark_all};
-use new_files::{NewFileError, NewPart};
-use save_formats::{Attributes, Extent, SavableFormat, Slot};
+use edit_formats::{
+    Attributes, EditError, Extent, NewFileError, NewPart, Prepared, SavableFormat, Slot, mark_all,
+};
 use std::alloc::{AllocError, Allocator};
 
 // A new file, and where it goes: its entry into a slot, and each of its parts to a place.

@@ -23,8 +23,7 @@ use crate::accepting::accepted_volume;
 use crate::given::NewFile;
 use crate::preparing::prepare;
 use a2_device::Device;
-use edit_formats::{EditError, write_all};
-use save_formats::SavableFormat;
+use edit_formats::{EditError, SavableFormat, write_all};
 use std::alloc::Allocator;
 
 // Saves a new file; all writes are made ready before the first.

@@ -4,13 +4,12 @@ ghost use Rattle.a2_device.specs.Device.{OnlyReads};
 ghost use Rattle.vol_format.specs.Directory.{Directory};
 ghost use Rattle.vol_format.specs.Fits.{Fits};
 ghost use Rattle.edit_formats.specs.Refusal.{told_device};
-ghost use Rattle.save_formats.specs.Saves.{IsSlotWithin};
+ghost use Rattle.edit_formats.specs.Saves.{IsSlotWithin};
 ghost use Rattle.file_edits.specs.Slots.{slot_or_refusal, IsEnterable, IsSlotRefusal, IsSlotTold};
 
 use crate::given::NewFile;
 use a2_device::Device;
-use edit_formats::EditError;
-use save_formats::{SavableFormat, Slot, Target};
+use edit_formats::{EditError, SavableFormat, Slot, Target};
 use std::alloc::Allocator;
 
 // The slot that a path leads to, for a file that is not too long.

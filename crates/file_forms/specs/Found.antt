@@ -1,8 +1,8 @@
 -- A file of a volume that was read.
 use Rattle.std.specs.Prelude.{ℕ, suc, ◌==◌, if◌then◌else◌, List, [], ◌∷◌, take}
 use Rattle.apple_single.specs.declared.single.FileInfo.{FileInfo}
-use Rattle.reserved_places.specs.declared.form.PlaceForm.{PlaceForm}
-use Rattle.reserved_places.specs.declared.form.PlaceForm.TheVariants.{Sector, Block}
+use Rattle.vol_layout.specs.declared.form.PlaceForm.{PlaceForm}
+use Rattle.vol_layout.specs.declared.form.PlaceForm.TheVariants.{Sector, Block}
 use Rattle.file_forms.specs.declared.found.FoundFile.{FoundFile}
 
 -- its system, its name, its access, type and aux type, all bytes of its units, and its body

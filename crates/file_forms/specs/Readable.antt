@@ -5,8 +5,8 @@ use Rattle.apple_text.specs.Taken.{IsTaken}
 use Rattle.apple_text.specs.declared.form.HighBit.{HighBit}
 use Rattle.apple_text.specs.declared.form.HighBit.TheVariants.{On, Off}
 use Rattle.applesoft.specs.Tokens.{IsTokenized}
-use Rattle.reserved_places.specs.declared.form.PlaceForm.{PlaceForm}
-use Rattle.reserved_places.specs.declared.form.PlaceForm.TheVariants.{Sector, Block}
+use Rattle.vol_layout.specs.declared.form.PlaceForm.{PlaceForm}
+use Rattle.vol_layout.specs.declared.form.PlaceForm.TheVariants.{Sector, Block}
 use Rattle.file_forms.specs.declared.form.FileForm.{FileForm}
 use Rattle.file_forms.specs.declared.form.FileForm.TheVariants.{Text, Applesoft, Integer, Single}
 use Rattle.file_forms.specs.Found.{FileView, text_bytes}

@@ -6,8 +6,8 @@ use Rattle.apple_text.specs.Taken as texts
 use Rattle.apple_text.specs.declared.form.HighBit.{HighBit}
 use Rattle.apple_text.specs.declared.form.TextForm.{TextForm}
 use Rattle.applesoft.specs.Tokens as programs
-use Rattle.reserved_places.specs.declared.form.PlaceForm.{PlaceForm}
-use Rattle.reserved_places.specs.declared.form.PlaceForm.TheVariants.{Sector, Block}
+use Rattle.vol_layout.specs.declared.form.PlaceForm.{PlaceForm}
+use Rattle.vol_layout.specs.declared.form.PlaceForm.TheVariants.{Sector, Block}
 use Rattle.file_forms.specs.declared.form.GivenForm.{GivenForm}
 use Rattle.file_forms.specs.declared.form.GivenForm.TheVariants.{Text, Applesoft, Single}
 use Rattle.file_forms.specs.declared.taking.TakenFile.{TakenFile}

@@ -13,8 +13,8 @@ use apple_text::{HighBit, text_of, what_was_shown_is_taken_back};
 use applesoft::{
     ListError, TokenError, a_program_has_one_listing, a_text_is_one_program, list, tokens,
 };
-use reserved_places::PlaceForm;
 use std::alloc::{AllocError, Allocator};
+use vol_layout::PlaceForm;
 
 // The highest bit of the first byte of a text.
 fn high_of(text: &[u8]) -> HighBit

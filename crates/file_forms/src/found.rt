@@ -3,7 +3,7 @@ ghost use Rattle.std.specs.Prelude.{◌≡◌, ◌≤◌, length};
 ghost use Rattle.file_forms.specs.Found.{before_zero, file_view, text_bytes, zero_at};
 
 use apple_single::FileInfo;
-use reserved_places::PlaceForm;
+use vol_layout::PlaceForm;
 
 /// A file of a volume that was read.
 #[derive(Clone, Copy, Debug)]

@@ -6,8 +6,8 @@ use crate::error::TakingError;
 use crate::form::GivenForm;
 use apple_text::{HighBit, TextForm, bytes_of};
 use applesoft::{TokenError, tokens};
-use reserved_places::PlaceForm;
 use std::alloc::{Allocator, Global};
+use vol_layout::PlaceForm;
 
 /// A new file: its type and aux type of ProDOS, and its bytes.
 #[derive(Debug, Drop)]

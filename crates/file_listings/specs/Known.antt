@@ -4,7 +4,7 @@ use Rattle.std.specs.Borrow.{Bor}
 use Rattle.std.specs.Int.{w64, from_le_bytes}
 use Rattle.std.specs.List.{range_with_len}
 use Rattle.a2_device.specs.declared.part.Part.{Part}
-use Rattle.reserved_places.specs.declared.form.PlaceForm.{PlaceForm}
+use Rattle.vol_layout.specs.declared.form.PlaceForm.{PlaceForm}
 use Rattle.row_text.specs.Places.{PlacesView, part_text}
 use Rattle.row_text.specs.Places as places
 use Rattle.row_text.specs.declared.row.Digested.{Digested}

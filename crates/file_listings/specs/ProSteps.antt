@@ -1,6 +1,6 @@
 -- The steps of a plan of a ProDOS volume, in words.
 use Rattle.std.specs.Prelude.{ℕ, List, length, slice_index_or, string_bytes}
-use Rattle.reserved_places.specs.declared.form.PlaceForm.TheVariants.{Block}
+use Rattle.vol_layout.specs.declared.form.PlaceForm.TheVariants.{Block}
 use Rattle.pro_format.specs.Pro.{directory_with}
 use Rattle.pro_format.specs.ProVolume.{map_in, system_of, tree_of}
 use Rattle.vol_format.specs.Directory.{Directory}

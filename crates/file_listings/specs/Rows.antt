@@ -4,7 +4,7 @@ use Rattle.serde_json.specs.Written.{compact_text}
 use Rattle.row_text.specs.Csv.{csv_header, csv_row}
 use Rattle.row_text.specs.Row.{RowView, VolumeView, row_data, volume_data}
 use Rattle.row_text.specs.Shown.{hex_digit, lower_hex, shown}
-use Rattle.reserved_places.specs.declared.form.PlaceForm.TheVariants.{Sector, Block}
+use Rattle.vol_layout.specs.declared.form.PlaceForm.TheVariants.{Sector, Block}
 use Rattle.row_text.specs.declared.row.Digested.{Digested}
 use Rattle.row_text.specs.declared.row.Digested.TheVariants.{Untold, Missing, Of}
 use Rattle.row_text.specs.declared.volume.FileSystem.{FileSystem}

@@ -11,9 +11,9 @@ use crate::most_path_bytes;
 use crate::step::{Step, StepText};
 use file_formats::listed_entry;
 use pro_format::ProVolume;
-use reserved_places::PlaceForm;
 use std::alloc::{AllocError, Allocator, Global};
 use std::mem;
+use vol_layout::PlaceForm;
 
 /// The most bytes that a line takes beside its path.
 const LINE_BYTES: usize = 64;

@@ -12,12 +12,12 @@ use crate::facts::{KnownFile, KnownParts};
 use crate::style::EntryStyle;
 use file_formats::ListEntry;
 use pro_dates::stamp;
-use reserved_places::PlaceForm;
 use row_text::{
     CsvHeader, CsvRow, Digested, JsonRow, JsonVolume, LowerHex, Placed, Row, ShownBytes, hex_digit,
 };
 use std::alloc::Allocator;
 use std::fmt;
+use vol_layout::PlaceForm;
 
 // The digest of a file, or hyphens in its place.
 #[derive(Clone, Copy)]

@@ -4,9 +4,9 @@ ghost use Rattle.row_text.specs.Shown.{shown};
 ghost use Rattle.file_listings.specs.Steps.{shown_path};
 
 use crate::shown_part;
-use reserved_places::PlaceForm;
 use row_text::ShownBytes;
 use std::fmt;
+use vol_layout::PlaceForm;
 
 // The bytes of a path that are shown: a name of DOS is stored with spaces behind it.
 fn path_part(form: PlaceForm, path: &[u8]) -> &[u8]

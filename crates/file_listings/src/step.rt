@@ -4,9 +4,9 @@ ghost use Rattle.file_listings.specs.Steps.{step_text};
 
 use crate::shown_path::ShownPath;
 use a2_device::Part;
-use reserved_places::{PlaceForm, PlaceWord};
 use row_text::kind_word;
 use std::fmt;
+use vol_layout::{PlaceForm, PlaceWord};
 
 /// One move of a plan: the part where it stands before the move, and the place to which it goes.
 #[derive(Clone, Copy, Debug)]

@@ -8,7 +8,7 @@ use Rattle.folder_adding.specs.Added.{AreAdded, HasAdded, IsFileAdded, IsItemAdd
 use Rattle.folder_adding.specs.Files.{IsReadOf}
 use Rattle.folder_adding.specs.Items.{BatchView, ItemView, new_file, new_files, said_by}
 use Rattle.folder_adding.proofs.Outcomes.{said_quiet, said_same, said_saved, tells_changed}
-use Rattle.save_formats.specs.Saves.{SaveMeaning}
+use Rattle.edit_formats.specs.Saves.{SaveMeaning}
 use Rattle.shop_changes.specs.GivenFile.{GivenView, most_input}
 use Rattle.shop_changes.specs.SaidFile.{Gives}
 use Rattle.shop_changes.specs.Saves.{HasGivenSaved}

@@ -4,7 +4,7 @@ use Rattle.std.specs.Prelude.{◌↔◌}
 use Rattle.folder_adding.specs.Added.{HasAdded}
 use Rattle.folder_adding.specs.Entered.{HasFilesAdded, file_of}
 use Rattle.folder_adding.specs.Items.{NewFile}
-use Rattle.save_formats.specs.Saves.{SaveMeaning}
+use Rattle.edit_formats.specs.Saves.{SaveMeaning}
 use Rattle.vol_format.specs.Accepted.{IsVolume}
 use Rattle.vol_format.specs.Files.{File, HasFiles}
 use Rattle.vol_format.specs.Meaning.{Meaning}

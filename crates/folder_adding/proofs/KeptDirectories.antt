@@ -4,7 +4,7 @@ use Rattle.std.specs.Prelude.{true, false, IsTrue, OnOk, Result, Ok, drop, slice
 use Rattle.std.proofs.lemmas.List.{length-take, take_more}
 use Rattle.std.proofs.Math.Seq.{split_at}
 use Rattle.a2_device.specs.Device.{DeviceState, IsSameDevice}
-use Rattle.directory_making.specs.Directories.{DirectoryMeaning, KeepsFiles}
+use Rattle.file_edits.specs.Directories.{DirectoryMeaning, KeepsFiles}
 use Rattle.edit_formats.specs.declared.error.EditError.{EditError}
 use Rattle.folder_adding.specs.Directories.{AreKept, HasDirectories, HasKept, HasNoDirectory, IsKept, IsLooked, IsMadeAnew, IsNotKept, KeepFiles, KeepsVolume, Making, making_by}
 use Rattle.folder_adding.specs.HostPaths.{Text}

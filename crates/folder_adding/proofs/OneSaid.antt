@@ -9,9 +9,9 @@ use Rattle.folder_adding.specs.Verdicts.{AddedFolder, IsFileVerdict, IsFolderVer
 use Rattle.folder_adding.specs.Verdicts.{IsVerdictOf}
 use Rattle.folder_adding.specs.declared.host_entry.HostKind.{HostKind}
 use Rattle.folder_adding.specs.declared.host_entry.HostKind.TheVariants.{File, Folder, Other}
-use Rattle.host_entries.proofs.One.{one_file, one_folder}
-use Rattle.host_entries.specs.HostEntries.{FileView, SaysFile, SaysFolder}
-use Rattle.reserved_places.specs.declared.form.PlaceForm.TheVariants.{Block, Sector}
+use Rattle.host_folders.proofs.One.{one_file, one_folder}
+use Rattle.host_folders.specs.HostEntries.{FileView, SaysFile, SaysFolder}
+use Rattle.vol_layout.specs.declared.form.PlaceForm.TheVariants.{Block, Sector}
 use Rattle.shop_changes.specs.GivenWords.{kind_for}
 use Rattle.shop_jobs.specs.declared.job.FileSystem.{FileSystem}
 use Rattle.shop_jobs.specs.declared.job.FileSystem.TheVariants.{Dos, Prodos}

@@ -7,7 +7,7 @@ use Rattle.edit_formats.specs.declared.error.EditError.{EditError}
 use Rattle.edit_formats.specs.declared.error.EditError.TheVariants as edits
 use Rattle.file_forms.specs.declared.form.GivenForm.{GivenForm}
 use Rattle.folder_adding.specs.Refused.{CountsFailure}
-use Rattle.save_formats.specs.Saves.{SaveMeaning}
+use Rattle.edit_formats.specs.Saves.{SaveMeaning}
 use Rattle.shop_changes.specs.EditOutcome.{TellsEdit}
 use Rattle.shop_changes.specs.GivenFile.{GivenView, most_input}
 use Rattle.shop_changes.specs.SaidFile.{Gives, IsNotGivenBy, IsSaidOutcome, SaidView, TellsBadLine}

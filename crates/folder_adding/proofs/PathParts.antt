@@ -8,8 +8,8 @@ use Rattle.std.proofs.lemmas.List.Elements.{All-weaker}
 use Rattle.std.proofs.lemmas.List.Splits.{length-slice_split, slice_split_at, slice_split_none}
 use Rattle.folder_adding.specs.HostPaths.{SayPartsIn, Text, parts}
 use Rattle.folder_adding.specs.Weighing.{IsCut, IsParted, IsUnsaid}
-use Rattle.host_entries.specs.HostEntries.{SaysFile, SaysFolder}
-use Rattle.reserved_places.specs.declared.form.PlaceForm.TheVariants.{Block}
+use Rattle.host_folders.specs.HostEntries.{SaysFile, SaysFolder}
+use Rattle.vol_layout.specs.declared.form.PlaceForm.TheVariants.{Block}
 
 no_slash : (text : Text) → All (λ byte. byte ≢ 47) text → All (λ byte. (byte == 47) ≡ false) text
 no_slash text lacks = All-weaker (λ byte. byte ≢ 47) (λ byte. (byte == 47) ≡ false) (λ byte other. ne_eqb byte 47 other) text lacks

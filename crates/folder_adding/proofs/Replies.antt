@@ -7,9 +7,9 @@ use Rattle.folder_adding.specs.AddedText.{added_text}
 use Rattle.folder_adding.specs.Items.{BatchView}
 use Rattle.folder_adding.specs.Refused.{HasRefused}
 use Rattle.folder_adding.specs.declared.adding.Refused.{Refused}
-use Rattle.save_formats.specs.Saves.{SaveMeaning}
-use Rattle.shop_image.specs.ImageBytes.{AreBytesOf}
-use Rattle.shop_image.specs.VolumeReply.{IsVolumeIn, IsVolumeReply}
+use Rattle.edit_formats.specs.Saves.{SaveMeaning}
+use Rattle.shop_changes.specs.ImageBytes.{AreBytesOf}
+use Rattle.shop_changes.specs.VolumeReply.{IsVolumeIn, IsVolumeReply}
 use Rattle.shop_jobs.specs.declared.job.VolumeOptions.{VolumeOptions}
 use Rattle.shop_replies.specs.declared.refusal.Failure.{Failure}
 use Rattle.shop_replies.specs.declared.reply.Reply.{Reply}

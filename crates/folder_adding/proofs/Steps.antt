@@ -14,7 +14,7 @@ use Rattle.folder_adding.specs.declared.item.Item.{Item}
 use Rattle.folder_adding.proofs.Chain.{added_quiet, item_volume, known_stored, one_more}
 use Rattle.folder_adding.proofs.Outcomes.{said_counts, said_kept}
 use Rattle.folder_adding.proofs.Same.{same_on}
-use Rattle.save_formats.specs.Saves.{SaveMeaning}
+use Rattle.edit_formats.specs.Saves.{SaveMeaning}
 use Rattle.shop_changes.specs.SaidFile.{IsSaidOutcome, SaidView}
 use Rattle.shop_changes.specs.declared.outcome.Outcome.{Outcome}
 use Rattle.shop_changes.specs.declared.outcome.Outcome.TheVariants.{Changed, Unfinished}

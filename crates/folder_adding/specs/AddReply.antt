@@ -17,10 +17,10 @@ use Rattle.folder_adding.specs.declared.adding.Refused.{Refused as RefusedItem}
 use Rattle.folder_adding.specs.declared.host_entry.HostKind.TheVariants.{Other}
 use Rattle.pro_dates.specs.SaidDates.{IsDateOf, NamesDate}
 use Rattle.pro_dir.specs.declared.date.ProDate.{ProDate}
-use Rattle.save_formats.specs.Saves.{SaveMeaning}
+use Rattle.edit_formats.specs.Saves.{SaveMeaning}
 use Rattle.shop_changes.specs.EditRules.{ChangedMeaning, changed_by}
-use Rattle.shop_image.specs.ImageBytes.{AreBytesOf, KeepsBytes}
-use Rattle.shop_image.specs.VolumeReply.{IsVolumeReply}
+use Rattle.shop_changes.specs.ImageBytes.{AreBytesOf, KeepsBytes}
+use Rattle.shop_changes.specs.VolumeReply.{IsVolumeReply}
 use Rattle.shop_jobs.specs.Job.{AdditionView, AddTo, AskView}
 use Rattle.shop_jobs.specs.declared.job.VolumeOptions.{VolumeOptions}
 use Rattle.shop_replies.specs.ContainerReply.{IsInShell}

@@ -3,7 +3,7 @@ use Rattle.std.specs.Prelude.{◌≡◌, ℕ, ◌+◌, List, [], ◌∷◌, Opti
 use Rattle.a2_device.specs.Device.{DeviceState}
 use Rattle.folder_adding.specs.Files.{IsReadOf}
 use Rattle.folder_adding.specs.Items.{BatchView, ItemView, NewFile, new_file}
-use Rattle.save_formats.specs.Saves.{SaveMeaning}
+use Rattle.edit_formats.specs.Saves.{SaveMeaning}
 use Rattle.shop_changes.specs.GivenFile.{GivenView}
 use Rattle.shop_changes.specs.SaidFile.{Gives, IsSaidOutcome}
 use Rattle.shop_changes.specs.Saves.{HasGivenSaved}

@@ -1,7 +1,7 @@
 -- Directories that are there or are made, one after the other.
 use Rattle.std.specs.Prelude.{◌≡◌, ◌≢◌, ◌⊎◌, ◌↔◌, ℕ, Bool, true, false, List, [], ◌∷◌, ◌++◌, Err, IsTrue, length}
 use Rattle.a2_device.specs.Device.{DeviceState, OnlyReads}
-use Rattle.directory_making.specs.Directories.{DirectoryMeaning}
+use Rattle.file_edits.specs.Directories.{DirectoryMeaning}
 use Rattle.edit_formats.specs.Refusal.{told_device}
 use Rattle.edit_formats.specs.Renamed.{IsReadRefusal}
 use Rattle.edit_formats.specs.declared.error.EditError.{EditError}

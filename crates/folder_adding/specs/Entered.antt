@@ -3,7 +3,7 @@ use Rattle.std.specs.Prelude.{◌≡◌, ◌↔◌, ℕ, List, [], ◌∷◌}
 use Rattle.folder_adding.specs.Added.{HasAdded}
 use Rattle.folder_adding.specs.Items.{NewFile}
 use Rattle.file_edits.specs.Saved.{saved_file}
-use Rattle.save_formats.specs.Saves.{SaveMeaning}
+use Rattle.edit_formats.specs.Saves.{SaveMeaning}
 use Rattle.shop_changes.specs.GivenFile.{GivenView, content, stored_units, unit_bytes}
 use Rattle.shop_changes.specs.SaidFile.{Gives}
 use Rattle.shop_changes.specs.Saves.{HasGivenSaved}

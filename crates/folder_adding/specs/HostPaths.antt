@@ -4,8 +4,8 @@ use Rattle.std.specs.List.{list_all, slice_split}
 use Rattle.std.specs.Option.{option_to_list}
 use Rattle.edit_formats.specs.DosNames.{is_dos_name}
 use Rattle.edit_formats.specs.ProNames.{is_pro_name}
-use Rattle.host_entries.specs.HostEntries.{FileView, SaysFile, SaysFolder}
-use Rattle.reserved_places.specs.declared.form.PlaceForm.TheVariants.{Sector, Block}
+use Rattle.host_folders.specs.HostEntries.{FileView, SaysFile, SaysFolder}
+use Rattle.vol_layout.specs.declared.form.PlaceForm.TheVariants.{Sector, Block}
 use Rattle.shop_jobs.specs.declared.job.FileSystem.{FileSystem}
 use Rattle.shop_jobs.specs.declared.job.FileSystem.TheVariants.{Dos, Prodos}
 

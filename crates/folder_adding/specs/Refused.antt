@@ -5,7 +5,7 @@ use Rattle.folder_adding.specs.Added.{AreAdded, HasAdded, IsNewFileOutcome}
 use Rattle.folder_adding.specs.Files.{IsReadOf}
 use Rattle.folder_adding.specs.Items.{BatchView, ItemView, new_file, new_files}
 use Rattle.folder_adding.specs.declared.adding.Refused.{Refused}
-use Rattle.save_formats.specs.Saves.{SaveMeaning}
+use Rattle.edit_formats.specs.Saves.{SaveMeaning}
 use Rattle.shop_changes.specs.declared.outcome.Outcome.TheVariants.{Unfinished}
 use Rattle.shop_replies.specs.declared.refusal.Failure.{Failure}
 use Rattle.shop_replies.specs.declared.refusal.Failure.TheVariants.{Device}

@@ -4,7 +4,7 @@ use Rattle.a2_device.specs.Device.{DeviceState}
 use Rattle.folder_adding.specs.Added.{IsItemAdded}
 use Rattle.folder_adding.specs.Items.{BatchView, ItemView}
 use Rattle.folder_adding.specs.Refused.{IsItemRefused}
-use Rattle.save_formats.specs.Saves.{SaveMeaning}
+use Rattle.edit_formats.specs.Saves.{SaveMeaning}
 use Rattle.shop_replies.specs.declared.refusal.Failure.{Failure}
 use Rattle.shop_replies.specs.declared.reply.Reply.{Reply}
 use Rattle.vol_format.specs.Meaning.{Meaning}

@@ -9,8 +9,8 @@ use Rattle.folder_adding.specs.HostPaths.{SaidDirectory, SaidPath, SaysDirectory
 use Rattle.folder_adding.specs.Items.{ItemView}
 use Rattle.folder_adding.specs.declared.host_entry.HostKind.{HostKind}
 use Rattle.folder_adding.specs.declared.host_entry.HostKind.TheVariants.{File, Folder, Other}
-use Rattle.host_entries.specs.declared.entry.Content.{Content}
-use Rattle.host_entries.specs.declared.entry.Content.TheVariants as contents
+use Rattle.host_folders.specs.declared.said.Content.{Content}
+use Rattle.host_folders.specs.declared.said.Content.TheVariants as contents
 use Rattle.shop_changes.specs.GivenWords.{kind_for}
 use Rattle.shop_jobs.specs.declared.job.FileSystem.{FileSystem}
 use Rattle.shop_jobs.specs.declared.job.FileSystem.TheVariants.{Dos, Prodos}

@@ -16,8 +16,8 @@ use Rattle.folder_adding.specs.declared.step.Step.{Step as StepMade}
 use Rattle.folder_adding.specs.declared.step.Step.TheVariants.{Adds, Makes, Passes}
 use Rattle.folder_adding.specs.declared.step.Weighed.{Weighed}
 use Rattle.folder_adding.specs.declared.step.Weighed.TheVariants.{Step as MakesStep, Refused}
-use Rattle.host_entries.specs.HostEntries.{FileView, SaysFile, SaysFolder, file_view}
-use Rattle.reserved_places.specs.declared.form.PlaceForm.TheVariants.{Block}
+use Rattle.host_folders.specs.HostEntries.{FileView, SaysFile, SaysFolder, file_view}
+use Rattle.vol_layout.specs.declared.form.PlaceForm.TheVariants.{Block}
 
 -- these are the paths of the files among the entries
 abbrev pub ArePathsOf : List EntryView → FilePaths → Type 0

@@ -4,7 +4,7 @@ ghost use Rattle.folder_adding.specs.HostEntries.{EntryView, entry_view, has_fil
 ghost use Rattle.folder_adding.specs.Weighing.{ArePathsOf};
 
 use crate::host_entry::{HostEntry, HostKind};
-use host_entries::file_beside;
+use host_folders::file_beside;
 use std::alloc::{AllocError, Global};
 use std::collections::HashSet;
 

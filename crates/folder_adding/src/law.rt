@@ -6,8 +6,8 @@ ghost use Rattle.folder_adding.specs.Listed.{IsToldAsListed};
 ghost use Rattle.folder_adding.specs.OneVerdict.{HasOneVerdict};
 ghost use Rattle.folder_adding.specs.Verdicts.{AddedFolder};
 
-use directory_making::DirectoryFormat;
-use save_formats::SavableFormat;
+use edit_formats::SavableFormat;
+use file_edits::DirectoryFormat;
 
 /// A law: files that were saved to an accepted volume one after the other are entered in the list of its files in turn,
 /// the volume stays accepted, and the same places are lost.

@@ -7,8 +7,7 @@ ghost use Rattle.vol_format.specs.Fits.{Fits};
 
 use crate::adding::Refused;
 use a2_device::Device;
-use directory_making::DirectoryFormat;
-use file_edits::Acceptance;
+use file_edits::{Acceptance, DirectoryFormat};
 use pro_dir::ProDate;
 use shop_changes::{Outcome, edit_refusal_reply, make_in_place};
 use shop_replies::Reply;

@@ -20,7 +20,7 @@ ghost use Rattle.folder_adding.specs.Items.{batch_view};
 ghost use Rattle.folder_adding.specs.Plan.{plan_view};
 ghost use Rattle.folder_adding.specs.Replying.{adding_view, folder_view, numbered_may_fail, tells_device};
 ghost use Rattle.shop_changes.specs.EditRules.{changed_by, changed_in, edit_rules};
-ghost use Rattle.shop_image.specs.ReplaceReply.{IsOpened};
+ghost use Rattle.shop_changes.specs.ReplaceReply.{IsOpened};
 ghost use Rattle.shop_jobs.specs.Job.{addition_view, ask_view};
 ghost use Rattle.shop_jobs.specs.declared.job.FileSystem.TheVariants.{Dos as OfDos, Prodos as OfProdos};
 ghost use Rattle.shop_replies.specs.Reply.{failed, refused};
@@ -42,20 +42,19 @@ use crate::refusing::reply_at;
 use crate::telling::added_text;
 use a2_device::Device;
 use a2_media::ImageDevice;
-use directory_making::DirectoryFormat;
 use disk_container::Shell;
 use dos_format::Dos33;
-use file_edits::Acceptance;
+use edit_formats::SavableFormat;
+use file_edits::{Acceptance, DirectoryFormat};
 use pro_dates::date;
 use pro_dir::ProDate;
 use pro_format::Prodos;
-use reserved_places::Reserved;
-use save_formats::SavableFormat;
-use shop_image::{image_bytes, volume_in};
+use shop_changes::{image_bytes, volume_in};
 use shop_jobs::{AddOptions, Ask, FileSystem, Job, VolumeOptions};
 use shop_replies::{Failure, Refusal, Reply};
 use std::alloc::Global;
 use vol_check::{CheckError, check};
+use vol_layout::Reserved;
 
 /// A folder whose files are added to a volume.
 #[derive(Clone, Copy, Debug)]

@@ -4,10 +4,10 @@ ghost use Rattle.folder_adding.specs.HostPaths.{SaidDirectory, SaidPath, SaysDir
 ghost use Rattle.folder_adding.specs.Weighing.{IsCut, IsParted, IsUnsaid, directory_view, said_view};
 ghost use Rattle.shop_jobs.specs.declared.job.FileSystem.TheVariants.{Dos, Prodos};
 
-use host_entries::{HostFile, file_of, folder_of};
-use reserved_places::PlaceForm;
+use host_folders::{HostFile, file_of, folder_of};
 use shop_jobs::FileSystem;
 use std::alloc::{AllocError, Global};
+use vol_layout::PlaceForm;
 
 /// What the path of a file says.
 #[derive(Debug, Drop)]

@@ -19,7 +19,7 @@ use crate::step::{Destination, Step, Weighed};
 use crate::volume_path::{pro_path, volume_path};
 use apple_text::HighBit;
 use file_forms::GivenForm;
-use host_entries::Content;
+use host_folders::Content;
 use shop_changes::kind_for;
 use shop_jobs::FileSystem;
 use shop_replies::Refusal;

@@ -7,7 +7,7 @@ use Rattle.std.proofs.lemmas.Grind.{common_steps, flat_map-append}
 use Rattle.std.proofs.lemmas.Bool.{cases_Bool}
 use Rattle.std.proofs.lemmas.Fmt.{decimal_injective}
 use Rattle.std.proofs.lemmas.List.{append-nil, map-append}
-use Rattle.reserved_places.specs.declared.form.PlaceForm.{PlaceForm}
+use Rattle.vol_layout.specs.declared.form.PlaceForm.{PlaceForm}
 use Rattle.host_folders.specs.HostNames.{Entry, character_byte, digits, ending, escape, folded, is_plain, name_bytes, name_read, or_percent, piece, stem, tail, told_number, told_tail}
 use Rattle.host_folders.specs.Laws.{AreApart, IsEntry, IsNumber}
 use Rattle.host_folders.specs.declared.entry.Naming.{Naming}

@@ -6,8 +6,8 @@ use Rattle.std.specs.Char.{digit_char}
 use Rattle.std.proofs.lemmas.Grind.{common_steps}
 use Rattle.std.proofs.lemmas.Bool.{agree_below, agree_below_at, cases_Bool}
 use Rattle.std.proofs.lemmas.Fmt.{decimal_by_steps}
-use Rattle.reserved_places.specs.declared.form.PlaceForm.{PlaceForm}
-use Rattle.reserved_places.specs.declared.form.PlaceForm.TheVariants.{Sector, Block}
+use Rattle.vol_layout.specs.declared.form.PlaceForm.{PlaceForm}
+use Rattle.vol_layout.specs.declared.form.PlaceForm.TheVariants.{Sector, Block}
 use Rattle.host_folders.specs.HostNames.{Entry, aux_in, aux_of, digits, ending, dos_aux, dos_type, has_tail, is_bad_last, is_plain, safe_last, tail, text_tail, told_number, told_tail, type_in, type_of}
 use Rattle.host_folders.specs.Laws.{IsEntry, IsNumber}
 use Rattle.host_folders.specs.declared.entry.Naming.{Naming}

@@ -9,8 +9,8 @@ use Rattle.std.proofs.lemmas.Fmt.{length-decimal-le}
 use Rattle.std.proofs.lemmas.List.{length-take}
 use Rattle.std.proofs.lemmas.Str.{IsUtf8-from_ascii}
 use Rattle.std.proofs.lemmas.Str.Ascii.{IsAscii-from_all}
-use Rattle.reserved_places.specs.declared.form.PlaceForm.{PlaceForm}
-use Rattle.reserved_places.specs.declared.form.PlaceForm.TheVariants.{Sector, Block}
+use Rattle.vol_layout.specs.declared.form.PlaceForm.{PlaceForm}
+use Rattle.vol_layout.specs.declared.form.PlaceForm.TheVariants.{Sector, Block}
 use Rattle.host_folders.specs.HostNames.{Entry, IsSafe, digits, ending, escape, escaped_first, has_tail, host_name, is_bad_first, is_bad_last, is_device, is_one_of, is_printed, name_bytes, no_device, safe_first, safe_last, stem, tail, text_tail, told_number}
 use Rattle.host_folders.specs.Laws.{IsEntry, IsNumber}
 use Rattle.host_folders.specs.declared.entry.Naming.{Naming}

@@ -6,8 +6,8 @@ use Rattle.std.proofs.lemmas.Grind.{common_steps}
 use Rattle.std.proofs.lemmas.Bool.{cases_Bool}
 use Rattle.std.proofs.lemmas.List.{map-append}
 use Rattle.std.proofs.lemmas.Str.{digit_value-digit_char}
-use Rattle.reserved_places.specs.declared.form.PlaceForm.{PlaceForm}
-use Rattle.reserved_places.specs.declared.form.PlaceForm.TheVariants.{Sector, Block}
+use Rattle.vol_layout.specs.declared.form.PlaceForm.{PlaceForm}
+use Rattle.vol_layout.specs.declared.form.PlaceForm.TheVariants.{Sector, Block}
 use Rattle.host_folders.specs.HostNames.{character_byte, escape, escape_byte, folded, is_plain, is_printed, name_read, piece, text_bytes, unmarked}
 use Rattle.host_folders.proofs.Spelled.{Spells, none, stands, escaped, marked, IsAlone, plain_no_percent, escape_byte_printed, escape_byte_unprinted}
 

@@ -9,8 +9,8 @@ use Rattle.std.proofs.lemmas.Bool.{cases_Bool}
 use Rattle.std.proofs.lemmas.List.{append-nil}
 use Rattle.std.proofs.lemmas.List.Sums.{take_while-cons}
 use Rattle.std.proofs.lemmas.Str.{digit_value-digit_char}
-use Rattle.reserved_places.specs.declared.form.PlaceForm.{PlaceForm}
-use Rattle.reserved_places.specs.declared.form.PlaceForm.TheVariants.{Sector, Block}
+use Rattle.vol_layout.specs.declared.form.PlaceForm.{PlaceForm}
+use Rattle.vol_layout.specs.declared.form.PlaceForm.TheVariants.{Sector, Block}
 use Rattle.host_folders.specs.HostNames.{Entry, Said, aux_in, aux_of, before_number, digits, dos_aux, dos_kind, dos_type, ending, entry_named, has_tail, kind_of, name_bytes, name_read, read_with_tail, text_tail, told_number, told_tail, type_in, type_of}
 use Rattle.host_folders.specs.Laws.{IsEntry, IsNumber, SaysEntry, SaysKind}
 use Rattle.host_folders.specs.declared.entry.Naming.{Naming}

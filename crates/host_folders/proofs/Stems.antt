@@ -6,8 +6,8 @@ use Rattle.std.specs.Char.{digit_char}
 use Rattle.std.proofs.lemmas.Grind.{common_steps}
 use Rattle.std.proofs.lemmas.Bool.{cases_Bool}
 use Rattle.std.proofs.lemmas.List.{append-nil}
-use Rattle.reserved_places.specs.declared.form.PlaceForm.{PlaceForm}
-use Rattle.reserved_places.specs.declared.form.PlaceForm.TheVariants.{Sector, Block}
+use Rattle.vol_layout.specs.declared.form.PlaceForm.{PlaceForm}
+use Rattle.vol_layout.specs.declared.form.PlaceForm.TheVariants.{Sector, Block}
 use Rattle.host_folders.specs.HostNames.{character_byte, escape, escape_byte, is_bad_first, is_bad_last, is_device, is_plain, no_device, or_percent, piece, safe_first, safe_last}
 use Rattle.host_folders.proofs.Device.{device_escaped, other_stays, percent_no_device}
 use Rattle.host_folders.proofs.Ends.{digit_plain}

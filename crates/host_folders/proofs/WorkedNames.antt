@@ -1,7 +1,7 @@
 -- Names that are worked out by hand: the definitions compute to them, and read them.
 use Rattle.std.proofs.Common.{◌≡◌, ℕ, true, false, refl, Some, None, List, [], ◌∷◌, codes}
 use Rattle.std.specs.Fmt as fmt
-use Rattle.reserved_places.specs.declared.form.PlaceForm.TheVariants.{Sector, Block}
+use Rattle.vol_layout.specs.declared.form.PlaceForm.TheVariants.{Sector, Block}
 use Rattle.host_folders.specs.HostNames.{Entry, entry_named, host_name, is_device}
 use Rattle.host_folders.specs.declared.entry.Naming.TheVariants.{Naps, Plain}
 

@@ -3,8 +3,8 @@ use Rattle.std.specs.Prelude.{◌≢◌, ℕ, ◌+◌, ◌-◌, ◌*◌, ◌/◌
 use Rattle.std.specs.List.{before_first, list_any, suffix_len}
 use Rattle.std.specs.Char.{digit_char, digit_value, to_ascii_lowercase}
 use Rattle.std.specs.Str.Parse.{digits_value}
-use Rattle.reserved_places.specs.declared.form.PlaceForm.{PlaceForm}
-use Rattle.reserved_places.specs.declared.form.PlaceForm.TheVariants.{Sector, Block}
+use Rattle.vol_layout.specs.declared.form.PlaceForm.{PlaceForm}
+use Rattle.vol_layout.specs.declared.form.PlaceForm.TheVariants.{Sector, Block}
 use Rattle.host_folders.specs.declared.entry.Naming.{Naming}
 use Rattle.host_folders.specs.declared.entry.Naming.TheVariants.{Naps, Plain}
 use Rattle.host_folders.specs.declared.entry.Stored.{Stored}

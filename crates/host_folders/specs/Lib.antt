@@ -8,4 +8,7 @@ pub mod Failing
 pub mod NewFolder
 pub mod System
 pub mod Start
+pub mod HostEntries
+pub mod Reading
+pub mod ReadBack
 pub mod lemmas

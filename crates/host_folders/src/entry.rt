@@ -1,5 +1,5 @@
 // An entry of a volume, as far as its name on the host says it.
-use reserved_places::PlaceForm;
+use vol_layout::PlaceForm;
 
 /// Whether the type and the aux type of a file stand in its name.
 #[derive(Clone, Copy, Debug, PartialEq, Eq)]

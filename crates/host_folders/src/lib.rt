@@ -1,5 +1,6 @@
-//! What a volume's files are on the host: the names under which they stand in a folder, and the folder that they are
-//! put into, which is, at every moment, what stood at its path before or the whole of what was put into it.
+//! What a volume's files are on the host: the names under which they stand in a folder, what names say of entries that
+//! are to be made, and the folder that files are put into, which is, at every moment, what stood at its path before or
+//! the whole of what was put into it.
 //!
 //! **Names** (`specs/HostNames.antt`). A name is a stem, a number and a tail: the stored name, byte by byte, with `%`
 //! and two digits in the place of what is no plain character; nothing for the first entry of a folder with its bare
@@ -13,6 +14,17 @@
 //! What always holds: a name is safe on every system (`a_host_name_is_safe`), says its entry
 //! (`a_host_name_says_its_entry`), and is another's even without regard to case only where both have one bare name and
 //! one number (`host_names_are_apart`).
+//!
+//! **What names say** (`specs/HostEntries.antt`). The way back is a relation between a name and what it says. The name
+//! of a folder is a stem, piece by piece the bytes of the stored name, and maybe a number, which says nothing. The name
+//! of a file is such a name, and behind `#` a type and an aux type; what stands behind these says what the bytes of the
+//! file are. `file_of` and `folder_of` are exact against it: they find what a name says, and nothing only where it says
+//! nothing. Whoever reads a name knows whether it is that of a file or of a folder. `file_beside` gives the name of the
+//! file that a readable form stands beside.
+//!
+//! What always holds: a name says one thing at most (`a_host_name_says_one_file`, `a_host_name_says_one_folder`), and
+//! the names that are made here say the entries that they were made for (`a_host_name_is_read_back`,
+//! `the_name_of_a_text_is_read_back`, `the_name_of_a_folder_is_read_back`).
 //!
 //! **Folders.** `Folder` is what is asked of a folder: that folders are made in it and files put into it, by paths of
 //! safe names (`specs/Path.antt`). Of an honest folder it is known what was made in it, in order, after each call and
@@ -28,6 +40,7 @@
 //! What always holds: no call makes a folder honest or dishonest.
 #![tactic(auto)]
 
+mod digits;
 mod entry;
 mod failing;
 mod folder;
@@ -37,7 +50,13 @@ mod memory;
 mod names;
 mod new_folder;
 mod path;
+mod pieces;
+mod read_back;
 mod safe;
+mod said;
+mod said_stem;
+mod said_tail;
+mod saying;
 mod stem;
 mod system;
 mod tail;
@@ -53,5 +72,11 @@ pub use memory::{MadeItem, MemoryFolder};
 pub use names::{bare_name, host_name, text_beside};
 pub use new_folder::folder_name;
 pub use path::is_safe_path;
+pub use read_back::{
+    a_host_name_is_read_back, a_host_name_says_one_file, a_host_name_says_one_folder,
+    the_name_of_a_folder_is_read_back, the_name_of_a_text_is_read_back,
+};
+pub use said::{Content, HostFile};
+pub use saying::{file_beside, file_of, folder_of};
 pub use stem::name_bytes;
 pub use system::{StartError, SystemFolder};

@@ -3,8 +3,8 @@ ghost use Rattle.std.specs.Prelude.{◌≡◌, ◌++◌, OnOk, IfOk};
 ghost use Rattle.host_folders.specs.HostNames.{block_piece, name_bytes, piece, sector_piece, stem};
 
 use crate::letters::{escape, is_plain, is_printed, without_end};
-use reserved_places::PlaceForm;
 use std::alloc::{AllocError, Allocator};
+use vol_layout::PlaceForm;
 
 /// The bytes of a stored name that count: of DOS 3.3 those before the spaces that fill it up.
 pub fn name_bytes(form: PlaceForm, name: &[u8]) -> &[u8]

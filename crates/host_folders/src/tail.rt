@@ -5,8 +5,8 @@ ghost use Rattle.host_folders.specs.HostNames.{type_of};
 
 use crate::entry::{Naming, Stored};
 use crate::letters::digits;
-use reserved_places::PlaceForm;
 use std::alloc::{AllocError, Allocator};
+use vol_layout::PlaceForm;
 
 // The type of ProDOS for a kind of DOS 3.3.
 fn dos_type(kind: u8) -> u8

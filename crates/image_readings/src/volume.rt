@@ -26,11 +26,11 @@ use dos_format::Dos33;
 use dos_vtoc::{VTOC_PLACE, Vtoc};
 use pro_dir::VolumeDir;
 use pro_format::Prodos;
-use reserved_places::Reserved;
 use shop_jobs::FileSystem;
 use std::alloc::{AllocError, Global};
 use vol_check::{CheckError, check};
 use vol_format::Format;
+use vol_layout::Reserved;
 
 // The VTOC of a DOS 3.3 volume.
 fn read_vtoc<D: Device>(device: &mut D) -> Result<Vtoc, WalkError>

@@ -3,7 +3,7 @@ use Rattle.std.specs.Prelude.{◌≡◌, ℕ, List, [], ◌∷◌, ◌++◌, Opt
 use Rattle.std.specs.declared.alloc.Global.{Global}
 use Rattle.sha2.specs.Sha256.{sha256}
 use Rattle.a2_device.specs.declared.part.Part.{Part}
-use Rattle.reserved_places.specs.declared.form.PlaceForm.{PlaceForm}
+use Rattle.vol_layout.specs.declared.form.PlaceForm.{PlaceForm}
 use Rattle.vol_format.specs.Directory.{Listed, entry_of}
 use Rattle.vol_format.specs.Reach.{Reach}
 use Rattle.file_formats.specs.DosFiles.{number_at}

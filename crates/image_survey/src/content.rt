@@ -15,9 +15,9 @@ use crate::ordered::{Named, files_in_order};
 use a2_device::Device;
 use file_cmds::VolumeFiles;
 use file_formats::FileFormat;
-use reserved_places::PlaceForm;
 use sha2::{Digest, Sha256};
 use std::alloc::{AllocError, Global};
+use vol_layout::PlaceForm;
 
 /// The most bytes that the bodies of the files of a volume may have in all.
 const MOST_BYTES: u64 = 1_073_741_824;

@@ -11,10 +11,10 @@ use a2_device::Device;
 use file_cmds::read_volume;
 use file_formats::{FileFormat, StoredName};
 use image_readings::Standing;
-use reserved_places::PlaceForm;
 use std::alloc::{AllocError, Global};
 use vol_check::{CheckError, check};
 use vol_format::{Format, Link};
+use vol_layout::PlaceForm;
 
 /// What is told of a volume.
 #[derive(Debug, Drop)]

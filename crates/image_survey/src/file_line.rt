@@ -10,11 +10,11 @@ ghost use Rattle.image_survey.specs.FileLine.{IsLineOf, digest_text, line_by, li
 use a2_device::Device;
 use file_cmds::{FileText, VolumeFiles};
 use file_formats::{FileFormat, ListEntry, StoredName, address_of};
-use reserved_places::PlaceForm;
 use row_text::{LowerHex, UpperHex};
 use sha2::{Digest, Sha256};
 use std::alloc::{AllocError, Global};
 use std::fmt;
+use vol_layout::PlaceForm;
 use volume_compare::is_binary;
 
 /// What the content of a volume tells of a file.

@@ -19,11 +19,11 @@ use disk_container::{begins_like_container, container_of, keep_payload};
 use dos_format::Dos33;
 use image_readings::{Choice, best_reading};
 use pro_format::Prodos;
-use reserved_places::{PlaceForm, Reserved};
 use sha2::{Digest, Sha256};
 use shop_jobs::FileSystem;
 use shop_replies::{device_of, open_volume};
 use std::alloc::{AllocError, Global};
+use vol_layout::{PlaceForm, Reserved};
 
 /// The fewest and the most blocks of an image.
 const FEWEST_BLOCKS: usize = 16;

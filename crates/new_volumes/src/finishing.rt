@@ -17,8 +17,8 @@ use a2_image::Image;
 use a2_media::LentDevice;
 use dos_format::Dos33;
 use pro_format::Prodos;
-use reserved_places::Reserved;
 use std::alloc::Global;
+use vol_layout::Reserved;
 
 // Takes the bytes of a disk in DOS order that has an empty DOS 3.3 volume.
 pub(crate) fn empty_disk(

@@ -2,4 +2,8 @@ pub mod Pro
 pub mod Sound
 pub mod Tables
 pub mod ProVolume
+pub mod Rewritten
+pub mod Slots
+pub mod Filled
+pub mod Plan
 pub mod lemmas

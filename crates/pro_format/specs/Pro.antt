@@ -10,7 +10,7 @@ use Rattle.pro_dir.specs.Volume.{Directory as Tree, Describes, VolumeFaultAt, ma
 use Rattle.pro_dir.specs.Writes.{slot_offset}
 use Rattle.pro_tree.specs.Reach.{pro_root, pro_child, pro_pointers, pro_rank, pro_ends, pro_depth}
 use Rattle.pro_tree.specs.Content.{CanNameBlock, pro_with_pointer, pro_content}
-use Rattle.reserved_places.specs.Reserved.{is_reserved}
+use Rattle.vol_layout.specs.Reserved.{is_reserved}
 use Rattle.vol_format.specs.declared.link.Link.{Link}
 use Rattle.vol_format.specs.declared.link.Link.TheVariants.{To}
 use Rattle.vol_format.specs.Directory.{Directory, Listed, map_place}

@@ -7,8 +7,8 @@ ghost use Rattle.pro_format.specs.Pro.{is_fixed, is_fixed_from, available_in};
 ghost use Rattle.pro_format.specs.Tables.{IsMarked};
 
 use pro_dir::VolumeDir;
-use reserved_places::Reserved;
 use std::alloc::{AllocError, Allocator};
+use vol_layout::Reserved;
 
 /// How many blocks have their bits in one block of the map.
 pub(crate) const BITS: u32 = 4096;

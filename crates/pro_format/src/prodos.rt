@@ -10,10 +10,10 @@ use crate::volume::ProVolume;
 use a2_device::{Device, Part, WalkError};
 use pro_bitmap::Bitmap;
 use pro_dir::VolumeDir;
-use reserved_places::Reserved;
 use std::alloc::{AllocError, Allocator, Global};
 use std::marker::Model;
 use vol_format::{Format, Holder, Link, PlaceOrder};
+use vol_layout::Reserved;
 
 /// ProDOS, with the places that the owner keeps for the system.
 #[derive(Debug, Drop)]

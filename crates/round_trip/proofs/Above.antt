@@ -4,13 +4,13 @@ use Rattle.std.specs.Prelude.{codes, flat_map}
 use Rattle.std.proofs.lemmas.List.{append-nil, append_assoc}
 use Rattle.std.proofs.lemmas.List.Concat.{flat_map-append}
 use Rattle.folder_adding.specs.HostPaths.{SayPartsIn, Text, before, parts}
-use Rattle.host_entries.specs.HostEntries.{SaysFolder}
-use Rattle.host_entries.proofs.ReadBack.{folder_read_back}
+use Rattle.host_folders.specs.HostEntries.{SaysFolder}
+use Rattle.host_folders.proofs.ReadBack.{folder_read_back}
 use Rattle.host_folders.specs.HostNames.{host_name, name_bytes}
 use Rattle.host_folders.specs.declared.entry.Naming.TheVariants.{Naps}
 use Rattle.host_folders.proofs.IsSafe.{host_is_safe}
-use Rattle.reserved_places.specs.declared.form.PlaceForm.{PlaceForm}
-use Rattle.reserved_places.specs.declared.form.PlaceForm.TheVariants.{Block}
+use Rattle.vol_layout.specs.declared.form.PlaceForm.{PlaceForm}
+use Rattle.vol_layout.specs.declared.form.PlaceForm.TheVariants.{Block}
 use Rattle.round_trip.specs.Extracted.{Extracted, directories_of, entry_in, item_in, names_above}
 use Rattle.shop_commands.specs.Extracting.{own_of}
 use Rattle.shop_jobs.specs.declared.job.FileSystem.TheVariants.{Prodos}

@@ -20,14 +20,14 @@ use Rattle.file_forms.specs.declared.form.FileForm.TheVariants as forms
 use Rattle.folder_adding.specs.HostEntries.{EntryView, has_file, has_file_beside, is_file as is_file_entry, readable_path}
 use Rattle.folder_adding.specs.HostPaths.{SayFolders, SaysDirectory, Text, parts, pro_path}
 use Rattle.folder_adding.specs.Verdicts.{AddedFolder, IsVerdict, is_directory as is_directory_verdict, is_readable, is_second, makes, no_directory_name, second_form}
-use Rattle.host_entries.specs.HostEntries.{SaysFile, SaysFolder}
-use Rattle.host_entries.specs.Laws.{entry_file}
-use Rattle.host_entries.specs.declared.entry.Content.TheVariants.{Text as AText, Program}
-use Rattle.host_entries.proofs.ReadBack.{text_read_back}
+use Rattle.host_folders.specs.HostEntries.{SaysFile, SaysFolder}
+use Rattle.host_folders.specs.ReadBack.{entry_file}
+use Rattle.host_folders.specs.declared.said.Content.TheVariants.{Text as AText, Program}
+use Rattle.host_folders.proofs.ReadBack.{text_read_back}
 use Rattle.host_folders.specs.HostNames.{Entry as HostEntry, host_name, text_beside, type_in, type_of}
 use Rattle.host_folders.specs.declared.entry.Naming.TheVariants.{Naps}
 use Rattle.host_folders.proofs.Beside.{beside_is_safe}
-use Rattle.reserved_places.specs.declared.form.PlaceForm.TheVariants.{Block}
+use Rattle.vol_layout.specs.declared.form.PlaceForm.TheVariants.{Block}
 use Rattle.round_trip.specs.Extracted.{Extracted, IsExtracted, directories_of, directory_said, entry_in, item_in, said_of}
 use Rattle.round_trip.specs.Planned.{IsDirectoryAgain, IsFormPlannedAgain, content_in, content_of, folder_at, path_again, path_in}
 use Rattle.round_trip.proofs.Above.{host_no_slash, say_parts, says_folder}

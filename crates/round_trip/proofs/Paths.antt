@@ -6,9 +6,9 @@ use Rattle.std.proofs.lemmas.List.{append-nil, append_assoc}
 use Rattle.std.proofs.lemmas.List.Elements.{All-weaker}
 use Rattle.std.proofs.lemmas.List.Splits.{slice_split_at, slice_split_none}
 use Rattle.folder_adding.specs.HostPaths.{SayPartsIn, Text, parts}
-use Rattle.host_entries.specs.HostEntries.{SaysFolder}
+use Rattle.host_folders.specs.HostEntries.{SaysFolder}
 use Rattle.host_folders.specs.HostNames.{IsSafe, is_one_of}
-use Rattle.reserved_places.specs.declared.form.PlaceForm.TheVariants.{Block}
+use Rattle.vol_layout.specs.declared.form.PlaceForm.TheVariants.{Block}
 
 abbrev pub HasNoSlash : Text → Type 0
 HasNoSlash text = All (λ byte. byte ≢ 47) text

@@ -5,12 +5,12 @@ use Rattle.file_forms.specs.declared.form.GivenForm.{GivenForm}
 use Rattle.folder_adding.specs.HostPaths.{SaysPath, Text, may_have}
 use Rattle.folder_adding.specs.Items.{ItemView}
 use Rattle.folder_adding.specs.Verdicts.{AddedFolder, IsVerdict, adds, form_given, is_item, is_second, item_said, no_name, no_type}
-use Rattle.host_entries.specs.declared.entry.Content.{Content}
-use Rattle.host_entries.specs.declared.entry.Content.TheVariants.{Bytes}
-use Rattle.host_entries.proofs.ReadBack.{file_read_back}
+use Rattle.host_folders.specs.declared.said.Content.{Content}
+use Rattle.host_folders.specs.declared.said.Content.TheVariants.{Bytes}
+use Rattle.host_folders.proofs.ReadBack.{file_read_back}
 use Rattle.host_folders.specs.HostNames.{dos_type, host_name, type_in, type_of}
 use Rattle.host_folders.specs.declared.entry.Naming.TheVariants.{Naps}
-use Rattle.reserved_places.specs.declared.form.PlaceForm.{PlaceForm}
+use Rattle.vol_layout.specs.declared.form.PlaceForm.{PlaceForm}
 use Rattle.round_trip.specs.Extracted.{Extracted, IsExtracted, item_in, said_of}
 use Rattle.round_trip.specs.Planned.{IsPlannedAgain, MayBeNew, file_at, item_again}
 use Rattle.round_trip.specs.Whole.{IsFileIn}

@@ -5,13 +5,13 @@ use Rattle.std.specs.Option.{option_to_list}
 use Rattle.std.proofs.lemmas.List.{append_assoc, length-append}
 use Rattle.std.proofs.lemmas.List.Concat.{flat_map-append}
 use Rattle.folder_adding.specs.HostPaths.{SaysPath, Text, before, characters, may_have, pro_path, volume_path}
-use Rattle.host_entries.specs.HostEntries.{FileView, SaysFile}
-use Rattle.host_entries.specs.Laws.{entry_file}
-use Rattle.host_entries.specs.declared.entry.Content.{Content}
-use Rattle.host_entries.specs.declared.entry.Content.TheVariants as contents
+use Rattle.host_folders.specs.HostEntries.{FileView, SaysFile}
+use Rattle.host_folders.specs.ReadBack.{entry_file}
+use Rattle.host_folders.specs.declared.said.Content.{Content}
+use Rattle.host_folders.specs.declared.said.Content.TheVariants as contents
 use Rattle.host_folders.specs.HostNames.{name_bytes}
-use Rattle.reserved_places.specs.declared.form.PlaceForm.{PlaceForm}
-use Rattle.reserved_places.specs.declared.form.PlaceForm.TheVariants.{Block}
+use Rattle.vol_layout.specs.declared.form.PlaceForm.{PlaceForm}
+use Rattle.vol_layout.specs.declared.form.PlaceForm.TheVariants.{Block}
 use Rattle.round_trip.specs.Extracted.{Extracted, directories_of, entry_in, item_in, names_above, said_of}
 use Rattle.round_trip.specs.Planned.{path_again}
 use Rattle.round_trip.proofs.Above.{has_path, names_top, say_parts}

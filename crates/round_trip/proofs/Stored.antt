@@ -8,17 +8,17 @@ use Rattle.std.proofs.lemmas.List.{append_assoc, length-append, length-map, leng
 use Rattle.file_formats.specs.DosFiles.{dos_name, filled_name}
 use Rattle.folder_adding.specs.HostPaths.{Text, characters, is_stored_character, may_have}
 use Rattle.folder_adding.specs.Verdicts.{AddedFolder}
-use Rattle.host_entries.specs.declared.entry.Content.TheVariants.{Bytes}
+use Rattle.host_folders.specs.declared.said.Content.TheVariants.{Bytes}
 use Rattle.host_folders.specs.HostNames.{name_bytes, without_end}
-use Rattle.reserved_places.specs.declared.form.PlaceForm.TheVariants.{Sector}
+use Rattle.vol_layout.specs.declared.form.PlaceForm.TheVariants.{Sector}
 use Rattle.round_trip.specs.Extracted.{Extracted, IsExtracted, entry_in, item_in, said_of}
 use Rattle.round_trip.specs.Planned.{MayBeNew, path_again}
 use Rattle.round_trip.specs.Stored.{IsStoredAgain, stored_again}
 use Rattle.round_trip.specs.Whole.{IsFileIn}
 use Rattle.round_trip.proofs.Items.{known}
-use Rattle.save_formats.specs.declared.target.Attributes.{Attributes}
-use Rattle.save_formats.specs.declared.target.Extent.{Extent}
-use Rattle.save_formats.specs.declared.target.Slot.{Slot}
+use Rattle.edit_formats.specs.declared.target.Attributes.{Attributes}
+use Rattle.edit_formats.specs.declared.target.Extent.{Extent}
+use Rattle.edit_formats.specs.declared.target.Slot.{Slot}
 use Rattle.shop_changes.specs.EditRules.{edits_of}
 use Rattle.shop_commands.specs.Extracting.{own_of}
 use Rattle.shop_jobs.specs.declared.job.FileSystem.{FileSystem}

@@ -13,7 +13,7 @@ use Rattle.folder_adding.specs.Items.{ItemView}
 use Rattle.folder_adding.specs.OneVerdict.{HasOneVerdict}
 use Rattle.folder_adding.specs.Plan.{AreSteps, IsFirstRefused, directory_made, is_adding, is_making, is_passing, item_added, plan_of}
 use Rattle.folder_adding.specs.Verdicts.{AddedFolder, IsVerdict, Step, adds, makes, passes}
-use Rattle.host_entries.specs.declared.entry.Content.TheVariants.{Bytes}
+use Rattle.host_folders.specs.declared.said.Content.TheVariants.{Bytes}
 use Rattle.host_folders.specs.Folder.{file, folder as made_folder}
 use Rattle.round_trip.specs.Extracted.{Extracted, IsExtracted, item_in}
 use Rattle.round_trip.specs.Planned.{file_at, folder_at, form_host, item_again, path_in}

@@ -2,8 +2,8 @@
 use Rattle.std.specs.Prelude.{◌≡◌, ℕ, zero, suc, List, [], ◌∷◌, ◌++◌, Option, Some, None, length}
 use Rattle.a2_device.specs.Device.{DeviceState}
 use Rattle.folder_adding.specs.HostPaths.{SaidDirectory, SaidPath, Text}
-use Rattle.host_entries.specs.Laws.{entry_file}
-use Rattle.host_entries.specs.declared.entry.Content.{Content}
+use Rattle.host_folders.specs.ReadBack.{entry_file}
+use Rattle.host_folders.specs.declared.said.Content.{Content}
 use Rattle.host_folders.specs.Folder.{Made}
 use Rattle.host_folders.specs.declared.entry.Naming.TheVariants.{Naps}
 use Rattle.shop_commands.specs.Extracting.{plan_for}

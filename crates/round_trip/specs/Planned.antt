@@ -6,10 +6,10 @@ use Rattle.folder_adding.specs.HostPaths.{SaysDirectory, SaysPath, Text, are_pro
 use Rattle.folder_adding.specs.Items.{ItemView}
 use Rattle.folder_adding.specs.Verdicts.{AddedFolder, IsVerdict, adds, form_given, makes, passes}
 use Rattle.folder_adding.specs.declared.host_entry.HostKind.TheVariants.{File, Folder}
-use Rattle.host_entries.specs.declared.entry.Content.{Content}
-use Rattle.host_entries.specs.declared.entry.Content.TheVariants.{Bytes, Text as AText, Program}
+use Rattle.host_folders.specs.declared.said.Content.{Content}
+use Rattle.host_folders.specs.declared.said.Content.TheVariants.{Bytes, Text as AText, Program}
 use Rattle.host_folders.specs.HostNames.{aux_of, name_bytes, text_beside, type_of}
-use Rattle.reserved_places.specs.declared.form.PlaceForm.TheVariants.{Sector}
+use Rattle.vol_layout.specs.declared.form.PlaceForm.TheVariants.{Sector}
 use Rattle.round_trip.specs.Extracted.{Extracted, directory_said, entry_in, item_in, said_of}
 use Rattle.shop_changes.specs.GivenWords.{kind_for}
 use Rattle.shop_jobs.specs.declared.job.FileSystem.{FileSystem}

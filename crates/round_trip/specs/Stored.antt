@@ -6,9 +6,9 @@ use Rattle.folder_adding.specs.Verdicts.{AddedFolder}
 use Rattle.pro_dir.specs.Paths.{folded}
 use Rattle.round_trip.specs.Extracted.{Extracted, entry_in}
 use Rattle.round_trip.specs.Planned.{path_again, path_in}
-use Rattle.save_formats.specs.declared.target.Attributes.{Attributes}
-use Rattle.save_formats.specs.declared.target.Extent.{Extent}
-use Rattle.save_formats.specs.declared.target.Slot.{Slot}
+use Rattle.edit_formats.specs.declared.target.Attributes.{Attributes}
+use Rattle.edit_formats.specs.declared.target.Extent.{Extent}
+use Rattle.edit_formats.specs.declared.target.Slot.{Slot}
 use Rattle.shop_changes.specs.EditRules.{edits_of}
 use Rattle.shop_jobs.specs.declared.job.FileSystem.{FileSystem}
 use Rattle.shop_jobs.specs.declared.job.FileSystem.TheVariants.{Dos, Prodos}

@@ -5,7 +5,7 @@ use Rattle.folder_adding.specs.HostPaths.{Text}
 use Rattle.folder_adding.specs.Numbered.{contents_of}
 use Rattle.folder_adding.specs.Plan.{IsFirstRefused, IsPlan, PlanView}
 use Rattle.folder_adding.specs.Verdicts.{AddedFolder}
-use Rattle.host_entries.specs.declared.entry.Content.TheVariants.{Bytes}
+use Rattle.host_folders.specs.declared.said.Content.TheVariants.{Bytes}
 use Rattle.host_folders.specs.Folder.{Made, file, folder as made_folder}
 use Rattle.round_trip.specs.Extracted.{Extracted, item_in}
 use Rattle.round_trip.specs.Planned.{MayBeNew, file_at, folder_at, form_host, has_names, item_again, path_in}

@@ -3,7 +3,7 @@
 //!
 //! Nothing here runs: each function is a law, with a body that does nothing and its contract for the statement. The laws
 //! stand on what is proved of the two halves, `volume_extract` and `folder_adding`, and of the names between them
-//! (`host_entries`).
+//! (`host_folders`).
 //!
 //! An extraction (`specs/Extracted.antt`) is a volume, the directory that its store describes, and the items of that
 //! directory's entries as `extract` makes them, with types in the names of files. What `extract` tells to be done is one

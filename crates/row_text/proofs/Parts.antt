@@ -6,9 +6,9 @@ use Rattle.a2_device.specs.declared.part.Part.{Part}
 use Rattle.a2_device.specs.declared.part.PartKind.{PartKind}
 use Rattle.a2_device.specs.declared.part.PartKind.TheVariants as kinds
 use Rattle.json.specs.Print.{escape, escape_byte, quoted}
-use Rattle.reserved_places.specs.Reserved.{told_place}
-use Rattle.reserved_places.specs.declared.form.PlaceForm.{PlaceForm}
-use Rattle.reserved_places.specs.declared.form.PlaceForm.TheVariants.{Sector, Block}
+use Rattle.vol_layout.specs.Reserved.{told_place}
+use Rattle.vol_layout.specs.declared.form.PlaceForm.{PlaceForm}
+use Rattle.vol_layout.specs.declared.form.PlaceForm.TheVariants.{Sector, Block}
 use Rattle.serde_json.specs.Written.{compact_text, items_text}
 use Rattle.row_text.specs.Places.{kind_word, part_text}
 use Rattle.row_text.specs.Row.{texts_items, texts_value}

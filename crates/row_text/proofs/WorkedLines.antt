@@ -3,7 +3,7 @@ use Rattle.std.proofs.Common.{◌≡◌, ℕ, refl, true, false, List, [], ◌�
 use Rattle.std.specs.Fmt.{digits}
 use Rattle.json.specs.Print.{escape_byte}
 use Rattle.a2_device.specs.declared.part.PartKind.TheVariants.{List as IsList, Index as IsIndex}
-use Rattle.reserved_places.specs.declared.form.PlaceForm.TheVariants.{Sector, Block}
+use Rattle.vol_layout.specs.declared.form.PlaceForm.TheVariants.{Sector, Block}
 use Rattle.serde_json.specs.Written.{compact_text}
 use Rattle.row_text.specs.Csv.{csv_row, csv_header}
 use Rattle.row_text.specs.Row.{RowView, row_data, volume_data}

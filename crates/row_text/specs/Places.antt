@@ -3,8 +3,8 @@ use Rattle.std.specs.Prelude.{List, ◌∷◌, ◌++◌, map, codes, decimal}
 use Rattle.a2_device.specs.declared.part.Part.{Part}
 use Rattle.a2_device.specs.declared.part.PartKind.{PartKind}
 use Rattle.a2_device.specs.declared.part.PartKind.TheVariants as kinds
-use Rattle.reserved_places.specs.Reserved.{told_place}
-use Rattle.reserved_places.specs.declared.form.PlaceForm.{PlaceForm}
+use Rattle.vol_layout.specs.Reserved.{told_place}
+use Rattle.vol_layout.specs.declared.form.PlaceForm.{PlaceForm}
 use Rattle.row_text.specs.Shown.{Text}
 use Rattle.row_text.specs.declared.places.Placed.{Placed}
 use Rattle.row_text.specs.declared.places.Placed.TheVariants as places

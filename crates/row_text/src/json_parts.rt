@@ -8,8 +8,8 @@ ghost use Rattle.row_text.specs.Row.{texts_value};
 
 use crate::places::PartText;
 use a2_device::Part;
-use reserved_places::PlaceForm;
 use std::fmt;
+use vol_layout::PlaceForm;
 
 // No character of a part's text is escaped in a string. It does nothing, and is called for this clause.
 fn part_stands(form: PlaceForm, part: Part)

@@ -3,8 +3,8 @@ ghost use Rattle.std.specs.Prelude.{◌≡◌, Some};
 ghost use Rattle.row_text.specs.Places.{kind_word, part_text};
 
 use a2_device::{Part, PartKind};
-use reserved_places::{PlaceForm, PlaceWord};
 use std::fmt;
+use vol_layout::{PlaceForm, PlaceWord};
 
 /// Whether the places of files are told, and those of an entry.
 #[derive(Clone, Copy, Debug)]

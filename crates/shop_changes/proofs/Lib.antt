@@ -3,3 +3,15 @@ mod Lines
 mod Replaced
 mod Telling
 mod Types
+pub mod Fronts
+pub mod NotMade
+pub mod SameLength
+pub mod DosListings
+mod Fresh
+mod Optimized
+mod Edited
+mod Saved
+mod Told
+mod Reclaimed
+mod MadeDirectory
+mod ReplacedImage

@@ -11,10 +11,10 @@ use Rattle.edit_formats.specs.DosNames.{dos_names}
 use Rattle.edit_formats.specs.ProEdits.{pro_edits}
 use Rattle.edit_formats.specs.ProErasing.{pro_erasures}
 use Rattle.edit_formats.specs.ProNames.{pro_names}
-use Rattle.directory_making.specs.Directories.{DirectoryMeaning, dos_directories, pro_directories}
-use Rattle.save_formats.specs.Saves.{SaveMeaning}
-use Rattle.save_formats.specs.DosSaves.{dos_saves}
-use Rattle.save_formats.specs.ProSaves.{pro_saves}
+use Rattle.file_edits.specs.Directories.{DirectoryMeaning, dos_directories, pro_directories}
+use Rattle.edit_formats.specs.Saves.{SaveMeaning}
+use Rattle.edit_formats.specs.DosSaves.{dos_saves}
+use Rattle.edit_formats.specs.ProSaves.{pro_saves}
 use Rattle.shop_jobs.specs.declared.job.FileSystem.{FileSystem}
 use Rattle.shop_jobs.specs.declared.job.FileSystem.TheVariants.{Dos, Prodos}
 use Rattle.shop_jobs.specs.declared.job.VolumeOptions.{VolumeOptions}

@@ -14,3 +14,14 @@ pub mod SaidFile
 pub mod Replaced
 pub mod Changing
 pub mod MakingOutcome
+pub mod VolumeReply
+pub mod LookReply
+pub mod ImageBytes
+pub mod OptimizeReply
+pub mod EditReply
+pub mod SaveReply
+pub mod ReclaimReply
+pub mod MakingReply
+pub mod ReplaceReply
+pub mod ChangeReply
+pub mod DosCatalogReply

@@ -7,8 +7,8 @@ use Rattle.edit_formats.specs.Writes.{HasEdited}
 use Rattle.edit_formats.specs.declared.error.EditError.{EditError}
 use Rattle.edit_formats.specs.declared.error.EditError.TheVariants.{Check, Device}
 use Rattle.pro_dir.specs.declared.date.ProDate.{ProDate}
-use Rattle.directory_making.specs.Directories.{DirectoryMeaning, IsDirectoryEdit}
-use Rattle.directory_making.specs.Made.{IsMakingRefusal}
+use Rattle.file_edits.specs.Directories.{DirectoryMeaning, IsDirectoryEdit}
+use Rattle.file_edits.specs.Made.{IsMakingRefusal}
 use Rattle.shop_changes.specs.EditOutcome.{TellsEdit}
 use Rattle.shop_changes.specs.declared.outcome.Outcome.{Outcome}
 

@@ -18,7 +18,7 @@ use Rattle.file_formats.specs.DosFiles.{number_at}
 use Rattle.file_formats.specs.FileNames.{GivenPath}
 use Rattle.file_formats.specs.Files.{FileMeaning, IsFirstNamed}
 use Rattle.file_formats.specs.declared.listing.ListEntry.{ListEntry}
-use Rattle.reserved_places.specs.declared.form.PlaceForm.{PlaceForm}
+use Rattle.vol_layout.specs.declared.form.PlaceForm.{PlaceForm}
 use Rattle.volume_compare.specs.Contents.{is_binary}
 use Rattle.shop_replies.specs.Reply.{refused}
 use Rattle.shop_replies.specs.Volume.{form_of}

@@ -6,7 +6,7 @@ use Rattle.file_forms.specs.Taken.{CanBeTakenFrom, IsBadLine, IsTakenFrom, Taken
 use Rattle.file_forms.specs.declared.form.GivenForm.{GivenForm}
 use Rattle.file_forms.specs.declared.form.GivenForm.TheVariants.{Single}
 use Rattle.pro_dir.specs.declared.date.ProDate.{ProDate}
-use Rattle.save_formats.specs.Saves.{SaveMeaning}
+use Rattle.edit_formats.specs.Saves.{SaveMeaning}
 use Rattle.shop_changes.specs.GivenFile.{GivenView, most_input}
 use Rattle.shop_changes.specs.GivenWords.{head_of, kind_for, usual_kind}
 use Rattle.shop_changes.specs.SaveOutcome.{IsSaveOutcome}

@@ -7,7 +7,7 @@ use Rattle.edit_formats.specs.declared.error.EditError.{EditError}
 use Rattle.edit_formats.specs.declared.error.EditError.TheVariants.{Device}
 use Rattle.file_edits.specs.Saved.{IsSaveRefusal}
 use Rattle.shop_changes.specs.GivenFile.{GivenView, IsTooLongForHead, most_input}
-use Rattle.save_formats.specs.Saves.{SaveMeaning}
+use Rattle.edit_formats.specs.Saves.{SaveMeaning}
 use Rattle.shop_replies.specs.declared.refusal.Refusal.TheVariants as refusals
 use Rattle.shop_replies.specs.declared.refusal.Failure.TheVariants as failures
 use Rattle.shop_replies.specs.Reply.{failed, refused}

@@ -3,8 +3,8 @@ use Rattle.std.specs.Prelude.{ℕ, List, length}
 use Rattle.vol_format.specs.Accepted.{IsVolume}
 use Rattle.vol_format.specs.Meaning.{Meaning}
 use Rattle.vol_laws.specs.Writes.{Write}
-use Rattle.save_formats.specs.Saves.{SaveMeaning}
-use Rattle.save_formats.specs.declared.target.Attributes.{Attributes}
+use Rattle.edit_formats.specs.Saves.{SaveMeaning}
+use Rattle.edit_formats.specs.declared.target.Attributes.{Attributes}
 use Rattle.file_edits.specs.Saved.{HasFewPlaces, HasFullDirectory, HasNameInUse, HasNoDirectory, HasNoName, HasSaved, IsOldOrSaved, IsSaveEdit, IsTooLong}
 use Rattle.shop_changes.specs.GivenFile.{GivenView, content, stored_units, unit_bytes}
 use Rattle.shop_replies.specs.declared.refusal.Refusal.{Refusal}

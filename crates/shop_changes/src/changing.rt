@@ -15,15 +15,14 @@ use crate::reclaiming::reclaim_in_place;
 use crate::said_file::save_said;
 use crate::work::Work;
 use a2_device::Device;
-use directory_making::DirectoryFormat;
 use dos_format::Dos33;
-use file_edits::Acceptance;
+use file_edits::{Acceptance, DirectoryFormat};
 use pro_format::Prodos;
-use reserved_places::Reserved;
 use shop_jobs::{FileSystem, VolumeOptions};
 use shop_reads::{reserve_reply, reserved_by};
 use shop_replies::{Failure, Refusal, Reply, form_of};
 use std::alloc::Global;
+use vol_layout::Reserved;
 
 // Does work on the volume of a device, by its format.
 fn change_by<D: Device, F: DirectoryFormat>(

@@ -13,10 +13,9 @@ ghost use Rattle.vol_format.specs.Fits.{Fits};
 
 use crate::outcome::Outcome;
 use a2_device::Device;
-use edit_formats::EditError;
+use edit_formats::{EditError, SavableFormat};
 use file_edits::{delete, lock, rename, unlock};
 use file_formats::FileName;
-use save_formats::SavableFormat;
 use shop_jobs::Edit;
 use shop_replies::{Failure, Refusal, Reply};
 use std::alloc::Global;

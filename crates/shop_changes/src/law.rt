@@ -1,7 +1,7 @@
 // What always holds of the types of files.
 ghost use Rattle.std.specs.Prelude.{◌≡◌, ℕ, List, Some};
 ghost use Rattle.host_folders.specs.HostNames.{type_in};
-ghost use Rattle.reserved_places.specs.declared.form.PlaceForm.TheVariants.{Sector};
+ghost use Rattle.vol_layout.specs.declared.form.PlaceForm.TheVariants.{Sector};
 ghost use Rattle.shop_changes.specs.GivenWords.{kind_for, kind_named};
 ghost use Rattle.shop_jobs.specs.declared.job.FileSystem.TheVariants.{Dos};
 

@@ -7,8 +7,7 @@ ghost use Rattle.vol_format.specs.Fits.{Fits};
 use crate::editing::edit_refusal_reply;
 use crate::outcome::Outcome;
 use a2_device::Device;
-use directory_making::DirectoryFormat;
-use file_edits::Acceptance;
+use file_edits::{Acceptance, DirectoryFormat};
 use pro_dir::ProDate;
 use std::alloc::Global;
 

@@ -5,8 +5,8 @@ ghost use Rattle.vol_format.specs.Fits.{Fits};
 use crate::editing::edit_refusal_reply;
 use crate::outcome::Outcome;
 use a2_device::Device;
+use edit_formats::SavableFormat;
 use file_edits::reclaim;
-use save_formats::SavableFormat;
 use std::alloc::Global;
 
 /// Marks the lost places of a device's volume free, and tells what became of it.

@@ -20,10 +20,9 @@ use crate::given_words::usual_kind;
 use crate::replaced_file::{ReplacedFile, find_replaced};
 use crate::said_file::SaidFile;
 use a2_device::Device;
-use edit_formats::EditError;
+use edit_formats::{EditError, SavableFormat};
 use file_edits::delete;
 use file_formats::FileName;
-use save_formats::SavableFormat;
 use shop_replies::{Refusal, Reply, form_of};
 use std::alloc::Global;
 

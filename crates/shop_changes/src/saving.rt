@@ -20,9 +20,8 @@ use crate::given_error::GivenError;
 use crate::given_file::{FileUnits, GivenFile, MOST_INPUT, file_units};
 use crate::outcome::Outcome;
 use a2_device::Device;
-use edit_formats::EditError;
+use edit_formats::{Attributes, EditError, SavableFormat};
 use file_edits::{Acceptance, NewFile, save};
-use save_formats::{Attributes, SavableFormat};
 use shop_replies::{Failure, Refusal, Reply};
 use std::alloc::Global;
 

@@ -31,11 +31,11 @@ use Rattle.shop_reads.proofs.NotMade.{look_made}
 use Rattle.shop_changes.specs.EditRules.{changed_by}
 use Rattle.shop_changes.specs.Work.{WorkView}
 use Rattle.shop_changes.specs.Work as works
-use Rattle.shop_image.specs.ChangeReply.{IsChangeReply}
-use Rattle.shop_image.specs.LookReply.{IsImageLook}
-use Rattle.shop_image.specs.VolumeReply.{IsVolumeReply}
-use Rattle.shop_image.proofs.Fronts.{replaced-take, saved-take, volume-told, volume-whole, with_said_bytes}
-use Rattle.shop_image.proofs.NotMade.{directory_image, edited_image, reclaimed_image, replaced_image, said_image, sided_made, sided_same, volume_made}
+use Rattle.shop_changes.specs.ChangeReply.{IsChangeReply}
+use Rattle.shop_changes.specs.LookReply.{IsImageLook}
+use Rattle.shop_changes.specs.VolumeReply.{IsVolumeReply}
+use Rattle.shop_changes.proofs.Fronts.{replaced-take, saved-take, volume-told, volume-whole, with_said_bytes}
+use Rattle.shop_changes.proofs.NotMade.{directory_image, edited_image, reclaimed_image, replaced_image, said_image, sided_made, sided_same, volume_made}
 use Rattle.image_readings.proofs.Fronts.{identify-whole}
 use Rattle.image_readings.proofs.NotMade.{identify_not_made}
 use Rattle.shop_replies.specs.Reading.{IsReadFailure, most_beside, most_of_image}

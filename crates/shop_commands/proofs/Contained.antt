@@ -8,7 +8,7 @@ use Rattle.disk_container.proofs.Alike.{put}
 use Rattle.shop_jobs.specs.Job.{AddTo, AskView, ChangeOf, ChangeView, Convert, Create, ExtractFrom, Identify, LookAt, Survey, TargetView, Unwrap, Wrap}
 use Rattle.shop_jobs.specs.declared.job.VolumeOptions.{VolumeOptions}
 use Rattle.shop_changes.specs.EditRules.{changed_by}
-use Rattle.shop_image.proofs.SameLength.{changed_length}
+use Rattle.shop_changes.proofs.SameLength.{changed_length}
 use Rattle.shop_replies.proofs.NotMade.{failed_not_made, refused_not_made}
 use Rattle.shop_replies.specs.declared.refusal.Failure.TheVariants as failures
 use Rattle.shop_replies.specs.declared.reply.Reply.{Reply}

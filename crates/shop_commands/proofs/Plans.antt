@@ -1,6 +1,6 @@
 -- How the volume of a format is extracted, by the words of a job.
 use Rattle.std.proofs.Common.{◌≡◌, ◌∙◌, ap, sym, Bool, List, []}
-use Rattle.reserved_places.specs.declared.form.PlaceForm.TheVariants.{Sector, Block}
+use Rattle.vol_layout.specs.declared.form.PlaceForm.TheVariants.{Sector, Block}
 use Rattle.dos_format.specs.Dos.{dos_meaning}
 use Rattle.pro_format.specs.Pro.{pro_meaning}
 use Rattle.file_formats.specs.DosFiles.{dos_files}

@@ -23,11 +23,11 @@ use a2_device::Device;
 use dos_format::Dos33;
 use host_folders::{Folder, FolderFailure};
 use pro_format::Prodos;
-use reserved_places::{PlaceForm, Reserved};
 use shop_jobs::{Ask, ExtractOptions, FileSystem, Job, VolumeOptions};
 use shop_replies::{Failure, Refusal, Reply};
 use std::alloc::Global;
 use std::io::Write;
+use vol_layout::{PlaceForm, Reserved};
 use volume_extract::{ExtractError, Options, TreeFormat, extract};
 
 /// Why the files of a volume were not put into a folder and told.

@@ -1,7 +1,7 @@
 //! Commands of the workshop, from words to bytes.
 //!
 //! A job is taken apart once, by what it asks. `reply_to` turns the bytes of an image into one `Reply`: a look and a
-//! change are those of `shop_image`, a conversion is that of `shop_replies`, `identify` that of `image_readings`, and a
+//! change are those of `shop_changes`, a conversion is that of `shop_replies`, `identify` that of `image_readings`, and a
 //! new volume is made by `create_reply` (`specs/CreateReply.antt`);
 //! `change_work` makes the work of a change, or refuses its words. `run_job` reads the bytes, writes the text of the
 //! reply once and hands its image to the output file. `job_of_words` is the job that words ask for, or tells why there

@@ -2,7 +2,7 @@
 use Rattle.std.proofs.Common.{◌≡◌, ◌⊎◌, None, Some, inl, inr}
 use Rattle.std.specs.Prelude.{flat_map}
 use Rattle.a2_device.specs.Device.{DeviceState}
-use Rattle.reserved_places.specs.declared.form.PlaceForm.{PlaceForm}
+use Rattle.vol_layout.specs.declared.form.PlaceForm.{PlaceForm}
 use Rattle.vol_format.specs.Meaning.{Meaning}
 use Rattle.vol_check.specs.Answer.{IsRefusal}
 use Rattle.vol_check.specs.declared.error.CheckError.{CheckError}

@@ -10,7 +10,7 @@ use Rattle.a2_image.specs.declared.error.ImageError.TheVariants as images
 use Rattle.file_cmds.specs.ReadingOn.{FailedBetween, ReadsOn}
 use Rattle.file_cmds.specs.lemmas.Reading.{lacking_where_quiet}
 use Rattle.file_formats.specs.Files.{FileMeaning}
-use Rattle.reserved_places.specs.declared.form.PlaceForm.{PlaceForm}
+use Rattle.vol_layout.specs.declared.form.PlaceForm.{PlaceForm}
 use Rattle.vol_format.specs.Meaning.{Meaning}
 use Rattle.volume_compare.specs.Comparison.{IsComparison, IsRefused}
 use Rattle.volume_compare.specs.declared.error.CompareError.{CompareError}

@@ -3,7 +3,7 @@ use Rattle.std.proofs.Common.{ℕ, Bool, true, false, List, [], ◌∷◌, None,
 use Rattle.std.specs.Prelude.{IsSome}
 use Rattle.a2_device.specs.Device.{DeviceState}
 use Rattle.a2_device.specs.declared.part.Part.{Part}
-use Rattle.reserved_places.specs.declared.form.PlaceForm.{PlaceForm}
+use Rattle.vol_layout.specs.declared.form.PlaceForm.{PlaceForm}
 use Rattle.vol_check.specs.Told.{Told}
 use Rattle.vol_format.specs.Directory.{Directory}
 use Rattle.vol_format.specs.Meaning.{Meaning}

@@ -3,7 +3,7 @@ use Rattle.std.proofs.Common.{◌≡◌, ◌∙◌, refl, sym, ap, subst, inl, i
 use Rattle.std.specs.Prelude.{◌⊎◌, Bool, true, false, Err, List}
 use Rattle.a2_device.specs.Device.{DeviceState, OnlyReads}
 use Rattle.a2_device.specs.declared.fault.Fault.{Fault}
-use Rattle.reserved_places.specs.declared.form.PlaceForm.{PlaceForm}
+use Rattle.vol_layout.specs.declared.form.PlaceForm.{PlaceForm}
 use Rattle.file_cmds.specs.lemmas.Reading.{one_failed, one_reading}
 use Rattle.vol_check.specs.Answer.{is_device_error as check_failed}
 use Rattle.vol_check.specs.declared.error.CheckError.{CheckError}

@@ -6,8 +6,8 @@ use Rattle.a2_device.specs.declared.part.Part.{Part}
 use Rattle.file_formats.specs.Files.{FileMeaning}
 use Rattle.file_listings.specs.DosText.{Text, line}
 use Rattle.file_listings.specs.Steps.{path_of, shown_path}
-use Rattle.reserved_places.specs.Reserved.{told_place}
-use Rattle.reserved_places.specs.declared.form.PlaceForm.{PlaceForm}
+use Rattle.vol_layout.specs.Reserved.{told_place}
+use Rattle.vol_layout.specs.declared.form.PlaceForm.{PlaceForm}
 use Rattle.vol_format.specs.Accepted.{IsAccepted}
 use Rattle.vol_format.specs.Directory.{Directory}
 use Rattle.vol_format.specs.Meaning.{Meaning}

@@ -1,8 +1,8 @@
 -- What is told of a volume that is listed.
 use Rattle.std.specs.Prelude.{◌≡◌, ◌⊎◌, List, []}
 use Rattle.a2_device.specs.Device.{DeviceState}
-use Rattle.reserved_places.specs.declared.form.PlaceForm.{PlaceForm}
-use Rattle.reserved_places.specs.declared.form.PlaceForm.TheVariants.{Sector, Block}
+use Rattle.vol_layout.specs.declared.form.PlaceForm.{PlaceForm}
+use Rattle.vol_layout.specs.declared.form.PlaceForm.TheVariants.{Sector, Block}
 use Rattle.vol_format.specs.Directory.{Directory}
 use Rattle.vol_format.specs.Meaning.{Meaning}
 use Rattle.file_listings.specs.DosText.{Text}

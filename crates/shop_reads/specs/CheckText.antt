@@ -2,8 +2,8 @@
 use Rattle.std.specs.Prelude.{ℕ, ◌∷◌, ◌++◌, length, codes, decimal}
 use Rattle.a2_device.specs.declared.fault.Fault.{Fault}
 use Rattle.a2_device.specs.declared.fault.Fault.TheVariants.{Geometry, CatalogLink, DirLink, MapPointer, StorageType, OutOfRange, InSystem, Shared, MarkedFree}
-use Rattle.reserved_places.specs.Reserved.{told_place}
-use Rattle.reserved_places.specs.declared.form.PlaceForm.{PlaceForm}
+use Rattle.vol_layout.specs.Reserved.{told_place}
+use Rattle.vol_layout.specs.declared.form.PlaceForm.{PlaceForm}
 use Rattle.vol_check.specs.Told.{Told}
 use Rattle.file_listings.specs.DosText.{Text, line}
 

@@ -6,7 +6,7 @@ use Rattle.a2_device.specs.declared.fault.Fault.TheVariants as faults
 use Rattle.file_formats.specs.Files.{FileMeaning}
 use Rattle.file_listings.specs.DosText.{Text, line}
 use Rattle.file_listings.specs.Steps.{path_of, shown_path}
-use Rattle.reserved_places.specs.declared.form.PlaceForm.{PlaceForm}
+use Rattle.vol_layout.specs.declared.form.PlaceForm.{PlaceForm}
 use Rattle.vol_check.specs.FaultFiles.{FaultList}
 use Rattle.vol_check.specs.Judgement.{AreFileFaults}
 use Rattle.vol_format.specs.Directory.{Directory}

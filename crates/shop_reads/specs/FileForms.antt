@@ -11,8 +11,8 @@ use Rattle.file_forms.specs.Found.{FileView}
 use Rattle.file_forms.specs.Shown.{HasForm, IsInForm, form_of}
 use Rattle.file_forms.specs.declared.form.FileForm.{FileForm}
 use Rattle.host_folders.specs.HostNames.{aux_in, name_bytes, type_in}
-use Rattle.reserved_places.specs.declared.form.PlaceForm.{PlaceForm}
-use Rattle.reserved_places.specs.declared.form.PlaceForm.TheVariants.{Sector, Block}
+use Rattle.vol_layout.specs.declared.form.PlaceForm.{PlaceForm}
+use Rattle.vol_layout.specs.declared.form.PlaceForm.TheVariants.{Sector, Block}
 use Rattle.shop_jobs.specs.declared.job.ReadForm.{ReadForm}
 use Rattle.shop_jobs.specs.declared.job.ReadForm.TheVariants as reads
 use Rattle.vol_format.specs.Directory.{Listed}

@@ -1,7 +1,7 @@
 -- What is told of a volume that is looked at.
 use Rattle.std.specs.Prelude.{ℕ, Bool, true, false, List, []}
 use Rattle.a2_device.specs.Device.{DeviceState}
-use Rattle.reserved_places.specs.declared.form.PlaceForm.{PlaceForm}
+use Rattle.vol_layout.specs.declared.form.PlaceForm.{PlaceForm}
 use Rattle.vol_format.specs.Meaning.{Meaning}
 use Rattle.file_formats.specs.DosFiles.{dos_files}
 use Rattle.file_formats.specs.Files.{FileMeaning}

@@ -2,7 +2,7 @@
 use Rattle.std.specs.Prelude.{◌≡◌, ◌⊎◌, ℕ, List}
 use Rattle.a2_device.specs.Device.{DeviceState}
 use Rattle.a2_device.specs.declared.fault.Fault.{Fault}
-use Rattle.reserved_places.specs.declared.form.PlaceForm.{PlaceForm}
+use Rattle.vol_layout.specs.declared.form.PlaceForm.{PlaceForm}
 use Rattle.vol_format.specs.Meaning.{Meaning}
 use Rattle.vol_check.specs.Answer.{AreFaults}
 use Rattle.file_listings.specs.DosText.{Text}

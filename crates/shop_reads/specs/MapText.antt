@@ -1,8 +1,8 @@
 -- The map of a volume, as text: the picture of its places, and how many are what.
 use Rattle.std.specs.Prelude.{ℕ, ◌+◌, ◌*◌, ◌-◌, ◌/◌, ◌==◌, List, ◌∷◌, ◌++◌, length, map, filter, flat_map, take, drop, replicate, codes, decimal, slice_index_or}
 use Rattle.std.specs.List.{range_with_len}
-use Rattle.reserved_places.specs.declared.form.PlaceForm.{PlaceForm}
-use Rattle.reserved_places.specs.declared.form.PlaceForm.TheVariants.{Sector, Block}
+use Rattle.vol_layout.specs.declared.form.PlaceForm.{PlaceForm}
+use Rattle.vol_layout.specs.declared.form.PlaceForm.TheVariants.{Sector, Block}
 use Rattle.file_listings.specs.DosText.{Text, line}
 use Rattle.shop_reads.specs.declared.place_state.PlaceState.{PlaceState}
 use Rattle.shop_reads.specs.declared.place_state.PlaceState.TheVariants as states

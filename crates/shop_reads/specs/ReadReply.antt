@@ -8,7 +8,7 @@ use Rattle.file_formats.specs.Files.{FileMeaning, IsFirstNamed}
 use Rattle.file_forms.specs.Found.{FileView}
 use Rattle.file_cmds.specs.Read.{HasNoFile, IsTextAt, IsUnreadable}
 use Rattle.file_cmds.specs.Text.{IsEntryText}
-use Rattle.reserved_places.specs.declared.form.PlaceForm.{PlaceForm}
+use Rattle.vol_layout.specs.declared.form.PlaceForm.{PlaceForm}
 use Rattle.shop_jobs.specs.declared.job.ReadForm.{ReadForm}
 use Rattle.shop_jobs.specs.declared.job.ReadForm.TheVariants as reads
 use Rattle.shop_replies.specs.declared.refusal.Refusal.TheVariants as refusals

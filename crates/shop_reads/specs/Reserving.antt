@@ -1,9 +1,9 @@
 -- The places that words reserve on a volume.
 use Rattle.std.specs.Prelude.{◌≡◌, ◌⊎◌, ℕ, Bool, List, [], Option, Some, None}
-use Rattle.reserved_places.specs.Reserved.{IsPlaceList, Reserves}
-use Rattle.reserved_places.specs.declared.error.ReserveError.{ReserveError}
-use Rattle.reserved_places.specs.declared.error.ReserveError.TheVariants as reserves
-use Rattle.reserved_places.specs.declared.form.PlaceForm.{PlaceForm}
+use Rattle.vol_layout.specs.Reserved.{IsPlaceList, Reserves}
+use Rattle.vol_layout.specs.declared.reserve_error.ReserveError.{ReserveError}
+use Rattle.vol_layout.specs.declared.reserve_error.ReserveError.TheVariants as reserves
+use Rattle.vol_layout.specs.declared.form.PlaceForm.{PlaceForm}
 use Rattle.file_listings.specs.DosText.{Text}
 use Rattle.shop_jobs.specs.declared.job.FileSystem.{FileSystem}
 use Rattle.shop_replies.specs.declared.refusal.Refusal.TheVariants as refusals

@@ -40,11 +40,11 @@ use crate::listing::ShownFormat;
 use a2_device::{Device, Part};
 use file_formats::FileFormat;
 use file_listings::ShownPath;
-use reserved_places::{PlaceForm, PlaceWord};
 use shop_replies::{Failure, Reply};
 use std::alloc::{AllocError, Global};
 use std::fmt;
 use vol_check::{Checked, Judgement, judge};
+use vol_layout::{PlaceForm, PlaceWord};
 
 // A part whose unit can't be read, of the file of this path.
 #[derive(Clone, Copy)]

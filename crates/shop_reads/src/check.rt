@@ -14,11 +14,11 @@ use crate::check_text::{accepted_line, fault_lines};
 use crate::fault_files::file_lines;
 use a2_device::Device;
 use file_formats::FileFormat;
-use reserved_places::PlaceForm;
 use shop_replies::{Failure, Reply};
 use std::alloc::Global;
 use vol_check::{CheckError, Checked, Faults, Judgement, judge};
 use vol_format::Format;
+use vol_layout::PlaceForm;
 
 /// The reply to an accepted volume.
 pub fn accepted_reply<V: Drop>(alloc: Global, checked: &Checked<V>) -> Reply

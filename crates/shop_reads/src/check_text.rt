@@ -11,10 +11,10 @@ ghost use Rattle.shop_reads.specs.CheckText.{
 };
 
 use a2_device::Fault;
-use reserved_places::{PlaceForm, PlaceWord};
 use std::alloc::{AllocError, Global};
 use std::fmt;
 use vol_check::Checked;
+use vol_layout::{PlaceForm, PlaceWord};
 
 fn fault_name(fault: Fault) -> &'static str
     ensures { result.now ≡ name_of fault }

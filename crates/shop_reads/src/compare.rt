@@ -12,10 +12,10 @@ use crate::listing::ShownFormat;
 use a2_device::{Device, Order};
 use a2_image::ImageError;
 use a2_media::ImageDevice;
-use reserved_places::PlaceForm;
 use shop_jobs::{CompareOptions, FileSystem};
 use shop_replies::{Failure, Refusal, Reply, Side, Status, Told, device_of, open_volume};
 use std::alloc::Global;
+use vol_layout::PlaceForm;
 use volume_compare::{CompareError, Comparison, compare_volumes};
 
 // The file system whose places are named so.

@@ -24,10 +24,10 @@ use crate::check_text::FaultText;
 use a2_device::Fault;
 use file_formats::FileFormat;
 use file_listings::ShownPath;
-use reserved_places::PlaceForm;
 use std::alloc::{AllocError, Global};
 use std::fmt;
 use vol_check::Faults;
+use vol_layout::PlaceForm;
 
 /// The kinds of the faults that are of a file.
 #[derive(Clone, Copy, Debug, PartialEq, Eq)]

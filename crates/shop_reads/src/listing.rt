@@ -19,10 +19,10 @@ use file_listings::{
     KnownFiles, ProLines, ProSteps, Step, Style, dos_entries_text, dos_listing_text,
 };
 use pro_format::{ProVolume, Prodos};
-use reserved_places::PlaceForm;
 use shop_replies::{Failure, Refusal, Reply, Status, Told};
 use std::alloc::{AllocError, Global};
 use vol_format::Format;
+use vol_layout::PlaceForm;
 
 /// The reply to a command's refusal.
 pub fn refusal_reply(error: CmdError) -> Reply
@@ -57,7 +57,7 @@ fn dos_listing(
 /// A format whose volumes are told of: what its places are called, and how the listing of a volume and a plan are told.
 pub trait ShownFormat: FileFormat + Drop {
     ghost use Rattle.std.specs.Prelude.{◌≡◌, ◌<◌, All, IfOk, IfNone, IfSome};
-    ghost use Rattle.reserved_places.specs.declared.form.PlaceForm.{PlaceForm};
+    ghost use Rattle.vol_layout.specs.declared.form.PlaceForm.{PlaceForm};
     ghost use Rattle.vol_format.specs.Directory.{entries};
     ghost use Rattle.file_listings.specs.Known.{facts_in};
     ghost use Rattle.shop_replies.specs.Reply.{told_text};
@@ -113,7 +113,7 @@ pub trait ShownFormat: FileFormat + Drop {
 
 impl ShownFormat for Dos33 {
     ghost use Rattle.std.specs.Prelude.{[]};
-    ghost use Rattle.reserved_places.specs.declared.form.PlaceForm.TheVariants.{Sector};
+    ghost use Rattle.vol_layout.specs.declared.form.PlaceForm.TheVariants.{Sector};
     ghost use Rattle.shop_reads.specs.lemmas.Reserving.{dos_unreserved};
 
     ghost form = { λ f. Sector };
@@ -153,7 +153,7 @@ impl ShownFormat for Dos33 {
 
 impl ShownFormat for Prodos {
     ghost use Rattle.std.specs.Prelude.{[]};
-    ghost use Rattle.reserved_places.specs.declared.form.PlaceForm.TheVariants.{Block};
+    ghost use Rattle.vol_layout.specs.declared.form.PlaceForm.TheVariants.{Block};
     ghost use Rattle.shop_reads.specs.lemmas.Reserving.{pro_unreserved};
 
     ghost form = { λ f. Block };

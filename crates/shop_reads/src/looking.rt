@@ -25,10 +25,10 @@ use crate::verify::verify_reply;
 use a2_device::Device;
 use dos_format::Dos33;
 use pro_format::Prodos;
-use reserved_places::Reserved;
 use shop_jobs::{FileSystem, Look, VolumeOptions};
 use shop_replies::{Failure, Reply, form_of};
 use std::alloc::Global;
+use vol_layout::Reserved;
 
 /// What is told of a look at the volume of a device, by its format, with the bytes of a file beside it. Each failure of
 /// the device is told, and nothing else is told as one; a list goes on behind a file that can't be read, and a check of

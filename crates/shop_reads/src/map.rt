@@ -15,11 +15,11 @@ use crate::map_states::{put_parts, tell_reserved, vacant_states};
 use crate::place_state::PlaceState;
 use a2_device::Device;
 use file_cmds::{CmdError, read_volume};
-use reserved_places::PlaceForm;
 use shop_replies::{Failure, Reply};
 use std::alloc::{AllocError, Global};
 use vol_check::{Checked, check};
 use vol_format::Format;
+use vol_layout::PlaceForm;
 
 /// The states of the places of a volume, and how many parts its files have.
 #[derive(Drop)]

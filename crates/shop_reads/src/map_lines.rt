@@ -16,9 +16,9 @@ ghost use Rattle.shop_reads.specs.MapText.{
 };
 
 use crate::place_state::PlaceState;
-use reserved_places::PlaceForm;
 use std::alloc::{AllocError, Global};
 use std::fmt;
+use vol_layout::PlaceForm;
 
 /// The tracks of a disk, and the sectors of a track.
 const TRACKS: usize = 35;

@@ -14,9 +14,9 @@ use crate::steps::steps_of;
 use a2_device::Device;
 use file_formats::FileFormat;
 use file_listings::{CountText, Step, StepText};
-use reserved_places::PlaceForm;
 use shop_replies::{Failure, Reply};
 use std::alloc::{AllocError, Global};
+use vol_layout::PlaceForm;
 use vol_mover::{Opening, Options};
 
 /// A line for each step, and how many there are.

@@ -1,11 +1,11 @@
 // The places that words reserve on a volume.
 ghost use Rattle.std.specs.Prelude.{◌≡◌, IfErr, IfOk, option_map};
-ghost use Rattle.reserved_places.specs.declared.error.ReserveError.TheVariants.{Syntax};
+ghost use Rattle.vol_layout.specs.declared.reserve_error.ReserveError.TheVariants.{Syntax};
 ghost use Rattle.shop_reads.specs.Reserving.{NamesPlaces, ReservesNamed, reply_to_reserve};
 
-use reserved_places::{PlaceForm, ReserveError, Reserved};
 use shop_replies::{Failure, Refusal, Reply};
 use std::alloc::Global;
+use vol_layout::{PlaceForm, ReserveError, Reserved};
 
 /// The reply to a text of places to reserve that is not taken.
 pub fn reserve_reply(error: ReserveError) -> Reply

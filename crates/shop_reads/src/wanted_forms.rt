@@ -19,9 +19,9 @@ use apple_single::FileInfo;
 use file_formats::{ListEntry, address_of};
 use file_forms::{FileForm, FormError, FoundFile, in_form};
 use host_folders::{Stored, name_bytes};
-use reserved_places::PlaceForm;
 use shop_jobs::ReadForm;
 use std::alloc::{AllocError, Global};
+use vol_layout::PlaceForm;
 
 /// The access of a file of DOS 3.3 that is not locked, and of one that is.
 const UNLOCKED: u8 = 0xc3;

@@ -12,10 +12,10 @@ ghost use Rattle.shop_reads.specs.EntriesReply.{
 
 use crate::listing::ShownFormat;
 use file_formats::FileFormat;
-use reserved_places::PlaceForm;
 use shop_jobs::{ListForm, ListOptions};
 use std::alloc::{AllocError, Global};
 use vol_format::{Format, Link};
+use vol_layout::PlaceForm;
 use volume_compare::is_binary;
 
 /// What is wanted of a file: its address, and its digest where digests are told.

@@ -11,8 +11,8 @@ use Rattle.a2_device.specs.Device.{DeviceState}
 use Rattle.a2_media.specs.ImageDevice.{image_state}
 use Rattle.a2_media.specs.declared.units.UnitKind.{UnitKind}
 use Rattle.a2_media.specs.declared.units.UnitKind.TheVariants as kinds
-use Rattle.reserved_places.specs.declared.form.PlaceForm.{PlaceForm}
-use Rattle.reserved_places.specs.declared.form.PlaceForm.TheVariants as forms
+use Rattle.vol_layout.specs.declared.form.PlaceForm.{PlaceForm}
+use Rattle.vol_layout.specs.declared.form.PlaceForm.TheVariants as forms
 use Rattle.vol_format.specs.Meaning.{Meaning}
 use Rattle.dos_format.specs.Dos.{dos_meaning}
 use Rattle.pro_format.specs.Pro.{pro_meaning}

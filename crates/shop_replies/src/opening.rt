@@ -15,8 +15,8 @@ use crate::open_disk;
 use a2_device::{Device, Order};
 use a2_image::{Image, ImageError};
 use a2_media::ImageDevice;
-use reserved_places::PlaceForm;
 use shop_jobs::FileSystem;
+use vol_layout::PlaceForm;
 
 /// How the places of a file system are named.
 pub fn form_of(file_system: FileSystem) -> PlaceForm

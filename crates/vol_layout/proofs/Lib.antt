@@ -7,3 +7,6 @@ pub mod Existence
 pub mod PlanLemmas
 pub mod ShortestPlans
 mod TableLemmas
+pub mod Numbers
+pub mod Places
+pub mod Tables

@@ -3,3 +3,5 @@ pub mod Plans
 pub mod Rings
 pub mod Table
 pub mod Inside
+pub mod Reserved
+pub mod Words

@@ -5,7 +5,7 @@ use Rattle.std.proofs.lemmas.List.{get_or-append-add, get_or_append_left, length
 use Rattle.std.proofs.lemmas.List.Elements.{All-get_or}
 use Rattle.std.proofs.lemmas.List.Sums.{AllPass-from_list_all}
 use Rattle.a2_device.specs.Device.{DeviceState}
-use Rattle.reserved_places.specs.declared.form.PlaceForm.{PlaceForm}
+use Rattle.vol_layout.specs.declared.form.PlaceForm.{PlaceForm}
 use Rattle.vol_format.specs.Directory.{entries}
 use Rattle.vol_format.specs.Meaning.{Meaning}
 use Rattle.file_formats.specs.Files.{FileMeaning}

@@ -4,7 +4,7 @@ use Rattle.std.proofs.Common.{refl, sym, ◌∙◌, ap, add-zero, arith}
 use Rattle.std.proofs.lemmas.List.{flat_map_more}
 use Rattle.std.proofs.lemmas.List.Folds.{list_all-append}
 use Rattle.std.proofs.lemmas.List.Sums.{count_by-le-length, sum_by_push}
-use Rattle.reserved_places.specs.declared.form.PlaceForm.{PlaceForm}
+use Rattle.vol_layout.specs.declared.form.PlaceForm.{PlaceForm}
 use Rattle.volume_compare.specs.Findings.{Told}
 use Rattle.volume_compare.specs.CompareText.{AreAtMost, are_equal, how_many, is_alike, is_body, is_entry, is_only_first, is_only_second, is_same, is_told, is_unreadable, told_line, told_lines, totals_of, totals_with}
 use Rattle.volume_compare.specs.declared.finding.Finding.{Finding}

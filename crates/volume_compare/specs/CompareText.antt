@@ -1,7 +1,7 @@
 -- The text of what is found of the files of two volumes.
 use Rattle.std.specs.Prelude.{ℕ, ◌+◌, ◌≤◌, Bool, true, false, List, [], ◌∷◌, ◌++◌, Option, Some, None, codes, count_by, decimal, flat_map, if◌then◌else◌}
 use Rattle.std.specs.List.{list_all}
-use Rattle.reserved_places.specs.declared.form.PlaceForm.{PlaceForm}
+use Rattle.vol_layout.specs.declared.form.PlaceForm.{PlaceForm}
 use Rattle.file_listings.specs.DosText.{Text, line}
 use Rattle.file_listings.specs.Steps.{shown_path}
 use Rattle.volume_compare.specs.Findings.{Told}

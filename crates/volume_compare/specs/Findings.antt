@@ -1,7 +1,7 @@
 -- What is found of the files of two volumes.
 use Rattle.std.specs.Prelude.{◌≡◌, ◌<◌, ◌⊎◌, ℕ, List, Option, Some, None, length, slice_index_or, sum_by}
 use Rattle.a2_device.specs.Device.{DeviceState}
-use Rattle.reserved_places.specs.declared.form.PlaceForm.{PlaceForm}
+use Rattle.vol_layout.specs.declared.form.PlaceForm.{PlaceForm}
 use Rattle.vol_format.specs.Directory.{Directory}
 use Rattle.vol_format.specs.Meaning.{Meaning}
 use Rattle.file_formats.specs.Files.{FileMeaning}

@@ -1,6 +1,6 @@
 -- How far two volumes are compared.
 use Rattle.std.specs.Prelude.{◌≡◌, ◌<◌, ◌≤◌, ◌+◌, ℕ, List, [], ◌∷◌, ◌++◌, Option, Result, Ok, Err, length, string_bytes}
-use Rattle.reserved_places.specs.declared.form.PlaceForm.{PlaceForm}
+use Rattle.vol_layout.specs.declared.form.PlaceForm.{PlaceForm}
 use Rattle.volume_compare.specs.CompareText.{told_lines, totals_of}
 use Rattle.vol_format.specs.Directory.{entries}
 use Rattle.volume_compare.specs.Findings.{AreToldAloneUpTo, Compared, Told, first_bytes, first_bytes_of, second_bytes, second_bytes_of}

@@ -16,8 +16,8 @@ use crate::telling::{tell_first, tell_second};
 use a2_device::Device;
 use file_cmds::read_volume;
 use file_formats::FileFormat;
-use reserved_places::PlaceForm;
 use std::alloc::Global;
+use vol_layout::PlaceForm;
 
 // Compares two volumes that were read.
 fn compare_read<D: Device, E: Device, F: FileFormat>(

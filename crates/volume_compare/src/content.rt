@@ -20,8 +20,8 @@ use a2_device::Device;
 use file_cmds::{FileText, VolumeFiles};
 use file_formats::{FileFormat, ListEntry, address_of};
 use pro_dir::ProDate;
-use reserved_places::PlaceForm;
 use std::alloc::{AllocError, Global};
+use vol_layout::PlaceForm;
 
 /// The kind of a binary file of DOS 3.3.
 const BINARY: u8 = 0x04;

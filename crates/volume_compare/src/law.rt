@@ -6,7 +6,7 @@ ghost use Rattle.volume_compare.specs.SameFiles.{AreSameVolumes};
 ghost use Rattle.volume_compare.specs.declared.report.Comparison.{Comparison};
 
 use file_formats::FileFormat;
-use reserved_places::PlaceForm;
+use vol_layout::PlaceForm;
 
 /// Of volumes that are told to be equal each file has a partner in the other, with the same content.
 pub fn equal_volumes_have_the_same_files<F: FileFormat>(format: &F, form: PlaceForm)

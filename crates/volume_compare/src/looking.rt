@@ -15,8 +15,8 @@ use crate::pairing::Pairs;
 use a2_device::Device;
 use file_cmds::VolumeFiles;
 use file_formats::FileFormat;
-use reserved_places::PlaceForm;
 use std::alloc::{AllocError, Global};
+use vol_layout::PlaceForm;
 
 /// Two volumes that were read, and which of their files are partners.
 #[derive(Drop)]

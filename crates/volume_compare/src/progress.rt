@@ -2,13 +2,13 @@
 ghost use Rattle.std.specs.Prelude.{◌≡◌, ◌<◌, ◌+◌, ◌-◌, ◌^◌, [], ℕ, OnOk, Some};
 ghost use Rattle.volume_compare.specs.CompareText.{AreAtMost};
 ghost use Rattle.volume_compare.specs.Progress.{IsProgress, IsSpent, IsTelling};
-ghost use Rattle.reserved_places.specs.declared.form.PlaceForm.{PlaceForm};
+ghost use Rattle.vol_layout.specs.declared.form.PlaceForm.{PlaceForm};
 
 use crate::error::CompareError;
 use crate::finding::{Found, Side};
 use crate::report::Report;
-use reserved_places::PlaceForm;
 use std::alloc::Global;
+use vol_layout::PlaceForm;
 
 /// How many bytes of the texts of both volumes may be read yet.
 #[derive(Clone, Copy, Debug)]

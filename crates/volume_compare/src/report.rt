@@ -31,9 +31,9 @@ ghost use Rattle.volume_compare.specs.CompareText.{
 use crate::finding::{Finding, Side};
 use crate::totals::Totals;
 use file_listings::ShownPath;
-use reserved_places::PlaceForm;
 use std::alloc::{AllocError, Global};
 use std::fmt;
+use vol_layout::PlaceForm;
 
 /// What is told of two volumes, and whether their files are equal.
 #[derive(Debug, Drop)]

@@ -1,7 +1,7 @@
 -- The path of a name below the folder of a directory.
 use Rattle.std.proofs.Common.{◌≡◌, ◌<◌, ◌+◌, ◌∙◌, ℕ, List, ◌++◌, Option, Some, None, length, refl, sym, ap, append_assoc, arith}
 use Rattle.std.specs.Prelude.{codes}
-use Rattle.reserved_places.specs.declared.form.PlaceForm.{PlaceForm}
+use Rattle.vol_layout.specs.declared.form.PlaceForm.{PlaceForm}
 use Rattle.vol_format.specs.Directory.{Directory, Listed, entry_of}
 use Rattle.host_folders.specs.HostNames.{Entry, host_name}
 use Rattle.host_folders.specs.declared.entry.Naming.{Naming}

@@ -4,7 +4,7 @@ use Rattle.std.specs.List.{All}
 use Rattle.a2_device.specs.Device.{DeviceState}
 use Rattle.vol_format.specs.Directory.{Directory, Listed, entries}
 use Rattle.vol_format.specs.Meaning.{Meaning}
-use Rattle.reserved_places.specs.declared.form.PlaceForm.{PlaceForm}
+use Rattle.vol_layout.specs.declared.form.PlaceForm.{PlaceForm}
 use Rattle.file_formats.specs.Files.{FileMeaning}
 use Rattle.file_formats.specs.Listing.{HasHeaderFault}
 use Rattle.file_cmds.specs.ReadingOn.{FailedBetween}

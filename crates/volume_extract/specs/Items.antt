@@ -3,7 +3,7 @@ use Rattle.std.specs.Prelude.{◌≡◌, ◌⊎◌, ◌<◌, ◌≤◌, ◌&&◌
 use Rattle.std.specs.Option.{option_eq}
 use Rattle.std.specs.Str.{bytes_eq}
 use Rattle.std.specs.declared.alloc.Global.{Global}
-use Rattle.reserved_places.specs.declared.form.PlaceForm.TheVariants.{Block}
+use Rattle.vol_layout.specs.declared.form.PlaceForm.TheVariants.{Block}
 use Rattle.vol_format.specs.Directory.{Directory, Listed, entry_of, is_directory}
 use Rattle.file_formats.specs.DosFiles.{number_at}
 use Rattle.file_formats.specs.declared.listing.ListEntry.{ListEntry}

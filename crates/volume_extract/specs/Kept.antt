@@ -1,6 +1,6 @@
 -- What is kept of the items of the first entries of a volume.
 use Rattle.std.specs.Prelude.{◌≡◌, ◌<◌, ◌≤◌, ℕ, false, List, Option, Some, None, length, slice_index_or}
-use Rattle.reserved_places.specs.declared.form.PlaceForm.{PlaceForm}
+use Rattle.vol_layout.specs.declared.form.PlaceForm.{PlaceForm}
 use Rattle.vol_format.specs.Directory.{Directory, Listed, entries, entry_of}
 use Rattle.host_folders.specs.HostNames.{Entry, host_name}
 use Rattle.host_folders.specs.declared.entry.Naming.{Naming}

@@ -1,6 +1,6 @@
 -- How an entry is named.
 use Rattle.std.specs.Prelude.{◌≡◌, ℕ, ◌+◌, ◌≤◌, Bool, List, [], ◌∷◌, ◌++◌, count_by, length}
-use Rattle.reserved_places.specs.declared.form.PlaceForm.{PlaceForm}
+use Rattle.vol_layout.specs.declared.form.PlaceForm.{PlaceForm}
 use Rattle.host_folders.specs.HostNames.{bare_name, folded}
 use Rattle.host_folders.specs.Laws.{IsEntry}
 use Rattle.host_folders.specs.declared.entry.Naming.{Naming}

@@ -1,7 +1,7 @@
 -- A volume whose files are put into a folder.
 use Rattle.std.specs.Prelude.{◌<◌, ◌⊎◌, ℕ, List, Option, IsTrue, length}
 use Rattle.a2_device.specs.Device.{DeviceState}
-use Rattle.reserved_places.specs.declared.form.PlaceForm.{PlaceForm}
+use Rattle.vol_layout.specs.declared.form.PlaceForm.{PlaceForm}
 use Rattle.vol_format.specs.Directory.{Directory, Listed}
 use Rattle.vol_format.specs.Meaning.{Meaning}
 use Rattle.file_formats.specs.Files.{FileMeaning}

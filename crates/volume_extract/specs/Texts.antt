@@ -1,6 +1,6 @@
 -- What is put into the folder of the readable form of a file.
 use Rattle.std.specs.Prelude.{◌≡◌, ◌⊎◌, ℕ, Bool, true, false, List, []}
-use Rattle.reserved_places.specs.declared.form.PlaceForm.{PlaceForm}
+use Rattle.vol_layout.specs.declared.form.PlaceForm.{PlaceForm}
 use Rattle.file_forms.specs.Found.{FileView}
 use Rattle.file_forms.specs.Readable.{IsReadable}
 use Rattle.file_forms.specs.Shown.{IsInForm}

@@ -24,9 +24,9 @@ use crate::tree_format::TreeFormat;
 use a2_device::Device;
 use file_cmds::{VolumeFiles, read_volume};
 use host_folders::Folder;
-use reserved_places::PlaceForm;
 use std::alloc::Global;
 use vol_format::Format;
+use vol_layout::PlaceForm;
 
 // Makes the item of the next entry.
 fn extract_next<D: Device, F: TreeFormat, O: Folder>(

@@ -16,8 +16,8 @@ use apple_single::FileInfo;
 use file_formats::FileFormat;
 use file_forms::{FileForm, FormError, FoundFile, in_form, readable};
 use host_folders::Stored;
-use reserved_places::PlaceForm;
 use std::alloc::{AllocError, Global};
+use vol_layout::PlaceForm;
 
 /// The type of programs in Integer BASIC.
 const INTEGER: u8 = 0xfa;

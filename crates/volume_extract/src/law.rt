@@ -2,7 +2,7 @@
 ghost use Rattle.std.specs.Prelude.{List};
 ghost use Rattle.a2_device.specs.Device.{DeviceState};
 ghost use Rattle.host_folders.specs.declared.entry.Naming.{Naming};
-ghost use Rattle.reserved_places.specs.declared.form.PlaceForm.{PlaceForm};
+ghost use Rattle.vol_layout.specs.declared.form.PlaceForm.{PlaceForm};
 ghost use Rattle.vol_format.specs.Directory.{Directory};
 ghost use Rattle.volume_extract.specs.Items.{Item};
 ghost use Rattle.volume_extract.specs.Laws.{HaveOwnPaths, HaveSafePaths, IsTextOfLines, TextsHaveOwnPaths};

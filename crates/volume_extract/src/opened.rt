@@ -5,8 +5,8 @@ ghost use Rattle.vol_format.specs.Directory.{entries, entry_of, is_directory};
 use crate::texts::Texts;
 use crate::tree_format::TreeFormat;
 use host_folders::Naming;
-use reserved_places::PlaceForm;
 use vol_format::Link;
+use vol_layout::PlaceForm;
 
 /// A volume that was read, and how its entries are named on the host.
 #[derive(Drop)]

@@ -18,8 +18,8 @@ use crate::tree_format::TreeFormat;
 use a2_device::Device;
 use file_cmds::VolumeFiles;
 use file_formats::{ListEntry, address_of};
-use reserved_places::PlaceForm;
 use std::alloc::{AllocError, Global};
+use vol_layout::PlaceForm;
 use volume_compare::is_binary;
 
 /// What was seen of an entry.

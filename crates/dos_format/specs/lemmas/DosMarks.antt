@@ -10,7 +10,7 @@ use Rattle.a2_device.specs.Device.{unit_at}
 use Rattle.dos_vtoc.specs.Vtoc.{HasGeometry, byte_of_place, is_free}
 use Rattle.dos_vtoc.proofs.Bits.{is_free-marked_same, is_free-marked_other, is_free-released_same, is_free-released_other}
 use Rattle.dos_catalog.specs.Entry.{entries_in}
-use Rattle.reserved_places.specs.Reserved.{is_reserved}
+use Rattle.vol_layout.specs.Reserved.{is_reserved}
 use Rattle.vol_format.specs.Directory.{Directory, is_system, map_place, remapped}
 use Rattle.dos_format.specs.Dos.{dos_free, dos_directory, DescribesDos, dos_with_free}
 use Rattle.dos_format.specs.lemmas.DosChain.{IsOnTrack, HaveSameLinks, sectors_on_track, catalog_same, entries_same}

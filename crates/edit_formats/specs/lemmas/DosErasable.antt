@@ -8,9 +8,9 @@ use Rattle.dos_format.specs.lemmas.DosLaws.{dos_is_readable}
 use Rattle.dos_format.specs.lemmas.DosMovable.{dos_is_movable}
 use Rattle.dos_format.specs.lemmas.DosWritable.{entry_on_track}
 use Rattle.vol_laws.specs.Entered.{HasSameRest}
-use Rattle.dos_entries.specs.Erasing.{HasErased}
-use Rattle.dos_entries.specs.Rewriting.{sector_of_entry}
-use Rattle.dos_entries.proofs.Erased.{file_erased}
+use Rattle.dos_format.specs.Erasing.{HasErased}
+use Rattle.dos_format.specs.Rewriting.{sector_of_entry}
+use Rattle.dos_format.proofs.Erased.{file_erased}
 use Rattle.vol_laws.specs.Writes.{Write, store_after}
 use Rattle.edit_formats.specs.DosErasing.{dos_erasing, dos_erasures}
 use Rattle.edit_formats.specs.Erasing.{IsErasing, IsErasable}

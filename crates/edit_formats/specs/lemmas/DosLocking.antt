@@ -4,7 +4,7 @@ use Rattle.std.proofs.lemmas.List.{length-set}
 use Rattle.dos_catalog.specs.Writes.{slot_offset}
 use Rattle.vol_format.specs.Directory.{entry_of}
 use Rattle.dos_format.specs.Dos.{dos_meaning}
-use Rattle.dos_entries.proofs.Rewrites.{kind_rewrites}
+use Rattle.dos_format.proofs.Rewrites.{kind_rewrites}
 use Rattle.edit_formats.specs.Edits.{IsLockable}
 use Rattle.edit_formats.specs.DosEdits.{dos_edits, dos_locked}
 

@@ -6,8 +6,8 @@ use Rattle.std.proofs.lemmas.Bool.{leb-true}
 use Rattle.std.proofs.lemmas.List.{length-map, length-replicate}
 use Rattle.dos_catalog.specs.Writes.{slot_offset}
 use Rattle.dos_format.specs.Dos.{dos_meaning}
-use Rattle.dos_entries.proofs.Rewrites.{name_rewrites}
-use Rattle.dos_entries.proofs.Windows.{length-with_bytes}
+use Rattle.dos_format.proofs.Rewrites.{name_rewrites}
+use Rattle.dos_format.proofs.Windows.{length-with_bytes}
 use Rattle.file_formats.specs.DosFiles.{dos_name}
 use Rattle.edit_formats.specs.Names.{IsNamable}
 use Rattle.edit_formats.specs.DosNames.{dos_names, is_dos_name, is_first_byte, is_name_byte}

@@ -17,13 +17,13 @@ use Rattle.pro_format.specs.lemmas.ProDescribed.{block_below}
 use Rattle.pro_format.specs.lemmas.ProLaws.{total_is}
 use Rattle.pro_format.specs.lemmas.ProMarks.{places_is, map_block, map_place-pro}
 use Rattle.vol_laws.specs.Entered.{HasSameRest}
-use Rattle.pro_entries.specs.Slots.{IsSlotOf, HasOneEntryLess, HasSameDirectory}
-use Rattle.pro_entries.proofs.EntryNumbers.{number_inside, entry_is}
-use Rattle.pro_entries.proofs.EntrySlots.{HasSlot, each_slot_of}
-use Rattle.pro_entries.proofs.ErasedEntries.{pro_leaves}
-use Rattle.pro_entries.proofs.FileCounts.{pro_counts}
-use Rattle.pro_entries.proofs.Owners.{own_key}
-use Rattle.pro_entries.proofs.SlotLaws.{slot_inside}
+use Rattle.pro_format.specs.Slots.{IsSlotOf, HasOneEntryLess, HasSameDirectory}
+use Rattle.pro_format.proofs.EntryNumbers.{number_inside, entry_is}
+use Rattle.pro_format.proofs.EntrySlots.{HasSlot, each_slot_of}
+use Rattle.pro_format.proofs.ErasedEntries.{pro_leaves}
+use Rattle.pro_format.proofs.FileCounts.{pro_counts}
+use Rattle.pro_format.proofs.Owners.{own_key}
+use Rattle.pro_format.proofs.SlotLaws.{slot_inside}
 use Rattle.vol_laws.specs.Writes.{Write, store_after}
 use Rattle.edit_formats.specs.Erasing.{HasWholeUnits, IsErasing, IsErasable}
 use Rattle.edit_formats.specs.declared.counting.FileCount.TheVariants.{Less}

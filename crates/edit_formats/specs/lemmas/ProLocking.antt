@@ -4,9 +4,9 @@ use Rattle.std.proofs.lemmas.List.{length-set}
 use Rattle.pro_dir.specs.Writes.{slot_offset}
 use Rattle.vol_format.specs.Directory.{entry_of}
 use Rattle.pro_format.specs.Pro.{pro_meaning}
-use Rattle.pro_entries.specs.Rewritten.{access_at, with_access}
-use Rattle.pro_entries.proofs.AccessBits.{is_access}
-use Rattle.pro_entries.proofs.Rewrites.{entry_rewritten}
+use Rattle.pro_format.specs.Rewritten.{access_at, with_access}
+use Rattle.pro_format.proofs.AccessBits.{is_access}
+use Rattle.pro_format.proofs.Rewrites.{entry_rewritten}
 use Rattle.edit_formats.specs.Edits.{IsLockable}
 use Rattle.edit_formats.specs.ProEdits.{pro_edits, pro_locked}
 

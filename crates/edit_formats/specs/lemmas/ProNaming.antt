@@ -11,10 +11,10 @@ use Rattle.pro_dir.specs.Writes.{slot_offset, padded}
 use Rattle.vol_format.specs.Directory.{entry_of}
 use Rattle.pro_format.specs.Pro.{pro_meaning, DescribesPro}
 use Rattle.vol_laws.specs.Inserted.{rewritten}
-use Rattle.pro_entries.specs.Rewritten.{renamed, with_name}
-use Rattle.pro_entries.proofs.Bytes.{length-with_bytes}
-use Rattle.pro_entries.proofs.Names.{is_renaming}
-use Rattle.pro_entries.proofs.Rewrites.{entry_rewritten}
+use Rattle.pro_format.specs.Rewritten.{renamed, with_name}
+use Rattle.pro_format.proofs.Bytes.{length-with_bytes}
+use Rattle.pro_format.proofs.Names.{is_renaming}
+use Rattle.pro_format.proofs.Rewrites.{entry_rewritten}
 use Rattle.edit_formats.specs.Names.{IsNamable, name_written}
 use Rattle.edit_formats.specs.ProNames.{pro_names, pro_name, is_pro_name, is_letter, is_name_byte}
 

@@ -6,7 +6,7 @@ use Rattle.std.proofs.lemmas.Bool.Decides.{nat_tests}
 use Rattle.std.proofs.lemmas.List.Folds.{list_any_at}
 use Rattle.std.proofs.lemmas.List.FromFn.{length-map-range_with_len, get_or-map-range_with_len}
 use Rattle.pro_dir.specs.Volume.{Directory as Tree, map_blocks, map_first, total_blocks}
-use Rattle.reserved_places.specs.Reserved.{is_reserved}
+use Rattle.vol_layout.specs.Reserved.{is_reserved}
 use Rattle.pro_format.specs.Pro.{is_one_of, is_fixed, is_pro_system, pro_system}
 
 pub one_of-has : (blocks : List ℕ) (place : ℕ) → Contains blocks place → is_one_of blocks place ≡ true

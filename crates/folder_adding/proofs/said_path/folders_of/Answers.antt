@@ -3,8 +3,8 @@ use Rattle.std.proofs.lemmas.List.{map_push}
 use Rattle.folder_adding.specs.HostPaths.{Text}
 use Rattle.folder_adding.proofs.Looked.{not_there, there}
 use Rattle.folder_adding.proofs.PathParts.{AreRead, all_read, none_read, one_read, unsaid}
-use Rattle.host_entries.specs.HostEntries.{SaysFolder}
-use Rattle.reserved_places.specs.declared.form.PlaceForm.TheVariants.{Block}
+use Rattle.host_folders.specs.HostEntries.{SaysFolder}
+use Rattle.vol_layout.specs.declared.form.PlaceForm.TheVariants.{Block}
 use Rattle.folder_adding.proofs.said_path.folders_of.Goals as goal
 
 pub loop-folder-init : goal.loop-folder-init

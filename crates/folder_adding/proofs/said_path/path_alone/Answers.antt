@@ -1,5 +1,5 @@
-use Rattle.host_entries.specs.HostEntries.{FileView, SaysFile, file_view}
-use Rattle.reserved_places.specs.declared.form.PlaceForm.TheVariants.{Sector}
+use Rattle.host_folders.specs.HostEntries.{FileView, SaysFile, file_view}
+use Rattle.vol_layout.specs.declared.form.PlaceForm.TheVariants.{Sector}
 use Rattle.folder_adding.proofs.Looked.{not_there}
 use Rattle.folder_adding.proofs.said_path.path_alone.Goals as goal
 

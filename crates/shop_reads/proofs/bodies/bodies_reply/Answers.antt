@@ -2,7 +2,7 @@ use Rattle.std.proofs.Common.{◌≡◌, ◌∙◌, List, ap, arith, get_or, inl
 use Rattle.std.specs.Prelude.{Contains, IsTrue}
 use Rattle.a2_device.specs.declared.part.Part.{Part}
 use Rattle.file_cmds.specs.lemmas.Reading.{failed_at_among, none_read, one_reading}
-use Rattle.reserved_places.specs.declared.form.PlaceForm.{PlaceForm}
+use Rattle.vol_layout.specs.declared.form.PlaceForm.{PlaceForm}
 use Rattle.vol_check.specs.Judgement.{AreFileFaults, IfAccepted, IfRefused, judged}
 use Rattle.vol_check.specs.Told.{told_of, volume_of}
 use Rattle.vol_check.specs.declared.checked.Checked.{Checked}

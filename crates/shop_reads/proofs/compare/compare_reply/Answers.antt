@@ -1,5 +1,5 @@
 use Rattle.std.proofs.Common.{inl, inr, subst}
-use Rattle.reserved_places.specs.declared.form.PlaceForm.{PlaceForm}
+use Rattle.vol_layout.specs.declared.form.PlaceForm.{PlaceForm}
 use Rattle.shop_reads.specs.CompareReply.{IsCompared}
 use Rattle.shop_reads.proofs.Compared.{compared_told, other_honest}
 use Rattle.shop_reads.proofs.compare.compare_reply.Goals as goal

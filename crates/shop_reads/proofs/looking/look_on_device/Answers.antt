@@ -1,6 +1,6 @@
 use Rattle.std.proofs.Common.{inl, inr, ⊎_elim, option_map, subst}
 use Rattle.shop_jobs.specs.Job.{look_view}
-use Rattle.reserved_places.specs.declared.form.PlaceForm.{PlaceForm}
+use Rattle.vol_layout.specs.declared.form.PlaceForm.{PlaceForm}
 use Rattle.shop_reads.specs.Reserving.{ReservesNamed}
 use Rattle.shop_reads.specs.GoingOn.{going_of}
 use Rattle.shop_reads.proofs.Readings.{not_failed}

@@ -1,5 +1,0 @@
-use Rattle.dos_entries.specs.lemmas.FileFree.{dos_is_file_free}
-use Rattle.dos_entries.proofs.formats.dos_units_mean_the_same_in_every_file.Goals as goal
-
-pub returns : goal.returns
-returns c = dos_is_file_free

@@ -1,0 +1,52 @@
+// The free slot in which a new directory is entered.
+ghost use Rattle.std.specs.Prelude.{◌≡◌, ◌≢◌, true, Err, IfErr, IfOk, IsTrue};
+ghost use Rattle.a2_device.specs.Device.{OnlyReads};
+ghost use Rattle.vol_format.specs.Directory.{Directory};
+ghost use Rattle.vol_format.specs.Fits.{Fits};
+ghost use Rattle.edit_formats.specs.Refusal.{told_device};
+ghost use Rattle.edit_formats.specs.Saves.{IsSlotWithin};
+ghost use Rattle.file_edits.specs.DirectorySlots.{slot_or_refusal, IsSlotRefusal, IsSlotTold};
+
+use a2_device::Device;
+use edit_formats::{EditError, SavableFormat, Slot, Target};
+use std::alloc::Allocator;
+
+// The slot that a path leads to.
+fn slot_or_refusal(target: Target) -> Result<Slot, EditError>
+    ensures { result ≡ slot_or_refusal target }
+{
+    match target {
+        Target::NoDirectory => Err(EditError::NotFound),
+        Target::NoName => Err(EditError::Name),
+        Target::InUse => Err(EditError::Exists),
+        Target::Full => Err(EditError::DirFull),
+        Target::At(slot) => Ok(slot),
+    }
+}
+
+/// The first free slot of the directory to which a path leads.
+pub(crate) fn free_slot<D: Device, F: SavableFormat, A: Allocator + Copy>(
+    alloc: A,
+    device: &mut D,
+    format: &F,
+    path: &[u8],
+) -> Result<Slot, EditError>
+    requires fits { Fits (F.meaning format.now) (D.state device.old) }
+
+    // every device
+    ensures device { OnlyReads (told_device result) (D.state device.old) (D.state device.new) }
+    ensures refused { IfErr result IsSlotRefusal }
+    ensures inside { IfOk result (IsSlotWithin (F.meaning format.now) (D.state device.old).places) }
+    ensures name { IfOk result (λ slot. (F.saves format.now).may_have path.now ≡ true) }
+
+    // an honest device that has the directory
+    ensures told { (directory : Directory) → IsTrue (D.state device.old).honest
+        → (F.meaning format.now).Describes (D.state device.old).store directory
+        → IsSlotTold (F.saves format.now) (D.state device.old).store path.now result }
+    ensures described { (directory : Directory) → IsTrue (D.state device.old).honest
+        → (F.meaning format.now).Describes (D.state device.old).store directory
+        → result ≢ Err EditError.Check }
+{
+    let target = format.target(alloc, device, path)?;
+    slot_or_refusal(target)
+}

@@ -1,5 +1,0 @@
-use Rattle.host_entries.proofs.One.{one_file}
-use Rattle.host_entries.proofs.law.a_host_name_says_one_file.Goals as goal
-
-pub returns : goal.returns
-returns c = one_file

@@ -1,5 +1,0 @@
-use Rattle.host_entries.proofs.One.{one_folder}
-use Rattle.host_entries.proofs.law.a_host_name_says_one_folder.Goals as goal
-
-pub returns : goal.returns
-returns c = one_folder

@@ -1,9 +1,0 @@
-use Rattle.std.proofs.Common.{length}
-use Rattle.host_entries.proofs.SoFar.{SoFar}
-use Rattle.host_entries.proofs.stem.bytes_of.Given as goal
-
-abbrev pub invariant-loop-byte : goal.invariant-loop-byte
-invariant-loop-byte g l = SoFar l.form l.text l.bytes.items l.rest
-
-abbrev pub decreases-loop-byte : goal.decreases-loop-byte
-decreases-loop-byte g l = length l.rest

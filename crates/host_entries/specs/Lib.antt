@@ -1,3 +1,0 @@
-pub mod HostEntries
-pub mod Reading
-pub mod Laws

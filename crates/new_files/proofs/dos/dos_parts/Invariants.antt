@@ -1,8 +1,0 @@
-use Rattle.std.proofs.Common.{◌≡◌}
-use Rattle.std.specs.Prelude.{flat_map}
-use Rattle.std.specs.List.{range_with_len}
-use Rattle.new_files.specs.Parts.{list_with_bodies}
-use Rattle.new_files.proofs.dos.dos_parts.Given as goal
-
-abbrev pub invariant-loop-number : goal.invariant-loop-number
-invariant-loop-number g l = l.parts.items ≡ flat_map (list_with_bodies l.stored) (range_with_len 0 l.number)

@@ -1,8 +1,0 @@
-use Rattle.new_files.proofs.Bodies.{plan_placed, plan_unit}
-use Rattle.new_files.proofs.planning.a_plan_with_units_has_its_parts.Goals as goal
-
-pub returns-clause-parts : goal.returns-clause-parts
-returns-clause-parts c = plan_placed
-
-pub returns-clause-units : goal.returns-clause-units
-returns-clause-units c = plan_unit

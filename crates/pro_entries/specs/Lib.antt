@@ -1,4 +1,0 @@
-pub mod Rewritten
-pub mod Slots
-pub mod Filled
-pub mod Plan

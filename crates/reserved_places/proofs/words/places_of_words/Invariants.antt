@@ -1,6 +1,0 @@
-use Rattle.std.proofs.Common.{map, take}
-use Rattle.reserved_places.specs.Words.{ArePlaces}
-use Rattle.reserved_places.proofs.words.places_of_words.Given as goal
-
-abbrev pub invariant-loop-word : goal.invariant-loop-word
-invariant-loop-word g l = ArePlaces l.form (take l.word-index (map (λ w. w.now) l.words)) l.places.items

@@ -1,3 +1,0 @@
-mod Walked
-mod ProTargets
-mod PathStarts

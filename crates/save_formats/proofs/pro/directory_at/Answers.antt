@@ -1,4 +1,0 @@
-use Rattle.save_formats.proofs.pro.directory_at.Goals as goal
-
-pub returns-in-Err-clause-described : goal.returns-in-Err-clause-described
-returns-in-Err-clause-described g c = λ tree honest describes is. c.in-Err.ensures.described tree honest describes (cc)

@@ -1,4 +1,0 @@
-pub mod Saves
-pub mod DosSaves
-pub mod ProSaves
-pub mod lemmas

@@ -1,2 +1,0 @@
-pub mod DosSavable
-pub mod ProSavable

@@ -1,5 +1,0 @@
-use Rattle.std.proofs.Common.{arith}
-use Rattle.tests_formats.proofs.pro_formats.pointed.Goals as goal
-
-pub put_pointer-requires-clause-place : goal.put_pointer-requires-clause-place
-put_pointer-requires-clause-place c = (8192, ((omega arith, omega arith), omega arith))

@@ -1,3 +1,0 @@
-mod Trials
-mod MadePlans
-mod Resumes
