@@ -1,4 +1,6 @@
 // What ends the line of stages early.
+ghost use Rattle.std.specs.Prelude.{◌≡◌, ◌↔◌};
+ghost use Rattle.std.specs.IoError.{error_kind};
 ghost use Rattle.shop_replies.specs.Reading.{IsReadFailure};
 
 use crate::words::WORDS_REFUSED;
@@ -50,9 +52,10 @@ fn compares(job: &Job) -> bool {
     )
 }
 
-/// Why a call of the system failed: for want of memory, or else.
+/// Why a call of the system failed: for want of memory exactly where the system says so, and else in the input.
 pub fn failure_of(error: &io::Error) -> Failure
-    ensures { IsReadFailure result }
+    ensures read { IsReadFailure result }
+    ensures memory { (result ≡ Failure.Memory) ↔ (error_kind error.now ≡ ErrorKind.OutOfMemory) }
 {
     if error.kind() == ErrorKind::OutOfMemory {
         Failure::Memory
