@@ -58,7 +58,7 @@ fn each_fault_is_told(rt: HostRuntime) -> Result<(), Fail> {
     assert!(rt; has_fault(&mut file, 12, 3, ContainerFault::Format));
     assert!(rt; has_fault(&mut file, 24, 63, ContainerFault::Data));
     assert!(rt; has_fault(&mut file, 29, 0x2f, ContainerFault::Length));
-    assert!(rt; container_of(&file[..63]) == Err(ContainerFault::Header));
+    assert!(rt; container_of(&HEADER[..63]) == Err(ContainerFault::Header));
     Ok(())
 }
 
@@ -100,6 +100,11 @@ fn a_payload_is_taken_out_of_its_shell_and_put_back(rt: HostRuntime) -> Result<(
     let other = vec![in rt.alloc(); 2; 143_360]?;
     let wanted = gapped(rt.alloc(), 2)?;
     assert!(rt; shell.around(rt.alloc(), &other)?.as_slice() == wanted.as_slice());
+    Ok(())
+}
+
+#[test]
+fn a_payload_is_kept_alone(rt: HostRuntime) -> Result<(), Fail> {
     let mut file = gapped(rt.alloc(), 3)?;
     let container = container_of(&file)?;
     keep_payload(&mut file, container);

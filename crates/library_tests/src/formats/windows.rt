@@ -1,10 +1,15 @@
 //! A part of a file as a file.
+ghost use Rattle.std.specs.Prelude.{◌≡◌, IfOk};
+
 use a2_media::{Extent, FileFailure, MemoryFile, PositionedFile, Window};
 use std::alloc::{AllocError, Global};
 use std::test::Fail;
 
 /// Four bytes of a file of eight, from the third on.
-fn window(alloc: Global) -> Result<Window<MemoryFile>, AllocError> {
+fn window(alloc: Global) -> Result<Window<MemoryFile>, AllocError>
+    ensures size { IfOk result (λ window. window.extent.size ≡ 4) }
+    ensures standing { IfOk result (λ window. (⟦<MemoryFile as PositionedFile>⟧.state window.file).standing ≡ 0) }
+{
     let file = MemoryFile::new(Vec::from_slice(alloc, b"abcdefgh")?);
     Ok(Window::new(file, Extent { start: 2, size: 4 }))
 }
