@@ -55,7 +55,8 @@ fn compares(job: &Job) -> bool {
 /// Why a call of the system failed: for want of memory exactly where the system says so, and else in the input.
 pub fn failure_of(error: &io::Error) -> Failure
     ensures read { IsReadFailure result }
-    ensures memory { (result ≡ Failure.Memory) ↔ (error_kind error.now ≡ ErrorKind.OutOfMemory) }
+    ensures memory { (result ≡ Failure.Memory)
+        ↔ (error_kind error.now ≡ ErrorKind.OutOfMemory) }
 {
     if error.kind() == ErrorKind::OutOfMemory {
         Failure::Memory
