@@ -52,7 +52,8 @@ fn compares(job: &Job) -> bool {
     )
 }
 
-/// Why a call of the system failed: for want of memory exactly where the system says so, and else in the input.
+/// Why a call of the system failed: for want of memory exactly where the system says so,
+/// and else in the input.
 pub fn failure_of(error: &io::Error) -> Failure
     ensures read { IsReadFailure result }
     ensures memory { (result ≡ Failure.Memory)
