@@ -1,6 +1,5 @@
 # make            builds the proved program to ./a2shop
-# make demo       builds it; identifies, lists, compares, draws, checks, plans and optimizes a DOS sample, in place too, and lists it again, from disk bytes too;
-#                 takes all files out of a ProDOS sample, saves a file to a DOS one and reads it back; locks, unlocks, renames and deletes files; checks, plans and optimizes a ProDOS sample, lists it before and after, and verifies the plan
+# make demo       builds it, and runs each of its commands on samples
 # make test       runs the gate (the proofs from nothing, the must-fail edits), all tests, and the end-to-end tests
 # make assure     tries the further edits, crates/*/assure, that the prover must refuse; each run of the gate tries a share; with
 #                 CRATES="NAME .." all edits of these crates
@@ -26,7 +25,7 @@ demo: a2shop
 	./a2shop compare samples/hello.dsk samples/hello.po --all
 	./a2shop map samples/hello.dsk
 	./a2shop check samples/hello.dsk --fs dos --order dos
-	rm -rf demo.files && ./a2shop extract samples/work.po --into demo.files
+	./a2shop survey samples
 	./a2shop read samples/hello.dsk HELLO --fs dos --order dos | od -A n -t x1
 	./a2shop save samples/hello.dsk NOTE --fs dos --order dos --from samples/README.md --type B --aux 768 --out demo.dsk
 	./a2shop catalog demo.dsk --fs dos --order dos
@@ -45,6 +44,10 @@ demo: a2shop
 	./a2shop optimize samples/hello.dsk --fs dos --order dos --out demo.dsk
 	./a2shop catalog demo.dsk --fs dos --order dos
 	./a2shop read demo.dsk HELLO --fs dos --order dos | od -A n -t x1
+	./a2shop optimize samples/hello.dsk --fs dos --order dos --stop-after 1 --out demo.dsk
+	./a2shop check demo.dsk --fs dos --order dos
+	./a2shop reclaim demo.dsk --out demo.dsk
+	./a2shop compare samples/hello.dsk demo.dsk
 	cp samples/hello.dsk demo.dsk
 	./a2shop optimize demo.dsk --fs dos --order dos --in-place
 	./a2shop check demo.dsk --fs dos --order dos
@@ -60,7 +63,16 @@ demo: a2shop
 	./a2shop optimize samples/work.po --fs prodos --order prodos --out demo.po
 	./a2shop catalog demo.po --fs prodos --order prodos
 	./a2shop check demo.po --fs prodos --order prodos
-	rm -rf demo.dsk demo.nib demo.po demo.cert demo.files
+	rm -rf demo.files demo.new demo.2mg demo.out
+	./a2shop extract samples/work.po --into demo.files
+	./a2shop create --fs prodos --out demo.new
+	./a2shop mkdir demo.new WORK --out demo.new
+	./a2shop add demo.new --from demo.files --into WORK --out demo.new
+	./a2shop list demo.new
+	./a2shop wrap demo.new --order prodos --out demo.2mg
+	./a2shop unwrap demo.2mg --out demo.out
+	cmp demo.new demo.out
+	rm -rf demo.dsk demo.nib demo.po demo.cert demo.files demo.new demo.2mg demo.out
 
 test:
 	bash tests/run
