@@ -1,9 +1,9 @@
 #!/usr/bin/env python3
 """Proves each crate of the tree in the current folder from nothing, and tries the edits in their must-fail/, on as many processors as
-RT_JOBS says, the edits of a crate on several. What becomes of an edit is printed as soon as it is known, which `rt ci` does at its end
-alone, and `rt must-fail` tries one edit behind the other. Both the proofs and the judgement of an edit are the kit's own: this orders
-them. The last line is 'N passed, M failed'. Where the kit's rt is another one, without the functions named below, the status is 3 and
-nothing is done."""
+RT_JOBS says, the edits of a crate on several. What becomes of them is printed for some ten edits at a time, where `rt ci` prints all of
+it at its end, and `rt must-fail` tries one edit behind the other. Both the proofs and the judgement of an edit are the kit's own: this
+orders them. The last line is 'N passed, M failed'. Where the kit's rt is another one, without the functions named below, the status is 3
+and nothing is done."""
 import copy
 import importlib.machinery
 import importlib.util
@@ -17,6 +17,7 @@ ONE_JOB = ["--jobs", "1"]
 TOGETHER = 10
 OF_RT = "checked edits_of in_lanes must_fail need say".split()
 OF_RTLIB = "crates_below guarded".split()
+OF_CRATE = "below build_rlib count".split()
 
 
 def kit_of(path):
@@ -91,7 +92,8 @@ def tasks_of(kit, crates, room):
 
 def main():
     kit = kit_of(os.path.realpath(shutil.which("rt")))
-    if not all(hasattr(kit, it) for it in OF_RT) or not all(hasattr(kit.rtlib, it) for it in OF_RTLIB):
+    wanted = [(kit, OF_RT), (kit.rtlib, OF_RTLIB), (kit.rtlib.Crate, OF_CRATE)]
+    if not all(hasattr(whose, it) for whose, names in wanted for it in names):
         return 3
     kit.rtlib.guarded()
     crates = sorted(kit.rtlib.crates_below(os.getcwd()), key=lambda it: len(it.below()))
