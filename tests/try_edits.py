@@ -1,9 +1,9 @@
 #!/usr/bin/env python3
 """Proves each crate of the tree in the current folder from nothing, and tries the edits in their must-fail/, on as many processors as
-RT_JOBS says, the edits of a crate on several. What becomes of them is printed for some ten edits at a time, where `rt ci` prints all of
-it at its end, and `rt must-fail` tries one edit behind the other. Both the proofs and the judgement of an edit are the kit's own: this
-orders them. The last line is 'N passed, M failed'. Where the kit's rt is another one, without the functions named below, the status is 3
-and nothing is done."""
+RT_JOBS says, the edits of a crate on several. It is for those versions of the kit whose `rt` keeps nothing of what it tried: there `rt ci`
+and `rt must-fail` try the edits of a crate one behind the other, and `rt ci` tells of them at its end alone, where this tells of some ten
+edits at a time. Both the proofs and the judgement of an edit are the kit's own: this orders them. The last line is 'N passed, M failed'.
+Where the kit keeps what it tried, or its rt is without the functions named below, the status is 3 and nothing is done."""
 import copy
 import importlib.machinery
 import importlib.util
@@ -93,7 +93,8 @@ def tasks_of(kit, crates, room):
 def main():
     kit = kit_of(os.path.realpath(shutil.which("rt")))
     wanted = [(kit, OF_RT), (kit.rtlib, OF_RTLIB), (kit.rtlib.Crate, OF_CRATE)]
-    if not all(hasattr(whose, it) for whose, names in wanted for it in names):
+    # A kit that keeps what it tried has the edits of a crate tried on several processors itself, and its verdicts are more than yes and no.
+    if hasattr(kit, "Kept") or not all(hasattr(whose, it) for whose, names in wanted for it in names):
         return 3
     kit.rtlib.guarded()
     crates = sorted(kit.rtlib.crates_below(os.getcwd()), key=lambda it: len(it.below()))
