@@ -93,7 +93,7 @@ def tasks_of(kit, crates, room):
 def main():
     kit = kit_of(os.path.realpath(shutil.which("rt")))
     wanted = [(kit, OF_RT), (kit.rtlib, OF_RTLIB), (kit.rtlib.Crate, OF_CRATE)]
-    # A kit that keeps what it tried has the edits of a crate tried on several processors itself, and its verdicts are more than yes and no.
+    # A kit that keeps what it tried spreads the edits of a crate over the processors itself, and its verdicts are no plain yes and no.
     if hasattr(kit, "Kept") or not all(hasattr(whose, it) for whose, names in wanted for it in names):
         return 3
     kit.rtlib.guarded()
