@@ -1,7 +1,7 @@
 #!/usr/bin/env python3
 """Says what the pages of the repository get wrong, a line for each: a crate without a page; an example of a page that does not stand,
 line by line, in the tests that the page names; a file of a crate that a page names and that is not there; a paragraph or a cell of a
-table that is too long to be read; and a wrong body whose old text is not there.
+table that is too long to be read; a line of code, or of a definition, that is; and a wrong body whose old text is not there.
 
 pages.py TOP
 """
@@ -19,6 +19,8 @@ BEGINS = re.compile(r"#|\||- |\d+\. ")
 TICKED = re.compile(r"`([^`\n]+)`")
 # The most characters of a paragraph, or of a cell of a table.
 MOST = 1000
+# The most columns of a line of a crate's sources, and of its definitions but for what they import.
+MOST_COLUMNS = 120
 
 
 def has_lines(source, example):
@@ -72,6 +74,17 @@ def long_pieces(page, piece):
             yield f"{page.name}: {len(text)} characters in one piece: {text.strip()[:60]}.."
 
 
+def long_lines(crates):
+    """The lines of the sources and of the definitions that are wider than they may be. What only proves is left out."""
+    sources = list(crates.glob("*/src/**/*.rt"))
+    definitions = [path for path in crates.glob("*/specs/**/*.antt") if "lemmas" not in path.parts]
+    for path in sorted(sources + definitions):
+        for number, line in enumerate(path.read_text(encoding="utf-8").split("\n"), start=1):
+            is_import = path.suffix == ".antt" and line.startswith(("use ", "pub use "))
+            if len(line) > MOST_COLUMNS and not is_import:
+                yield f"{path.relative_to(crates)}:{number}: {len(line)} columns"
+
+
 def lost_edits(crates):
     """A line for each wrong body of which an old text does not stand just once in the file that it names: it would never be tried."""
     for edit in sorted([*crates.glob("*/assure/*.edit"), *crates.glob("*/must-fail/*.edit")]):
@@ -105,7 +118,7 @@ def main(top):
         for piece in pieces(page.read_text(encoding="utf-8")):
             wrong += lost_files(crates, names, page, piece)
             wrong += [] if page.name == "DECISIONS.md" else long_pieces(page, piece)
-    wrong += lost_edits(crates)
+    wrong += [*long_lines(crates), *lost_edits(crates)]
     print("".join(f"{line}\n" for line in wrong), end="")
 
 

@@ -4,8 +4,8 @@ use Rattle.a2_device.specs.declared.order.Order.{Order}
 use Rattle.a2_device.specs.declared.device.DeviceError.{DeviceError}
 use Rattle.a2_device.specs.declared.device.DeviceError.TheVariants.{Spent}
 
--- the image that the units of a device lie in: the order of its sectors, how many bytes it has, and each of them that no
--- write may change
+-- the image that the units of a device lie in: the order of its sectors, how many bytes it has, and each of them that
+-- no write may change
 pub record ImageForm : Type 0 where
   pub order : Order
   pub bytes : ℕ
@@ -113,7 +113,8 @@ abbrev pub MeetsWriteFailure : ℕ → List ℕ → DeviceState → DeviceState 
 MeetsWriteFailure place unit old new =
     (took : Bool) × UsesWrite old.write_failures took new.write_failures
     × ((new.passes ≡ old.passes) ⊎ (new.passes ≡ one_fewer old.passes))
-    × (new ≡ record (if took then written place unit old else (record old { writes = old.writes + 1; passes = new.passes })) {
+    × (new ≡ record (if took then written place unit old
+    else (record old { writes = old.writes + 1; passes = new.passes })) {
       faults = counted old.faults;
       write_failures = new.write_failures;
     })

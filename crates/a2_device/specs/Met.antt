@@ -9,7 +9,8 @@ use Rattle.a2_device.specs.Writes.{Writes}
 
 -- A read where one was ordered to fail: a fault of which the device within is not asked, and the order is met. A read
 -- where none was is passed on. What is ordered of writes stays.
-pub record ReadsToOrder {D T : Type 0} (state : D → DeviceState) (old new : FaultDevice D) (result : Result T DeviceError) :
+pub record ReadsToOrder {D T : Type 0} (state : D → DeviceState) (old new : FaultDevice D)
+    (result : Result T DeviceError) :
     Type 0 where
   pub ordered : old.read_order ≡ true → result ≡ Err Fault
   pub met : old.read_order ≡ true → new ≡ record old { read_order = false; faults = new.faults }

@@ -1,4 +1,5 @@
--- What the order of its sectors says of an image: the lengths that it may have, its blocks, and where a sector of a track stands.
+-- What the order of its sectors says of an image: the lengths that it may have, its blocks, and where a sector of a
+-- track stands.
 use Rattle.std.specs.Prelude.{◌≡◌, ℕ, ◌*◌, ◌/◌, ◌%◌, ◌≤◌}
 use Rattle.a2_device.specs.declared.order.Order.{Order}
 use Rattle.a2_device.specs.declared.order.Order.TheVariants.{Dos, Prodos, Nibble}

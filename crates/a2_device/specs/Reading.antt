@@ -20,7 +20,8 @@ unread device = record {
 }
 
 -- one more
-pub then_reads : (failed : Bool) (old mid new : DeviceState) → OnlyReads false old mid → OnlyReads failed mid new → OnlyReads failed old new
+pub then_reads : (failed : Bool) (old mid new : DeviceState) → OnlyReads false old mid → OnlyReads failed mid new
+    → OnlyReads failed old new
 then_reads failed old mid new first next = record {
   same = record {
     places = next.same.places ∙ first.same.places;
@@ -31,7 +32,8 @@ then_reads failed old mid new first next = record {
   };
   faults = next.faults ∙ ap (λ n. if failed then counted n else n) first.faults;
   kept = λ honest ok. next.kept (still honest) ok ∙ first.kept honest refl;
-  met = λ honest failed'. subst (λ d. (place : ℕ) × FailsRead place d new) (first.kept honest refl) (next.met (still honest) failed');
+  met = λ honest failed'. subst (λ d. (place : ℕ) × FailsRead place d new) (first.kept honest refl)
+      (next.met (still honest) failed');
 }
   where
     still : IsTrue old.honest → IsTrue mid.honest

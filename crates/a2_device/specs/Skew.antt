@@ -1,4 +1,5 @@
--- How DOS and ProDOS number the sectors of a track (Beneath Apple DOS, chapter 3; ProDOS 8 Technical Reference Manual, Appendix B).
+-- How DOS and ProDOS number the sectors of a track (Beneath Apple DOS, chapter 3; ProDOS 8 Technical Reference Manual,
+-- Appendix B).
 use Rattle.std.specs.Prelude.{ℕ, List, [], ◌∷◌, slice_index}
 
 -- the physical sector of each logical sector of DOS

@@ -13,7 +13,8 @@ is_device_stop (Err Device) = true
 is_device_stop result = false
 
 -- a call that hands on why it ended tells the device's failure alike
-pub same_stop : {T : Type 0} (result : Result T Stop) (stop : Stop) → IsErrAnd result (λ e. e ≡ stop) → is_device_stop result ≡ is_stop_of_device stop
+pub same_stop : {T : Type 0} (result : Result T Stop) (stop : Stop) → IsErrAnd result (λ e. e ≡ stop)
+    → is_device_stop result ≡ is_stop_of_device stop
 same_stop (Ok value) stop is = absurd is
 same_stop (Err Device) stop is = ap is_stop_of_device is
 same_stop (Err Memory) stop is = ap is_stop_of_device is

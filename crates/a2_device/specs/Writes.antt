@@ -15,7 +15,8 @@ pub record Reads {T : Type 0} (place : ℕ) (unit : List ℕ) (result : Result T
   pub failed : IsTrue old.honest → IsErr result → FailsRead place old new
 
 -- the clauses of a write of a unit at a place
-pub record Writes {T : Type 0} (place : ℕ) (unit : List ℕ) (result : Result T DeviceError) (old new : DeviceState) : Type 0 where
+pub record Writes {T : Type 0} (place : ℕ) (unit : List ℕ) (result : Result T DeviceError)
+    (old new : DeviceState) : Type 0 where
   pub same : IsSameDevice old new
   pub faults : new.faults ≡ faults_after result old.faults
   pub writes : IsTrue old.honest → new.writes ≡ writes_after result old.writes

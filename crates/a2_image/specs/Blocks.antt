@@ -18,7 +18,8 @@ sector_of_half half = 16 * (half / 16) + physical_of_half (half % 16)
 -- a block of a disk is two sectors
 abbrev pub block_of_sectors : List (Option (List ℕ)) → ℕ → Option (List ℕ)
 block_of_sectors all block =
-    joined (slice_index_or all (sector_of_half (2 * block)) None) (slice_index_or all (sector_of_half (2 * block + 1)) None)
+    joined (slice_index_or all (sector_of_half (2 * block)) None)
+    (slice_index_or all (sector_of_half (2 * block + 1)) None)
 
 -- block b of an image in ProDOS order is at 512 b
 abbrev pub bytes_of_block : List ℕ → ℕ → List ℕ

@@ -1,5 +1,5 @@
--- How an image in memory gives its sectors and the bytes that no write may change: by its bytes, and in nibble order by the
--- field that it keeps for each sector.
+-- How an image in memory gives its sectors and the bytes that no write may change: by its bytes, and in nibble order by
+-- the field that it keeps for each sector.
 use Rattle.std.specs.Prelude.{◌≡◌, ◌==◌, ℕ, ◌+◌, ◌*◌, ◌/◌, ◌%◌, ◌<◌, nat_lt, Bool, false, List, [], length, map, replicate, Option, Some, None, slice_index, slice_index_or, if◌then◌else◌}
 use Rattle.std.specs.List.{list_any, range_with_len}
 use Rattle.a2_nibble.specs.declared.search.Field.{Field}
@@ -35,7 +35,8 @@ is_in_field place None = false
 
 -- whether a byte of an image is among those of a kept field of its track
 unfoldable pub is_data_byte : List (Option Field) → ℕ → Bool
-is_data_byte fields n = list_any (λ sector. is_in_field (n % 6656) (slice_index_or fields (16 * (n / 6656) + sector) None)) (range_with_len 0 16)
+is_data_byte fields n = list_any
+    (λ sector. is_in_field (n % 6656) (slice_index_or fields (16 * (n / 6656) + sector) None)) (range_with_len 0 16)
 
 -- what is kept at a byte
 unfoldable pub kept_byte : List ℕ → List (Option Field) → ℕ → Option ℕ
@@ -62,4 +63,5 @@ pub record IsKept (order : Order) (bytes : List ℕ) (fields : List (Option Fiel
 pub record HasField (image : DiskImage) (track sector : ℕ) (field : Field) : Type 0 where
   pub nibble : image.order ≡ Nibble
   pub stands : IsFieldOf (track_of image.bytes track) track sector field.volume field.data_at
-  pub gives : sector_in image.sectors track sector ≡ Some (content_of (field_at (track_of image.bytes track) field.data_at))
+  pub gives : sector_in image.sectors track sector
+      ≡ Some (content_of (field_at (track_of image.bytes track) field.data_at))

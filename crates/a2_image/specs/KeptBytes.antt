@@ -25,7 +25,8 @@ pub record HoldsKeptOfTracks (bytes : List ℕ) (kept : List (Option ℕ)) : Typ
   pub count : length kept ≡ length bytes
   pub each : (n : ℕ) → n < length bytes → KeepsByte bytes n (slice_index_or kept n None)
 
--- the bytes that no write may change, each at its place; in another order than that of the tracks each byte is a sector's or a block's
+-- the bytes that no write may change, each at its place; in another order than that of the tracks each byte is a
+-- sector's or a block's
 unfoldable pub HoldsKept : Order → List ℕ → List (Option ℕ) → Type 0
 HoldsKept Dos bytes kept = kept ≡ replicate (length bytes) None
 HoldsKept Prodos bytes kept = kept ≡ replicate (length bytes) None

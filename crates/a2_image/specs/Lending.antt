@@ -23,7 +23,8 @@ sector_offset order track sector = 256 * number_in order (16 * track + sector)
 -- from which byte to which an image is lent for a sector: the sector's 256 bytes, or no byte at the image's end
 abbrev pub lent_range : DiskImage → ℕ → ℕ → ℕ × ℕ
 lent_range image track sector =
-    if is_lent image track sector then (sector_offset image.order track sector, sector_offset image.order track sector + 256)
+    if is_lent image track sector
+    then (sector_offset image.order track sector, sector_offset image.order track sector + 256)
     else (length image.bytes, length image.bytes)
 
 -- the bytes with others written over them from an offset on, as far as there is room
@@ -37,7 +38,8 @@ with_bytes image bytes = record image { bytes = bytes; sectors = sectors_by imag
 -- the image after these bytes were left in what was lent for a sector
 abbrev pub with_lent : DiskImage → ℕ → ℕ → List ℕ → DiskImage
 with_lent image track sector content =
-    if is_lent image track sector then with_bytes image (written image.bytes (sector_offset image.order track sector) content) else image
+    if is_lent image track sector
+    then with_bytes image (written image.bytes (sector_offset image.order track sector) content) else image
 
 -- r is what was lent for a sector: once it is given back, the image has what was left there
 abbrev pub LendsSector : (A : RattleType) → Ghosts A.Denot → MutBor DiskImage → ℕ → ℕ → MutBor (List ℕ) → Fml

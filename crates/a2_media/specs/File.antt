@@ -20,4 +20,7 @@ pub record IsSameFile (old new : FileState) : Type 0 where
 
 -- the file after a write that stands: these bytes over those from a position on
 abbrev pub after_write : ℕ → List ℕ → FileState → FileState
-after_write position bytes file = record file { bytes = written file.bytes position bytes; standing = file.standing + 1 }
+after_write position bytes file = record file {
+  bytes = written file.bytes position bytes;
+  standing = file.standing + 1;
+}

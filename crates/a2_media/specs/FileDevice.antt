@@ -14,7 +14,8 @@ file_unit size bytes place = slice_range bytes (size * place) (size * place + si
 abbrev pub file_units : ℕ → ℕ → List ℕ → List (List ℕ)
 file_units size places bytes = map (file_unit size bytes) (range_with_len 0 places)
 
--- A file by place, after so many writes and faults. Nothing is known of the failures to come, but that one leaves the old unit or the new one.
+-- A file by place, after so many writes and faults. Nothing is known of the failures to come, but that one leaves the
+-- old unit or the new one.
 abbrev pub file_device_state : UnitKind → ℕ → ℕ → ℕ → FileState → DeviceState
 file_device_state kind places writes faults file = record {
   places = places;

@@ -53,7 +53,8 @@ pub record IsWritten (kind : UnitKind) (place : ℕ) (unit : List ℕ) (old new 
   pub long : length new.bytes ≡ length old.bytes
   pub kept : new.kept ≡ old.kept
   pub places : place_count kind new ≡ place_count kind old
-  pub stored : stored_units (unit_bytes kind) (units_of kind new) ≡ slice_set (stored_units (unit_bytes kind) (units_of kind old)) place unit
+  pub stored : stored_units (unit_bytes kind) (units_of kind new)
+      ≡ slice_set (stored_units (unit_bytes kind) (units_of kind old)) place unit
   pub unreadable : unreadable_places (units_of kind new) ≡ unreadable_places (units_of kind old)
   pub has : HasUnits kind new
   pub units : AreUnits (unit_bytes kind) (place_count kind new) (units_of kind new)
@@ -70,14 +71,18 @@ length-stored_units size units = length-map units (λ unit. unwrap_or unit (repl
 pub unit_at-stored_units : (size : ℕ) (units : List (Option (List ℕ))) (place : ℕ) → place < length units
     → unit_at (stored_units size units) place ≡ unwrap_or (unit_in units place) (replicate size 0)
 unfolding stored_units
-unit_at-stored_units size units place within = get_or-map (λ unit. unwrap_or unit (replicate size 0)) units place None [] within
+unit_at-stored_units size units place within =
+    get_or-map (λ unit. unwrap_or unit (replicate size 0)) units place None [] within
 
 -- each place has a unit
 pub whole_image : (kind : UnitKind) (image : DiskImage) (writes standing faults : ℕ)
-    → AreUnits (unit_bytes kind) (place_count kind image) (units_of kind image) → IsWhole (image_state kind image writes standing faults)
+    → AreUnits (unit_bytes kind) (place_count kind image) (units_of kind image)
+    → IsWhole (image_state kind image writes standing faults)
 whole_image kind image writes standing faults are = record {
   all = length-stored_units size units ∙ are.count;
-  units = λ place within. ap length (unit_at-stored_units size units place (subst (λ n. place < n) (sym are.count) within)) ∙ sized place within (unit_in units place) refl;
+  units = λ place within. ap length
+      (unit_at-stored_units size units place (subst (λ n. place < n) (sym are.count) within))
+      ∙ sized place within (unit_in units place) refl;
 }
   where
     size : ℕ
@@ -86,6 +91,7 @@ whole_image kind image writes standing faults are = record {
     units : List (Option (List ℕ))
     units = units_of kind image
 
-    sized : (place : ℕ) → place < place_count kind image → (unit : Option (List ℕ)) → unit_in units place ≡ unit → length (unwrap_or unit (replicate size 0)) ≡ size
+    sized : (place : ℕ) → place < place_count kind image → (unit : Option (List ℕ)) → unit_in units place ≡ unit
+        → length (unwrap_or unit (replicate size 0)) ≡ size
     sized place within (Some unit) is = are.sized place unit within is
     sized place within None is = length-replicate size 0

@@ -14,11 +14,14 @@ use Rattle.a2_media.specs.FileDevice.{file_device_state}
 abbrev pub system_file : ℕ → FileState
 system_file size = record { size = size; honest = false; bytes = []; standing = 0 }
 
--- The units of an image that stand whole and in their order in its file: the sectors in DOS order, the blocks in ProDOS order.
+-- The units of an image that stand whole and in their order in its file: the sectors in DOS order, the blocks in ProDOS
+-- order.
 abbrev pub IsInPlace : Order → UnitKind → Type 0
 IsInPlace order kind = ((order ≡ Dos) × (kind ≡ Sector)) ⊎ ((order ≡ Prodos) × (kind ≡ Block))
 
--- The device of a file of the system in place of an image in this order: its units stand there so, it has as many as an image of the file's length, and nothing was written to it.
+-- The device of a file of the system in place of an image in this order: its units stand there so, it has as many as an
+-- image of the file's length, and nothing was written to it.
 abbrev pub IsDeviceOf : Order → UnitKind → DeviceState → Type 0
 IsDeviceOf order kind device =
-    IsInPlace order kind × ((places : ℕ) × IsImageLength order (unit_bytes kind * places) × (device ≡ file_device_state kind places 0 0 (system_file (unit_bytes kind * places))))
+    IsInPlace order kind × ((places : ℕ) × IsImageLength order (unit_bytes kind * places)
+    × (device ≡ file_device_state kind places 0 0 (system_file (unit_bytes kind * places))))

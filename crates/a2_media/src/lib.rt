@@ -8,8 +8,8 @@
 //! `FileDevice` is the device of a file's units: the unit at a place stands at the place times the size of a unit
 //! (`specs/FileDevice.antt`). `PositionedFile` is what it asks of a file: that bytes are read and written at a position
 //! (`specs/File.antt`). Of an honest file it is known what a read tells and what a write leaves: the new bytes, or,
-//! where it failed, the old ones or the new ones. A `Window` is a part of a file as a file, as the payload of a container
-//! is (`specs/Window.antt`): each of its calls leaves what stands around it.
+//! where it failed, the old ones or the new ones. A `Window` is a part of a file as a file, as the payload of a
+//! container is (`specs/Window.antt`): each of its calls leaves what stands around it.
 //!
 //! What always holds: the file of a device is as long as its units, and where the file is honest, so is the device.
 #![tactic(auto)]

@@ -94,12 +94,14 @@ impl<F: PositionedFile> PositionedFile for Window<F> {
 
         // an honest file
         ensures written { IsTrue (F.state self.old.file).honest → OnOk result
-            (window_state self.new.extent.start self.new.extent.size (F.state self.new.file) ≡ after_write position bytes.now
+            (window_state self.new.extent.start self.new.extent.size (F.state self.new.file)
+            ≡ after_write position bytes.now
             (window_state self.old.extent.start self.old.extent.size (F.state self.old.file))) }
         ensures failed { IsTrue (F.state self.old.file).honest → OnErr result
             ((window_state self.new.extent.start self.new.extent.size (F.state self.new.file)
             ≡ window_state self.old.extent.start self.old.extent.size (F.state self.old.file))
-            ⊎ (window_state self.new.extent.start self.new.extent.size (F.state self.new.file) ≡ after_write position bytes.now
+            ⊎ (window_state self.new.extent.start self.new.extent.size (F.state self.new.file)
+            ≡ after_write position bytes.now
             (window_state self.old.extent.start self.old.extent.size (F.state self.old.file)))) }
         ensures around { IsTrue (F.state self.old.file).honest
             → IsSameAround self.old.extent.start self.old.extent.size (F.state self.old.file) (F.state self.new.file) }

@@ -1,4 +1,5 @@
--- The header of a container, by the 2IMG (2MG) file format, as emulators write it. All numbers have their low byte first.
+-- The header of a container, by the 2IMG (2MG) file format, as emulators write it. All numbers have their low byte
+-- first.
 use Rattle.std.specs.Prelude.{ℕ, ◌+◌, ◌*◌, ◌%◌, ◌==◌, Bool, List, Option, Some, None, codes, if◌then◌else◌, nat_eq}
 use Rattle.std.specs.Prelude.{IsTrue, slice_index}
 use Rattle.std.specs.Int.{bit_at}

@@ -22,7 +22,8 @@ entries_in store sectors = flat_map (λ place. entries_of place (unit_at store p
 
 -- the slots of one sector that have no entry in use: its place and their numbers
 abbrev pub free_slots_of : ℕ → List ℕ → List (ℕ × ℕ)
-free_slots_of place unit = map (λ slot. (place, slot)) (filter (λ slot. not (is_in_use (entry_at place unit slot))) (range_with_len 0 7))
+free_slots_of place unit = map (λ slot. (place, slot))
+    (filter (λ slot. not (is_in_use (entry_at place unit slot))) (range_with_len 0 7))
 
 -- the slots without an entry in use of some sectors, in order
 abbrev pub free_slots_in : List (List ℕ) → List ℕ → List (ℕ × ℕ)

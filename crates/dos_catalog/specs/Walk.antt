@@ -17,11 +17,13 @@ pub record IsTable (met : List Bool) (sectors : List ℕ) : Type 0 where
   pub once : AllPairs (λ place later. place ≢ later) sectors
 
 -- the links lead over the sectors so far to the holder, whose unit is at hand, with their entries
-pub record IsWalking (store : List (List ℕ)) (sectors : List ℕ) (entries : List Entry) (holder : ℕ) (unit : List ℕ) : Type 0 where
+pub record IsWalking (store : List (List ℕ)) (sectors : List ℕ) (entries : List Entry) (holder : ℕ)
+    (unit : List ℕ) : Type 0 where
   pub leads : Leads store 272 sectors holder
   pub here : unit ≡ unit_at store holder
   pub taken : entries ≡ entries_in store sectors
 
 -- the first slot of one sector that has no entry in use
 unfoldable pub first_free_of : ℕ → List ℕ → Option (ℕ × ℕ)
-first_free_of place unit = option_map (λ slot. (place, slot)) (find (λ slot. not (is_in_use (entry_at place unit slot))) (range_with_len 0 7))
+first_free_of place unit = option_map (λ slot. (place, slot))
+    (find (λ slot. not (is_in_use (entry_at place unit slot))) (range_with_len 0 7))

@@ -14,10 +14,13 @@ with_bytes at bytes unit = take at unit ++ bytes ++ drop (at + length bytes) uni
 abbrev pub with_place : ℕ → ℕ → List ℕ → List ℕ
 with_place at place unit = slice_set (slice_set unit at (place / 16)) (at + 1) (place % 16)
 
--- an entry's 35 bytes: the track and sector of the first list, the kind, the name, and the length with its low byte first
+-- an entry's 35 bytes: the track and sector of the first list, the kind, the name, and the length with its low byte
+-- first
 abbrev pub entry_bytes : NewEntry → List ℕ
-entry_bytes entry = (entry.pointer / 16) ∷ (entry.pointer % 16) ∷ entry.kind ∷ (entry.name ++ (entry.sectors % 256) ∷ (entry.sectors / 256) ∷ [])
+entry_bytes entry = (entry.pointer / 16) ∷ (entry.pointer % 16) ∷ entry.kind
+    ∷ (entry.name ++ (entry.sectors % 256) ∷ (entry.sectors / 256) ∷ [])
 
 -- A deleted entry has its track in the last byte of its name, and FF in its place.
 abbrev pub erased : ℕ → List ℕ → List ℕ
-erased slot unit = slice_set (slice_set unit (slot_offset slot + 0x20) (slice_index unit (slot_offset slot))) (slot_offset slot) 0xff
+erased slot unit = slice_set (slice_set unit (slot_offset slot + 0x20) (slice_index unit (slot_offset slot)))
+    (slot_offset slot) 0xff

@@ -75,12 +75,14 @@ names_part pointer = names (place_named pointer)
 
 -- a list with its pointers to parts put to 0
 abbrev pub dos_content : PartKind → List ℕ → List ℕ
-dos_content AList unit = map (λ at. if names_part (pointer_at_byte unit at) then 0 else slice_index unit at) (range_with_len 0 256)
+dos_content AList unit = map (λ at. if names_part (pointer_at_byte unit at) then 0 else slice_index unit at)
+    (range_with_len 0 256)
 dos_content kind unit = unit
 
 -- The system has tracks 0 and 17, on a disk with DOS tracks 1 and 2 too, and what is reserved.
 abbrev pub is_dos_system : Bool → List Bool → ℕ → Bool
-is_dos_system data_disk reserved place = nat_lt place 16 || place / 16 == 17 || not data_disk && nat_lt place 48 || is_reserved reserved place
+is_dos_system data_disk reserved place =
+    nat_lt place 16 || place / 16 == 17 || not data_disk && nat_lt place 48 || is_reserved reserved place
 
 -- an entry of the catalog, by its number: the path is the 30 bytes of the name, its bytes those from the kind on
 abbrev pub dos_entry : ℕ → Entry → Listed
@@ -99,7 +101,8 @@ numbered file (entry ∷ entries) = dos_entry file entry ∷ numbered (file + 1)
 
 -- The available places of so many: tracks upward, in a track sectors 15 down to 0.
 unfoldable pub first_available : Bool → List Bool → ℕ → List ℕ
-first_available data_disk reserved count = filter (λ place. not (is_dos_system data_disk reserved place)) (map order_of (range_with_len 0 count))
+first_available data_disk reserved count =
+    filter (λ place. not (is_dos_system data_disk reserved place)) (map order_of (range_with_len 0 count))
 
 abbrev pub dos_available : Bool → List Bool → List ℕ
 dos_available data_disk reserved = first_available data_disk reserved 560
@@ -124,7 +127,8 @@ dos_directory data_disk reserved vtoc entries = record {
 }
 
 -- the VTOC, the chain of catalog sectors, and what they say
-pub record DescribesDos (data_disk : Bool) (reserved : List Bool) (store : List (List ℕ)) (directory : Directory) : Type 0 where
+pub record DescribesDos (data_disk : Bool) (reserved : List Bool) (store : List (List ℕ))
+    (directory : Directory) : Type 0 where
   pub size : length store ≡ 560
   pub geometry : HasGeometry (unit_at store 272)
   pub sectors : List ℕ
@@ -134,7 +138,8 @@ pub record DescribesDos (data_disk : Bool) (reserved : List Bool) (store : List 
 -- another geometry, or a bad link of the catalog
 abbrev pub DosHeaderFaultAt : List (List ℕ) → Fault → Type 0
 DosHeaderFaultAt store fault =
-    ((fault ≡ Geometry 272) × ¬ HasGeometry (unit_at store 272)) ⊎ (HasGeometry (unit_at store 272) × CatalogFaultAt store fault)
+    ((fault ≡ Geometry 272) × ¬ HasGeometry (unit_at store 272))
+    ⊎ (HasGeometry (unit_at store 272) × CatalogFaultAt store fault)
 
 -- pointers can name each place but those of track 0, sector 0 of track 0 among them
 abbrev pub CanNameDos : ℕ → Type 0
@@ -156,7 +161,8 @@ HasDosSlot false slot = slot < 123
 
 -- an entry in use stands in a slot of this unit
 abbrev pub has_root_at : Directory → ℕ → ℕ → Bool
-has_root_at directory place slot = list_any (λ (entry : Listed). entry.place == place && entry.slot == slot) directory.listed
+has_root_at directory place slot =
+    list_any (λ (entry : Listed). entry.place == place && entry.slot == slot) directory.listed
 
 -- A unit of the system with the entries' pointers and the marks of available places put to 0.
 abbrev pub marks_cleared : List ℕ → List ℕ → List ℕ

@@ -8,8 +8,9 @@ use Rattle.vol_format.specs.Standing.{no_part}
 abbrev pub part_of : List Part → ℕ → Part
 part_of parts k = slice_index_or parts k no_part
 
--- A list before part k, of the same file, with no list between the two. In the order of a file's parts a list comes before the units that
--- its pairs name, and these before the list that its link names: so this is the list that names part k.
+-- A list before part k, of the same file, with no list between the two. In the order of a file's parts a list comes
+-- before the units that its pairs name, and these before the list that its link names: so this is the list that names
+-- part k.
 pub record IsListBefore (parts : List Part) (k list : ℕ) : Type 0 where
   pub before : list < k
   pub kind : (part_of parts list).kind ≡ AList

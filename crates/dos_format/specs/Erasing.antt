@@ -5,8 +5,10 @@ use Rattle.dos_format.specs.Dos.{DescribesDos}
 use Rattle.vol_laws.specs.Entered.{HasSameRest}
 use Rattle.vol_laws.specs.Inserted.{inserted}
 
--- A directory with one entry less describes the store; with the deleted entry among its entries, under its number, they are those that there were.
-pub record HasErased (data_disk : Bool) (reserved : List Bool) (directory : Directory) (file : ℕ) (old new : List (List ℕ)) : Type 0 where
+-- A directory with one entry less describes the store; with the deleted entry among its entries, under its number, they
+-- are those that there were.
+pub record HasErased (data_disk : Bool) (reserved : List Bool) (directory : Directory) (file : ℕ)
+    (old new : List (List ℕ)) : Type 0 where
   pub few : Directory
   pub places : few.places ≡ 560
   pub described : DescribesDos data_disk reserved new few

@@ -24,11 +24,15 @@ sector_of_entry directory store file = unit_at store (place_of_entry directory f
 -- the store with the kind of a file, or its name, written into its slot, or its entry deleted
 abbrev pub kind_written : Directory → List (List ℕ) → ℕ → ℕ → List (List ℕ)
 kind_written directory store file kind =
-    slice_set store (place_of_entry directory file) (slice_set (sector_of_entry directory store file) (slot_offset (slot_of_entry directory file) + 0x02) kind)
+    slice_set store (place_of_entry directory file)
+    (slice_set (sector_of_entry directory store file) (slot_offset (slot_of_entry directory file) + 0x02) kind)
 
 abbrev pub name_written : Directory → List (List ℕ) → ℕ → List ℕ → List (List ℕ)
 name_written directory store file name =
-    slice_set store (place_of_entry directory file) (with_bytes (slot_offset (slot_of_entry directory file) + 0x03) name (sector_of_entry directory store file))
+    slice_set store (place_of_entry directory file)
+    (with_bytes (slot_offset (slot_of_entry directory file) + 0x03) name (sector_of_entry directory store file))
 
 abbrev pub entry_erased : Directory → List (List ℕ) → ℕ → List (List ℕ)
-entry_erased directory store file = slice_set store (place_of_entry directory file) (erased (slot_of_entry directory file) (sector_of_entry directory store file))
+entry_erased directory store file =
+    slice_set store (place_of_entry directory file)
+    (erased (slot_of_entry directory file) (sector_of_entry directory store file))

@@ -27,8 +27,8 @@ number_of_slot store sectors place slot =
     index_in_all (λ p. entries_of p (unit_at store p)) sectors place
     (length (filter is_in_use (take slot (map (entry_at place (unit_at store place)) (range_with_len 0 7)))))
 
--- What a new entry says as number `file` of the directory: its name is the path, its bytes are the kind, the name and the length with its low
--- byte first, and it points to list 0 of the file.
+-- What a new entry says as number `file` of the directory: its name is the path, its bytes are the kind, the name and
+-- the length with its low byte first, and it points to list 0 of the file.
 abbrev pub new_listed : ℕ → ℕ → ℕ → NewEntry → Listed
 new_listed file place slot new = record {
   place = place;
@@ -40,4 +40,5 @@ new_listed file place slot new = record {
 
 -- the store with a new entry written into a slot
 abbrev pub entry_written : List (List ℕ) → ℕ → ℕ → NewEntry → List (List ℕ)
-entry_written store place slot new = slice_set store place (with_bytes (slot_offset slot) (entry_bytes new) (unit_at store place))
+entry_written store place slot new =
+    slice_set store place (with_bytes (slot_offset slot) (entry_bytes new) (unit_at store place))

@@ -1,5 +1,5 @@
--- The pointers of a track/sector list (Beneath Apple DOS, chapter 4): the link to the next list at bytes 01 and 02, and from
--- 0C on 122 pairs of a track and a sector. A track byte 00 is no pointer, whatever the sector byte.
+-- The pointers of a track/sector list (Beneath Apple DOS, chapter 4): the link to the next list at bytes 01 and 02, and
+-- from 0C on 122 pairs of a track and a sector. A track byte 00 is no pointer, whatever the sector byte.
 use Rattle.std.specs.Prelude.{ℕ, ◌+◌, ◌*◌, ◌==◌, List, Option, Some, None, slice_index, if◌then◌else◌}
 
 -- where a pair stands, and where the link stands

@@ -22,16 +22,20 @@ is_wild (Some pointer) = nat_lt 34 pointer.0 || nat_lt 15 pointer.1
 -- the place that a pointer names: none and a wild one name no place
 abbrev pub place_named : Option (ℕ × ℕ) → Option ℕ
 place_named None = None
-place_named (Some pointer) = if nat_lt 34 pointer.0 || nat_lt 15 pointer.1 then None else Some (16 * pointer.0 + pointer.1)
+place_named (Some pointer) = if nat_lt 34 pointer.0 || nat_lt 15 pointer.1 then None
+    else Some (16 * pointer.0 + pointer.1)
 
 -- List 0 is where the entry points, and list n + 1 where the link of list n leads.
 abbrev pub ListAt : List (List ℕ) → Option (ℕ × ℕ) → ℕ → ℕ → Type 0
 ListAt store first zero place = place_named first ≡ Some place
-ListAt store first (suc number) place = (list : ℕ) × ListAt store first number list × (place_named (link_of (unit_at store list)) ≡ Some place)
+ListAt store first (suc number) place =
+    (list : ℕ) × ListAt store first number list × (place_named (link_of (unit_at store list)) ≡ Some place)
 
 -- Unit 122 n + i of the body is where pair i of list n leads.
 abbrev pub BodyAt : List (List ℕ) → Option (ℕ × ℕ) → ℕ → ℕ → Type 0
-BodyAt store first number place = (list : ℕ) × ListAt store first (number / 122) list × (place_named (pair_of (unit_at store list) (number % 122)) ≡ Some place)
+BodyAt store first number place =
+    (list : ℕ) × ListAt store first (number / 122) list
+    × (place_named (pair_of (unit_at store list) (number % 122)) ≡ Some place)
 
 abbrev pub PlacedAt : List (List ℕ) → Option (ℕ × ℕ) → PartKind → ℕ → ℕ → Type 0
 PlacedAt store first AList number place = ListAt store first number place
@@ -59,14 +63,17 @@ pub record IsPartsOf (store : List (List ℕ)) (file : ℕ) (first : Option (ℕ
 pub record HasNoWild (store : List (List ℕ)) (first : Option (ℕ × ℕ)) : Type 0 where
   pub entry : is_wild first ≡ false
   pub links : (number list : ℕ) → ListAt store first number list → is_wild (link_of (unit_at store list)) ≡ false
-  pub pairs : (number list pair : ℕ) → ListAt store first number list → pair < 122 → is_wild (pair_of (unit_at store list) pair) ≡ false
+  pub pairs : (number list pair : ℕ) → ListAt store first number list → pair < 122
+      → is_wild (pair_of (unit_at store list) pair) ≡ false
 
 -- A fault of a file: a wild pointer in the entry or in a list, or two parts at one place.
 abbrev pub FileFaultAt : List (List ℕ) → ℕ → Option (ℕ × ℕ) → ℕ → Fault → Type 0
 FileFaultAt store file first entry (OutOfRange place) =
     ((place ≡ entry) × (is_wild first ≡ true))
     ⊎ ((number : ℕ) × ListAt store first number place
-    × ((is_wild (link_of (unit_at store place)) ≡ true) ⊎ ((pair : ℕ) × (pair < 122) × (is_wild (pair_of (unit_at store place) pair) ≡ true))))
+    × ((is_wild (link_of (unit_at store place)) ≡ true)
+    ⊎ ((pair : ℕ) × (pair < 122) × (is_wild (pair_of (unit_at store place) pair) ≡ true))))
 FileFaultAt store file first entry (Shared place) =
-    (part : Part) × (other : Part) × InFile store file first part × InFile store file first other × (part.place ≡ place) × (other.place ≡ place) × (part ≢ other)
+    (part : Part) × (other : Part) × InFile store file first part × InFile store file first other × (part.place ≡ place)
+    × (other.place ≡ place) × (part ≢ other)
 FileFaultAt store file first entry fault = ⊥

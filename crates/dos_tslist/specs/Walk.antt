@@ -19,27 +19,35 @@ pointed file kind number None = []
 pointed file kind number (Some place) = part_of file kind number place ∷ []
 
 -- the parts so far are those of the file whose rank is below a number, in order, and no pointer followed was wild
-pub record IsWalked (store : List (List ℕ)) (file : ℕ) (first : Option (ℕ × ℕ)) (below : ℕ) (parts : List Part) : Type 0 where
+pub record IsWalked (store : List (List ℕ)) (file : ℕ) (first : Option (ℕ × ℕ)) (below : ℕ)
+    (parts : List Part) : Type 0 where
   pub members : (part : Part) → Contains parts part ↔ (InFile store file first part × (rank part < below))
   pub ordered : AllPairs (λ part later. rank part < rank later) parts
   pub entry : 0 < below → is_wild first ≡ false
-  pub links : (number list : ℕ) → ListAt store first number list → 123 * (number + 1) < below → is_wild (link_of (unit_at store list)) ≡ false
-  pub pairs : (number list pair : ℕ) → ListAt store first number list → pair < 122 → 123 * number + 1 + pair < below → is_wild (pair_of (unit_at store list) pair) ≡ false
+  pub links : (number list : ℕ) → ListAt store first number list → 123 * (number + 1) < below
+      → is_wild (link_of (unit_at store list)) ≡ false
+  pub pairs : (number list pair : ℕ) → ListAt store first number list → pair < 122 → 123 * number + 1 + pair < below
+      → is_wild (pair_of (unit_at store list) pair) ≡ false
 
 -- why a pointer is refused: it is wild, or names a place that was met
 abbrev pub IsRefusedAt : List Bool → ℕ → Option (ℕ × ℕ) → Fault → Type 0
 IsRefusedAt met holder pointer (OutOfRange place) = (place ≡ holder) × (is_wild pointer ≡ true)
-IsRefusedAt met holder pointer (Shared place) = (place_named pointer ≡ Some place) × (slice_index_or met place false ≡ true)
+IsRefusedAt met holder pointer (Shared place) =
+    (place_named pointer ≡ Some place) × (slice_index_or met place false ≡ true)
 IsRefusedAt met holder pointer fault = ⊥
 
 -- what is known while the pairs of one list are taken
-pub record IsPairing (file number holder : ℕ) (unit : List ℕ) (old_met met : List Bool) (old_parts parts : List Part) (pair : ℕ) : Type 0 where
+pub record IsPairing (file number holder : ℕ) (unit : List ℕ) (old_met met : List Bool) (old_parts parts : List Part)
+    (pair : ℕ) : Type 0 where
   pub table : IsTable old_met old_parts → IsTable met parts
   pub fewer : count_by not met ≤ count_by not old_met
-  pub walked : (store : List (List ℕ)) (first : Option (ℕ × ℕ)) → unit_at store holder ≡ unit → ListAt store first number holder
-      → IsWalked store file first (123 * number + 1) old_parts → IsWalked store file first (123 * number + 1 + pair) parts
+  pub walked : (store : List (List ℕ)) (first : Option (ℕ × ℕ)) → unit_at store holder ≡ unit
+      → ListAt store first number holder
+      → IsWalked store file first (123 * number + 1) old_parts
+      → IsWalked store file first (123 * number + 1 + pair) parts
 
 -- what is known before a list is read: its place, if it is there, and the parts before it and the list itself
-pub record IsAtList (store : List (List ℕ)) (file : ℕ) (first : Option (ℕ × ℕ)) (list : Option ℕ) (number : ℕ) (parts : List Part) : Type 0 where
+pub record IsAtList (store : List (List ℕ)) (file : ℕ) (first : Option (ℕ × ℕ)) (list : Option ℕ) (number : ℕ)
+    (parts : List Part) : Type 0 where
   pub walked : IsWalked store file first (123 * number + 1) parts
   pub here : (place : ℕ) → (list ≡ Some place) ↔ ListAt store first number place

@@ -33,10 +33,12 @@ free_count_of vtoc = count_by (is_free vtoc) (range_with_len 0 560)
 
 -- the VTOC with one sector marked used, or free: one bit is written
 abbrev pub marked : List ℕ → ℕ → List ℕ
-marked vtoc place = slice_set vtoc (byte_of_place place) (bit_and (slice_index vtoc (byte_of_place place)) (255 - 2 ^ (place % 8)))
+marked vtoc place = slice_set vtoc (byte_of_place place)
+    (bit_and (slice_index vtoc (byte_of_place place)) (255 - 2 ^ (place % 8)))
 
 abbrev pub released : List ℕ → ℕ → List ℕ
-released vtoc place = slice_set vtoc (byte_of_place place) (bit_or (slice_index vtoc (byte_of_place place)) (2 ^ (place % 8)))
+released vtoc place = slice_set vtoc (byte_of_place place)
+    (bit_or (slice_index vtoc (byte_of_place place)) (2 ^ (place % 8)))
 
 -- DOS takes sectors by rising track, and within a track from sector 15 down to 0: the number of a place in that order
 abbrev pub order_of : ℕ → ℕ

@@ -16,7 +16,8 @@ recounted Less files = files - 1
 abbrev pub counting : FileCount → List ℕ → List ℕ
 counting by unit = with_bytes 0x25 (word_bytes (recounted by (word unit 0x25))) unit
 
--- A block of a directory is written, and the count in the key block of that directory. Where both are one block they are one write; else the count is the second.
+-- A block of a directory is written, and the count in the key block of that directory. Where both are one block they
+-- are one write; else the count is the second.
 abbrev pub counted_writes : FileCount → ℕ → List ℕ → ℕ → List (List ℕ) → List Write
 counted_writes by place unit key store =
     if place == key

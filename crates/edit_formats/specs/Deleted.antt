@@ -15,9 +15,11 @@ use Rattle.edit_formats.specs.declared.error.EditError.TheVariants.{Check, NotFo
 use Rattle.edit_formats.specs.Erasing.{EraseMeaning}
 use Rattle.edit_formats.specs.Renamed.{HasFirst}
 
--- The writes that delete the first file with a name, of an accepted volume, where its entry lets it be deleted. Those to the directory, which come first, erase its
--- entry byte for byte as the format has it. The writes are kept in memory until the first is made, and there are fewer of them than a device can count.
-pub record IsDeleteEdit (format : Meaning) (files : FileMeaning) (erasures : EraseMeaning) (store : List (List ℕ)) (name : FileNameView) (writes : List Write) : Type 0 where
+-- The writes that delete the first file with a name, of an accepted volume, where its entry lets it be deleted. Those
+-- to the directory, which come first, erase its entry byte for byte as the format has it. The writes are kept in memory
+-- until the first is made, and there are fewer of them than a device can count.
+pub record IsDeleteEdit (format : Meaning) (files : FileMeaning) (erasures : EraseMeaning) (store : List (List ℕ))
+    (name : FileNameView) (writes : List Write) : Type 0 where
   pub directory : Directory
   pub accepted : IsAccepted format directory store
   pub file : ℕ
@@ -28,7 +30,8 @@ pub record IsDeleteEdit (format : Meaning) (files : FileMeaning) (erasures : Era
   pub few : length writes < 18446744073709551616
 
 -- The first file with a name is no longer among the files; at worst its places are lost.
-pub record IsErasedOf (format : Meaning) (files : FileMeaning) (name : FileNameView) (old new : List (List ℕ)) : Type 0 where
+pub record IsErasedOf (format : Meaning) (files : FileMeaning) (name : FileNameView)
+    (old new : List (List ℕ)) : Type 0 where
   pub directory : Directory
   pub accepted : IsAccepted format directory old
   pub file : ℕ
@@ -41,13 +44,16 @@ IsOldOrErased format files name old new = (new ≡ old) ⊎ IsErasedOf format fi
 
 -- the first file with the name is protected, or is not
 abbrev pub HasFirstProtected : Meaning → FileMeaning → EraseMeaning → List (List ℕ) → FileNameView → Type 0
-HasFirstProtected format files erasures store name = HasFirst format files store name (λ directory file. erasures.protects (entry_of directory file).bytes ≡ true)
+HasFirstProtected format files erasures store name =
+    HasFirst format files store name (λ directory file. erasures.protects (entry_of directory file).bytes ≡ true)
 
 abbrev pub HasFirstUnprotected : Meaning → FileMeaning → EraseMeaning → List (List ℕ) → FileNameView → Type 0
-HasFirstUnprotected format files erasures store name = HasFirst format files store name (λ directory file. erasures.protects (entry_of directory file).bytes ≡ false)
+HasFirstUnprotected format files erasures store name =
+    HasFirst format files store name (λ directory file. erasures.protects (entry_of directory file).bytes ≡ false)
 
 -- what is told of the first file with a name, which is to be deleted
-abbrev pub IsDeleteTold : {T : Type 0} → Meaning → FileMeaning → EraseMeaning → List (List ℕ) → FileNameView → Result T EditError → Type 0
+abbrev pub IsDeleteTold : {T : Type 0} → Meaning → FileMeaning → EraseMeaning → List (List ℕ) → FileNameView
+    → Result T EditError → Type 0
 IsDeleteTold format files erasures store name (Ok x) = HasFirstUnprotected format files erasures store name
 IsDeleteTold format files erasures store name (Err Locked) = HasFirstProtected format files erasures store name
 IsDeleteTold format files erasures store name (Err error) = Unit {0}
@@ -57,7 +63,8 @@ abbrev pub places_of_file : ℕ → List Part → List ℕ
 places_of_file file parts = map (λ (part : Part). part.place) (filter (λ (part : Part). part.file == file) parts)
 
 -- These are the places of the file of an entry, all of them and no others.
-pub record HasPlacesOf (format : Meaning) (directory : Directory) (file : ℕ) (store : List (List ℕ)) (places : List ℕ) : Type 0 where
+pub record HasPlacesOf (format : Meaning) (directory : Directory) (file : ℕ) (store : List (List ℕ))
+    (places : List ℕ) : Type 0 where
   pub inside : All (λ place. place < directory.places) places
   pub are : (place : ℕ) → Contains places place ↔ IsTaken format store (root_of directory file) place
 

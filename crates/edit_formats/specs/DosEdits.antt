@@ -12,5 +12,6 @@ dos_locked false kind = kind % 0x80
 abbrev pub dos_edits : EditMeaning
 dos_edits = record {
   locked = λ on bytes. slice_set bytes 0 (dos_locked on (slice_index bytes 0));
-  with_lock = λ on entry unit. slice_set unit (slot_offset entry.slot + 0x02) (dos_locked on (slice_index entry.bytes 0));
+  with_lock = λ on entry unit. slice_set unit (slot_offset entry.slot + 0x02)
+      (dos_locked on (slice_index entry.bytes 0));
 }

@@ -19,13 +19,15 @@ is_first_byte byte = nat_le 0x41 byte && nat_le byte 0x5a
 -- 1 to 30 characters; the first is a capital letter, and the last is no space
 abbrev pub is_dos_name : List ℕ → Bool
 is_dos_name name =
-    nat_le 1 (length name) && nat_le (length name) 30 && is_first_byte (slice_index name 0) && not (slice_index name (length name - 1) == 0x20) && list_all is_name_byte name
+    nat_le 1 (length name) && nat_le (length name) 30 && is_first_byte (slice_index name 0)
+    && not (slice_index name (length name - 1) == 0x20) && list_all is_name_byte name
 
 -- some entry has a name, by its 30 bytes
 abbrev pub is_path_of_one : List ℕ → List Listed → Bool
 is_path_of_one name listed = list_any (λ (entry : Listed). bytes_eq entry.path name) listed
 
--- The catalog is the one directory. A file is locked where bit 80 of its kind is on, which is the first of its entry's bytes; its name stands from byte 03 of its slot on.
+-- The catalog is the one directory. A file is locked where bit 80 of its kind is on, which is the first of its entry's
+-- bytes; its name stands from byte 03 of its slot on.
 abbrev pub dos_names : NameMeaning
 dos_names = record {
   may_have = is_dos_name;

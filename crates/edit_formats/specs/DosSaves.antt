@@ -1,4 +1,5 @@
--- A new file of DOS 3.3: its slot in the catalog, its entry, and the one write that enters it (Beneath Apple DOS, chapter 4).
+-- A new file of DOS 3.3: its slot in the catalog, its entry, and the one write that enters it (Beneath Apple DOS,
+-- chapter 4).
 use Rattle.std.specs.Prelude.{◌≡◌, ℕ, nat_lt, Bool, true, false, List, [], ◌∷◌, slice_get, slice_range, Some, None}
 use Rattle.std.specs.List.{list_any}
 use Rattle.std.specs.Str.{bytes_eq}
@@ -27,13 +28,19 @@ use Rattle.edit_formats.specs.Saves.{SaveMeaning}
 
 -- what is entered: the place of the first list, the kind, the name as it is stored, and the number of parts
 abbrev pub new_entry : List ℕ → Attributes → Extent → NewEntry
-new_entry path attributes extent = record { pointer = extent.first; kind = attributes.kind; name = dos_name path; sectors = extent.parts }
+new_entry path attributes extent = record {
+  pointer = extent.first;
+  kind = attributes.kind;
+  name = dos_name path;
+  sectors = extent.parts;
+}
 
 -- the one write to a sector of the catalog
 abbrev pub dos_entering : List (List ℕ) → List ℕ → Slot → Attributes → Extent → List Write
 dos_entering store path slot attributes extent = record {
   place = slot.place;
-  unit = with_bytes (slot_offset slot.number) (entry_bytes (new_entry path attributes extent)) (unit_at store slot.place);
+  unit = with_bytes (slot_offset slot.number) (entry_bytes (new_entry path attributes extent))
+      (unit_at store slot.place);
 } ∷ []
 
 -- The catalog, of which a file may get the name, is so.
@@ -45,19 +52,24 @@ pub record HasCatalog (store : List (List ℕ)) (path : List ℕ) (Is : List ℕ
 
 -- an entry in use of these sectors has the name
 abbrev pub is_name_used : List (List ℕ) → List ℕ → List ℕ → Bool
-is_name_used store sectors path = list_any (λ (entry : Entry). bytes_eq (slice_range entry.bytes 3 33) (dos_name path)) (entries_in store sectors)
+is_name_used store sectors path =
+    list_any (λ (entry : Entry). bytes_eq (slice_range entry.bytes 3 33) (dos_name path)) (entries_in store sectors)
 
--- The catalog is the one directory, and begins with the VTOC. Its first slot that was never used or is deleted is a new file's.
+-- The catalog is the one directory, and begins with the VTOC. Its first slot that was never used or is deleted is a new
+-- file's.
 abbrev pub IsDosTarget : List (List ℕ) → List ℕ → Target → Type 0
 IsDosTarget store path NoDirectory = ⊥
 IsDosTarget store path NoName = is_dos_name path ≡ false
 IsDosTarget store path InUse = HasCatalog store path (λ sectors. is_name_used store sectors path ≡ true)
-IsDosTarget store path Full = HasCatalog store path (λ sectors. (is_name_used store sectors path ≡ false) × (slice_get (free_slots_in store sectors) 0 ≡ None))
+IsDosTarget store path Full = HasCatalog store path
+    (λ sectors. (is_name_used store sectors path ≡ false) × (slice_get (free_slots_in store sectors) 0 ≡ None))
 IsDosTarget store path (At slot) = HasCatalog store path (λ sectors.
-    (is_name_used store sectors path ≡ false) × (slice_get (free_slots_in store sectors) 0 ≡ Some (slot.place, slot.number)) × (slot.directory ≡ 272))
+    (is_name_used store sectors path ≡ false)
+    × (slice_get (free_slots_in store sectors) 0 ≡ Some (slot.place, slot.number)) × (slot.directory ≡ 272))
 
 -- the entry in a free slot of the catalog, and its number
-pub record IsDosEntry (store : List (List ℕ)) (path : List ℕ) (slot : Slot) (attributes : Attributes) (extent : Extent) (at : ℕ) (entry : Listed) : Type 0 where
+pub record IsDosEntry (store : List (List ℕ)) (path : List ℕ) (slot : Slot) (attributes : Attributes) (extent : Extent)
+    (at : ℕ) (entry : Listed) : Type 0 where
   pub name : is_dos_name path ≡ true
   pub sectors : List ℕ
   pub catalog : IsCatalog store sectors

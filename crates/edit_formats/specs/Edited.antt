@@ -12,7 +12,8 @@ use Rattle.vol_laws.specs.Deleted.{IsLostOn}
 use Rattle.vol_laws.specs.Writes.{Write}
 
 -- The one write that locks or unlocks the first file with a name, of an accepted volume: into the entry of that file.
-pub record IsLockEdit (format : Meaning) (files : FileMeaning) (edits : EditMeaning) (store : List (List ℕ)) (name : FileNameView) (on : Bool) (writes : List Write) : Type 0 where
+pub record IsLockEdit (format : Meaning) (files : FileMeaning) (edits : EditMeaning) (store : List (List ℕ))
+    (name : FileNameView) (on : Bool) (writes : List Write) : Type 0 where
   pub directory : Directory
   pub accepted : IsAccepted format directory store
   pub file : ℕ
@@ -23,7 +24,8 @@ pub record IsLockEdit (format : Meaning) (files : FileMeaning) (edits : EditMean
   } ∷ []
 
 -- the volume is accepted, and has no file with the name
-pub record HasNoSuchFile (format : Meaning) (files : FileMeaning) (store : List (List ℕ)) (name : FileNameView) : Type 0 where
+pub record HasNoSuchFile (format : Meaning) (files : FileMeaning) (store : List (List ℕ))
+    (name : FileNameView) : Type 0 where
   pub directory : Directory
   pub accepted : IsAccepted format directory store
   pub none : NamesNone files directory name

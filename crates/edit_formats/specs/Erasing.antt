@@ -11,9 +11,10 @@ use Rattle.vol_laws.specs.Writes.{Write, store_after}
 abbrev pub HasWholeUnits : Meaning → List (List ℕ) → Type 0
 HasWholeUnits format store = (place : ℕ) → place < length store → length (unit_at store place) ≡ format.unit_size
 
--- From the first of these writes on the store has the directory without the entry of the file, and no unit outside the system is written, nor one that has marks
--- of places.
-pub record IsErasing (format : Meaning) (directory : Directory) (file : ℕ) (store : List (List ℕ)) (writes : List Write) : Type 0 where
+-- From the first of these writes on the store has the directory without the entry of the file, and no unit outside the
+-- system is written, nor one that has marks of places.
+pub record IsErasing (format : Meaning) (directory : Directory) (file : ℕ) (store : List (List ℕ))
+    (writes : List Write) : Type 0 where
   pub few : Directory
   pub takes : format.Takes few.places
   pub within : file ≤ entries few
@@ -21,16 +22,20 @@ pub record IsErasing (format : Meaning) (directory : Directory) (file : ℕ) (st
   pub erases : 0 < length writes
   pub described : (n : ℕ) → 0 < n → n ≤ length writes → format.Describes (store_after (take n writes) store) few
   pub rest : (n : ℕ) → 0 < n → n ≤ length writes → HasSameRest few store (store_after (take n writes) store)
-  pub apart : (place : ℕ) → place < directory.places → All (λ (write : Write). write.place ≢ map_place directory place) writes
+  pub apart : (place : ℕ) → place < directory.places
+      → All (λ (write : Write). write.place ≢ map_place directory place) writes
 
--- `protects bytes`: an entry with these bytes, without those of its pointer, does not let its file be deleted. `Erases store directory file writes`: these are the writes
--- that erase the entry of a file, byte for byte as the format has them.
+-- `protects bytes`: an entry with these bytes, without those of its pointer, does not let its file be deleted. `Erases
+-- store directory file writes`: these are the writes that erase the entry of a file, byte for byte as the format has
+-- them.
 pub record EraseMeaning : Type 1 where
   pub protects : List ℕ → Bool
   pub Erases : List (List ℕ) → Directory → ℕ → List Write → Type 0
 
 -- What deleting asks of a format: these writes take the entry of a file out of the directory.
 pub record IsErasable (format : Meaning) (erasures : EraseMeaning) : Type 0 where
-  pub erasing : (store : List (List ℕ)) (directory : Directory) (file : ℕ) (writes : List Write) → format.Describes store directory → file < entries directory
-      → is_directory (entry_of directory file) ≡ false → HasWholeUnits format store → erasures.Erases store directory file writes
+  pub erasing : (store : List (List ℕ)) (directory : Directory) (file : ℕ) (writes : List Write)
+      → format.Describes store directory → file < entries directory
+      → is_directory (entry_of directory file) ≡ false → HasWholeUnits format store
+      → erasures.Erases store directory file writes
       → IsErasing format directory file store writes

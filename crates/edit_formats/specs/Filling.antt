@@ -24,12 +24,14 @@ Between parts at upto part k = (at < k) × (k < upto) × (part_at parts k ≡ pa
 pub record HasPairs (parts : List NewPart) (places : List ℕ) (number at upto : ℕ) (unit : List ℕ) : Type 0 where
   pub size : length unit ≡ 256
   pub pairs : (i : ℕ) → i < 122
-      → ((k : ℕ) × Between parts at upto (new_part Body (122 * number + i)) k × NamesAt unit (pair_offset i) (slice_index places k))
+      → ((k : ℕ) × Between parts at upto (new_part Body (122 * number + i)) k
+      × NamesAt unit (pair_offset i) (slice_index places k))
       ⊎ (((k : ℕ) → Between parts at upto (new_part Body (122 * number + i)) k → ⊥) × NamesAt unit (pair_offset i) 0)
   pub rest : (byte : ℕ) → byte < 0x0c → slice_index unit byte ≡ 0
 
 -- a block of pointers with those of the parts between two numbers
-pub record HasPointers (parts : List NewPart) (places : List ℕ) (child : PartKind) (first at upto : ℕ) (unit : List ℕ) : Type 0 where
+pub record HasPointers (parts : List NewPart) (places : List ℕ) (child : PartKind) (first at upto : ℕ)
+    (unit : List ℕ) : Type 0 where
   pub size : length unit ≡ 512
   pub pointers : (i : ℕ) → i < 256
       → ((k : ℕ) × Between parts at upto (new_part child (first + i)) k × (pointer_of unit i ≡ slice_index places k))

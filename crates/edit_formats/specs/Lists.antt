@@ -14,7 +14,8 @@ with_first meaning name change (file ∷ files) =
 
 -- the list in which the first file with the name is locked or unlocked: bytes of its entry alone are others
 abbrev pub with_lock_on : FileMeaning → EditMeaning → FileNameView → Bool → List File → List File
-with_lock_on meaning edits name on = with_first meaning name (λ (file : File). record file { bytes = edits.locked on file.bytes })
+with_lock_on meaning edits name on =
+    with_first meaning name (λ (file : File). record file { bytes = edits.locked on file.bytes })
 
 -- the list without the first file with the name
 abbrev pub without_named : FileMeaning → FileNameView → List File → List File

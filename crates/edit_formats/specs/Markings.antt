@@ -15,7 +15,8 @@ nearer from (Some best) at = if nat_lt at from then Some best else (if nat_lt at
 -- the nearest unit from a number on, of those that have the marks of some places, or one that is known
 abbrev pub nearest : Directory → ℕ → Option ℕ → List ℕ → Option ℕ
 nearest directory from best [] = best
-nearest directory from best (place ∷ places) = nearest directory from (nearer from best (map_place directory place)) places
+nearest directory from best (place ∷ places) =
+    nearest directory from (nearer from best (map_place directory place)) places
 
 -- those of some places that have their marks in a unit
 abbrev pub marked_in : Directory → ℕ → List ℕ → List ℕ
@@ -25,9 +26,10 @@ marked_in directory at places = filter (λ place. map_place directory place == a
 abbrev pub HasMarkOf : Directory → List ℕ → ℕ → Type 0
 HasMarkOf directory places at = (place : ℕ) × Contains places place × (map_place directory place ≡ at)
 
--- Writes of units of the map below a number, behind others: in rising order, each marks those of some places free, or used, that have their marks there. All units below
--- that number that have marks of these places are among them.
-pub record IsMarking {A : Type 0} (format : Meaning) (free : Bool) (directory : Directory) (places : List ℕ) (old : DeviceState) (start : List (Prepared A)) (from : ℕ) (writes : List (Prepared A)) : Type 0 where
+-- Writes of units of the map below a number, behind others: in rising order, each marks those of some places free, or
+-- used, that have their marks there. All units below that number that have marks of these places are among them.
+pub record IsMarking {A : Type 0} (format : Meaning) (free : Bool) (directory : Directory) (places : List ℕ)
+    (old : DeviceState) (start : List (Prepared A)) (from : ℕ) (writes : List (Prepared A)) : Type 0 where
   pub marked : List (Prepared A)
   pub are : writes ≡ start ++ marked
   pub below : All (λ (write : Prepared A). write.place < from) marked
@@ -41,6 +43,8 @@ pub record IsMarking {A : Type 0} (format : Meaning) (free : Bool) (directory : 
       (record { at = write.place; places = marked_in directory write.place places })) marked
 
 -- the same, with all units that have marks of these places
-abbrev pub AreMarked : {A : Type 0} → Meaning → Bool → Directory → List ℕ → DeviceState → List (Prepared A) → List (Prepared A) → Type 0
+abbrev pub AreMarked : {A : Type 0} → Meaning → Bool → Directory → List ℕ → DeviceState → List (Prepared A)
+    → List (Prepared A) → Type 0
 AreMarked format free directory places old start writes =
-    (from : ℕ) × IsMarking format free directory places old start from writes × ((place : ℕ) → Contains places place → map_place directory place < from)
+    (from : ℕ) × IsMarking format free directory places old start from writes
+    × ((place : ℕ) → Contains places place → map_place directory place < from)

@@ -1,5 +1,5 @@
--- The parts of a new file, in the order in which a volume has the parts of its files (Beneath Apple DOS, chapter 4; ProDOS 8
--- Technical Reference Manual, Appendix B). A file is a row of units, of which some are stored.
+-- The parts of a new file, in the order in which a volume has the parts of its files (Beneath Apple DOS, chapter 4;
+-- ProDOS 8 Technical Reference Manual, Appendix B). A file is a row of units, of which some are stored.
 use Rattle.std.specs.Prelude.{ℕ, ◌+◌, ◌*◌, ◌/◌, ◌==◌, nat_le, max, Bool, true, false, if◌then◌else◌, List, [], ◌∷◌, length, map, filter, flat_map, slice_index_or}
 use Rattle.std.specs.List.{range_with_len, list_any}
 use Rattle.a2_device.specs.declared.part.PartKind.{PartKind}
@@ -15,13 +15,15 @@ new_part kind number = record { kind = kind; number = number }
 
 -- the units of the body that are stored, of so many from a first one on
 unfoldable pub bodies : List Bool → ℕ → ℕ → List NewPart
-bodies stored first count = filter (λ (part : NewPart). is_stored stored part.number) (map (new_part Body) (range_with_len first count))
+bodies stored first count = filter (λ (part : NewPart). is_stored stored part.number)
+    (map (new_part Body) (range_with_len first count))
 
 -- DOS 3.3: a track/sector list, and the units of its 122 pairs
 abbrev pub list_with_bodies : List Bool → ℕ → List NewPart
 list_with_bodies stored number = new_part AList number ∷ bodies stored (122 * number) 122
 
--- A file of so many units has a list for each 122 of them, and one at least. A list is there though none of its units is stored.
+-- A file of so many units has a list for each 122 of them, and one at least. A list is there though none of its units
+-- is stored.
 abbrev pub list_count : ℕ → ℕ
 list_count units = max ((units + 121) / 122) 1
 
@@ -38,7 +40,8 @@ any_stored stored first count = list_any (is_stored stored) (range_with_len firs
 
 -- those of the first indexes, so many, that have a unit to name
 unfoldable pub indexes : List Bool → ℕ → List NewPart
-indexes stored count = flat_map (index_with_bodies stored) (filter (λ number. any_stored stored (256 * number) 256) (range_with_len 0 count))
+indexes stored count = flat_map (index_with_bodies stored)
+    (filter (λ number. any_stored stored (256 * number) 256) (range_with_len 0 count))
 
 -- a tree has a master index, which names 128 indexes
 abbrev pub tree_parts : List Bool → List NewPart

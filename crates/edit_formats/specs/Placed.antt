@@ -18,7 +18,12 @@ pub record HavePlaces (CanName : ℕ → Type 0) (parts : List NewPart) (places 
 
 -- part k of a new file, as a part of the file of a number, at its place
 abbrev pub placed : ℕ → List NewPart → List ℕ → ℕ → Part
-placed file parts places k = record { file = file; kind = (part_at parts k).kind; number = (part_at parts k).number; place = slice_index places k }
+placed file parts places k = record {
+  file = file;
+  kind = (part_at parts k).kind;
+  number = (part_at parts k).number;
+  place = slice_index places k;
+}
 
 -- a plan has these parts at these places, in their order
 pub record HasPlaced (file : ℕ) (parts : List NewPart) (places : List ℕ) (planned : List Planned) : Type 0 where
@@ -27,12 +32,16 @@ pub record HasPlaced (file : ℕ) (parts : List NewPart) (places : List ℕ) (pl
 
 -- the plan of these parts at these places with these units, one for each part
 unfoldable pub plan_with : ℕ → List NewPart → List ℕ → List (List ℕ) → List Planned
-plan_with file parts places units = map (λ k. record { part = placed file parts places k; unit = unit_at units k }) (range_with_len 0 (length parts))
+plan_with file parts places units =
+    map (λ k. record { part = placed file parts places k; unit = unit_at units k }) (range_with_len 0 (length parts))
 
 -- each part of the body has the unit of its number, among the units of the file
 abbrev pub HasBodyUnits : List NewPart → List (List ℕ) → List Planned → Type 0
-HasBodyUnits parts content planned = (k : ℕ) → k < length parts → (part_at parts k).kind ≡ Body → unit_of planned k ≡ unit_at content (part_at parts k).number
+HasBodyUnits parts content planned =
+    (k : ℕ) → k < length parts → (part_at parts k).kind ≡ Body
+    → unit_of planned k ≡ unit_at content (part_at parts k).number
 
 -- those units of a file that are stored, in rising order of their numbers
 unfoldable pub stored_units : List Bool → List (List ℕ) → List Stored
-stored_units stored content = map (λ number. record { number = number; unit = unit_at content number }) (filter (is_stored stored) (range_with_len 0 (length stored)))
+stored_units stored content = map (λ number. record { number = number; unit = unit_at content number })
+    (filter (is_stored stored) (range_with_len 0 (length stored)))

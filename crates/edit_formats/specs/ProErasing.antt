@@ -17,7 +17,8 @@ without_entry slot unit = slice_set unit (slot_offset slot) 0
 
 -- The slot of the entry is made inactive, and the directory counts one file less.
 abbrev pub pro_erasing : Entry → List (List ℕ) → List Write
-pro_erasing entry store = counted_writes Less entry.place (without_entry entry.slot (unit_at store entry.place)) entry.directory store
+pro_erasing entry store = counted_writes Less entry.place (without_entry entry.slot (unit_at store entry.place))
+    entry.directory store
 
 -- These writes erase the entry of a number, in the tree of the volume's directories.
 pub record ErasesEntry (store : List (List ℕ)) (file : ℕ) (writes : List Write) : Type 0 where

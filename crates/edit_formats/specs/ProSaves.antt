@@ -1,4 +1,5 @@
--- A new file of ProDOS: the directory to which its path leads, its slot there, its entry, and the writes that enter it (ProDOS 8 Technical Reference Manual, Appendix B).
+-- A new file of ProDOS: the directory to which its path leads, its slot there, its entry, and the writes that enter it
+-- (ProDOS 8 Technical Reference Manual, Appendix B).
 use Rattle.std.specs.Prelude.{◌≡◌, ◌<◌, ℕ, suc, ◌-◌, ◌*◌, ◌==◌, ◌&&◌, ◌||◌, nat_lt, Bool, true, false, if◌then◌else◌, List, [], ◌∷◌, length, take, drop, slice_get, Option, Some, None}
 use Rattle.std.specs.List.{list_any}
 use Rattle.std.specs.Str.{bytes_eq}
@@ -86,17 +87,20 @@ pub record HasFirstFree (store : List (List ℕ)) (key : ℕ) (first : Option (�
 
 -- a file may get the name, and an entry of the directory has it, or none has
 abbrev pub IsNameIn : Bool → List ℕ → Tree → ℕ → Type 0
-IsNameIn has path tree key = (is_pro_name (last_name path) ≡ true) × (is_name_in key (folded (last_name path)) tree.entries ≡ has)
+IsNameIn has path tree key = (is_pro_name (last_name path) ≡ true)
+    × (is_name_in key (folded (last_name path)) tree.entries ≡ has)
 
 abbrev pub IsProTarget : List (List ℕ) → List ℕ → Target → Type 0
 IsProTarget store path NoDirectory = (tree : Tree) × Describes store tree × IsNoDirectory tree.entries (above_name path)
 IsProTarget store path NoName = HasDirectory store path (λ tree key. is_pro_name (last_name path) ≡ false)
 IsProTarget store path InUse = HasDirectory store path (IsNameIn true path)
-IsProTarget store path Full = HasDirectory store path (λ tree key. IsNameIn false path tree key × HasFirstFree store key None)
+IsProTarget store path Full = HasDirectory store path
+    (λ tree key. IsNameIn false path tree key × HasFirstFree store key None)
 IsProTarget store path (At slot) = HasDirectory store path (λ tree key.
     IsNameIn false path tree key × HasFirstFree store key (Some (slot.place, slot.number)) × (slot.directory ≡ key))
 
--- What is entered: the access bits let the file be destroyed, renamed, written and read, and it has not been saved elsewhere since its last change.
+-- What is entered: the access bits let the file be destroyed, renamed, written and read, and it has not been saved
+-- elsewhere since its last change.
 abbrev pub new_file : List ℕ → Slot → Attributes → Extent → NewFile
 new_file path slot attributes extent = record {
   storage = storage_type extent.units;
@@ -113,7 +117,8 @@ new_file path slot attributes extent = record {
 }
 
 -- the entry in a free slot of the directory to which the path leads
-pub record IsProEntry (store : List (List ℕ)) (path : List ℕ) (slot : Slot) (attributes : Attributes) (extent : Extent) (at : ℕ) (entry : Listed) : Type 0 where
+pub record IsProEntry (store : List (List ℕ)) (path : List ℕ) (slot : Slot) (attributes : Attributes) (extent : Extent)
+    (at : ℕ) (entry : Listed) : Type 0 where
   pub place_is : entry.place ≡ slot.place
   pub slot_is : entry.slot ≡ slot.number
   pub path_is : entry.path ≡ folded path
@@ -123,14 +128,17 @@ pub record IsProEntry (store : List (List ℕ)) (path : List ℕ) (slot : Slot) 
 -- the slot gets the entry, and the directory counts one file more
 abbrev pub pro_entering : List (List ℕ) → List ℕ → Slot → Attributes → Extent → List Write
 pro_entering store path slot attributes extent =
-    counted_writes More slot.place (with_bytes (slot_offset slot.number) (entry_bytes (new_file path slot attributes extent)) (unit_at store slot.place)) slot.directory store
+    counted_writes More slot.place
+    (with_bytes (slot_offset slot.number) (entry_bytes (new_file path slot attributes extent))
+    (unit_at store slot.place)) slot.directory store
 
 -- an index names 256 units of the body, and the master index the indexes
 pub record IsProTable (parts : List NewPart) (places : List ℕ) (k : ℕ) (unit : List ℕ) : Type 0 where
   pub index : (part_at parts k).kind ≡ Index → IsTableUnit parts places Body (256 * (part_at parts k).number) unit
   pub master : (part_at parts k).kind ≡ Master → IsTableUnit parts places Index 0 unit
 
--- A file has 32,768 units at most, and 16,777,215 bytes, as its length has three bytes. The one unit of a seedling is stored in any case.
+-- A file has 32,768 units at most, and 16,777,215 bytes, as its length has three bytes. The one unit of a seedling is
+-- stored in any case.
 abbrev pub pro_saves : SaveMeaning
 pro_saves = record {
   too_long = λ eof units. nat_lt 32768 units || nat_lt 16777215 eof;

@@ -18,16 +18,20 @@ use Rattle.vol_laws.specs.Writes.{Write}
 -- the list in which the first file with the name has a new one: in its path and in the bytes of its entry
 abbrev pub with_new_name : FileMeaning → NameMeaning → FileNameView → List ℕ → List File → List File
 with_new_name files names name new =
-    with_first files name (λ (file : File). record file { path = names.path new file.path file.bytes; bytes = names.bytes new file.bytes })
+    with_first files name (λ (file : File).
+    record file { path = names.path new file.path file.bytes; bytes = names.bytes new file.bytes })
 
 -- A file may get the name, no entry beside its own has it, its own among them, and its entry allows it.
-pub record IsRenamable (names : NameMeaning) (store : List (List ℕ)) (directory : Directory) (file : ℕ) (new : List ℕ) : Type 0 where
+pub record IsRenamable (names : NameMeaning) (store : List (List ℕ)) (directory : Directory) (file : ℕ)
+    (new : List ℕ) : Type 0 where
   pub name : names.may_have new ≡ true
   pub alone : ¬ names.HasBeside store directory file new
   pub unlocked : names.keeps (entry_of directory file).bytes ≡ false
 
--- The one write that renames the first file with a name, of an accepted volume: into the entry of that file, which may be renamed.
-pub record IsRenameEdit (format : Meaning) (files : FileMeaning) (names : NameMeaning) (store : List (List ℕ)) (name : FileNameView) (new : List ℕ) (writes : List Write) : Type 0 where
+-- The one write that renames the first file with a name, of an accepted volume: into the entry of that file, which may
+-- be renamed.
+pub record IsRenameEdit (format : Meaning) (files : FileMeaning) (names : NameMeaning) (store : List (List ℕ))
+    (name : FileNameView) (new : List ℕ) (writes : List Write) : Type 0 where
   pub directory : Directory
   pub accepted : IsAccepted format directory store
   pub file : ℕ
@@ -39,7 +43,8 @@ pub record IsRenameEdit (format : Meaning) (files : FileMeaning) (names : NameMe
   } ∷ []
 
 -- an accepted volume of which the first file with the name is so
-pub record HasFirst (format : Meaning) (files : FileMeaning) (store : List (List ℕ)) (name : FileNameView) (Is : Directory → ℕ → Type 0) : Type 0 where
+pub record HasFirst (format : Meaning) (files : FileMeaning) (store : List (List ℕ)) (name : FileNameView)
+    (Is : Directory → ℕ → Type 0) : Type 0 where
   pub directory : Directory
   pub accepted : IsAccepted format directory store
   pub file : ℕ
@@ -92,8 +97,10 @@ IsWeighed names store directory file new (Err Memory) = Unit {0}
 IsWeighed names store directory file new (Err error) = ⊥
 
 -- what is told of the first file with a name, which is to be renamed
-abbrev pub IsRenameTold : {T : Type 0} → Meaning → FileMeaning → NameMeaning → List (List ℕ) → FileNameView → List ℕ → Result T EditError → Type 0
-IsRenameTold format files names store name new (Ok x) = HasFirst format files store name (λ directory file. IsRenamable names store directory file new)
+abbrev pub IsRenameTold : {T : Type 0} → Meaning → FileMeaning → NameMeaning → List (List ℕ) → FileNameView → List ℕ
+    → Result T EditError → Type 0
+IsRenameTold format files names store name new (Ok x) =
+    HasFirst format files store name (λ directory file. IsRenamable names store directory file new)
 IsRenameTold format files names store name new (Err Name) = HasFirstUnnamed format files names store name new
 IsRenameTold format files names store name new (Err Exists) = HasFirstBeside format files names store name new
 IsRenameTold format files names store name new (Err Locked) = HasFirstLocked format files names store name new

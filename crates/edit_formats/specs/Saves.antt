@@ -20,11 +20,13 @@ use Rattle.edit_formats.specs.declared.target.Slot.{Slot}
 use Rattle.edit_formats.specs.declared.target.Target.{Target}
 use Rattle.edit_formats.specs.declared.target.Target.TheVariants.{At}
 
--- `too_long eof units`: a file of so many bytes in so many units is longer than a file can be. `parts stored` are the parts of a file of which these units are stored, and
--- `kept stored` says of each unit whether it is stored then. `IsTable parts places k unit`: part k is a table, and this is its unit where the parts have these places.
+-- `too_long eof units`: a file of so many bytes in so many units is longer than a file can be. `parts stored` are the
+-- parts of a file of which these units are stored, and `kept stored` says of each unit whether it is stored then.
+-- `IsTable parts places k unit`: part k is a table, and this is its unit where the parts have these places.
 --
--- `may_have path`: the last name of the path is one that a file may get. `IsTarget store path target`: the path of a new file leads to this. `entry store path slot attributes extent` is the
--- number that the entry of the file has among those of the directory, and the entry, and `entering store path slot attributes extent` are the writes that enter it.
+-- `may_have path`: the last name of the path is one that a file may get. `IsTarget store path target`: the path of a
+-- new file leads to this. `entry store path slot attributes extent` is the number that the entry of the file has among
+-- those of the directory, and the entry, and `entering store path slot attributes extent` are the writes that enter it.
 pub record SaveMeaning : Type 1 where
   pub too_long : ℕ → ℕ → Bool
   pub parts : List Bool → List NewPart
@@ -66,40 +68,52 @@ pub record IsMarkedUnit (format : Meaning) (directory : Directory) (old new : Li
 -- Writes that are no entry's stand: each unit of the system is as it was, or it is one of the map with marks made.
 pub record IsElsewhere (format : Meaning) (directory : Directory) (old new : List (List ℕ)) : Type 0 where
   pub size : length new ≡ length old
-  pub system : (place : ℕ) → is_system directory place ≡ true → (unit_at new place ≡ unit_at old place) ⊎ IsMarkedUnit format directory old new place
+  pub system : (place : ℕ) → is_system directory place ≡ true
+      → (unit_at new place ≡ unit_at old place) ⊎ IsMarkedUnit format directory old new place
 
--- From the first of these writes on the store has the directory with an entry more, and no unit outside the system is written.
-pub record IsEntering (format : Meaning) (directory : Directory) (at : ℕ) (entry : Listed) (store : List (List ℕ)) (writes : List Write) : Type 0 where
+-- From the first of these writes on the store has the directory with an entry more, and no unit outside the system is
+-- written.
+pub record IsEntering (format : Meaning) (directory : Directory) (at : ℕ) (entry : Listed) (store : List (List ℕ))
+    (writes : List Write) : Type 0 where
   pub within : at ≤ entries directory
   pub enters : 0 < length writes
-  pub described : (n : ℕ) → 0 < n → n ≤ length writes → format.Describes (store_after (take n writes) store) (inserted directory at entry)
+  pub described : (n : ℕ) → 0 < n → n ≤ length writes
+      → format.Describes (store_after (take n writes) store) (inserted directory at entry)
   pub rest : (n : ℕ) → 0 < n → n ≤ length writes → HasSameRest directory store (store_after (take n writes) store)
 
 -- The entry of the file, and its number. The writes that are made ready on one store enter it on another.
-pub record HasEntering (format : Meaning) (saves : SaveMeaning) (now : Directory) (store base : List (List ℕ)) (path : List ℕ) (slot : Slot) (attributes : Attributes) (extent : Extent) : Type 0 where
+pub record HasEntering (format : Meaning) (saves : SaveMeaning) (now : Directory) (store base : List (List ℕ))
+    (path : List ℕ) (slot : Slot) (attributes : Attributes) (extent : Extent) : Type 0 where
   pub at : ℕ
   pub entry : Listed
   pub is : saves.IsEntry store path slot attributes extent at entry
   pub entering : IsEntering format now at entry base (saves.entering store path slot attributes extent)
 
--- What saving asks of a format. `units`: its parts are the tables and the units that are stored, in rising order. `built`: these at their places, the tables with their
--- units, are what the entry leads to. `enters`: the writes that are made ready on a volume enter the file, once other units are written and places are marked.
+-- What saving asks of a format. `units`: its parts are the tables and the units that are stored, in rising order.
+-- `built`: these at their places, the tables with their units, are what the entry leads to. `enters`: the writes that
+-- are made ready on a volume enter the file, once other units are written and places are marked.
 pub record IsSavable (format : Meaning) (saves : SaveMeaning) : Type 0 where
-  pub units : (stored : List Bool) → saves.too_long 0 (length stored) ≡ false → HasStored (saves.kept stored) (saves.parts stored)
+  pub units : (stored : List Bool) → saves.too_long 0 (length stored) ≡ false
+      → HasStored (saves.kept stored) (saves.parts stored)
   pub some : (stored : List Bool) → saves.too_long 0 (length stored) ≡ false → 0 < length (saves.parts stored)
   pub few : (stored : List Bool) → saves.too_long 0 (length stored) ≡ false → length (saves.parts stored) < 65536
   pub countable : (eof units : ℕ) → saves.too_long eof units ≡ false → units < 65536
   pub shorter : (eof units : ℕ) → saves.too_long eof units ≡ false → saves.too_long 0 units ≡ false
-  pub rising : (at : ℕ) (stored : List Bool) (places : List ℕ) (planned : List Planned) → saves.too_long 0 (length stored) ≡ false
+  pub rising : (at : ℕ) (stored : List Bool) (places : List ℕ) (planned : List Planned)
+      → saves.too_long 0 (length stored) ≡ false
       → HasPlaced at (saves.parts stored) places planned → IsRisingPlan planned
-  pub built : (count at : ℕ) (store : List (List ℕ)) (path : List ℕ) (slot : Slot) (attributes : Attributes) (extent : Extent) (entry : Listed)
+  pub built : (count at : ℕ) (store : List (List ℕ)) (path : List ℕ) (slot : Slot) (attributes : Attributes)
+      (extent : Extent) (entry : Listed)
       (stored : List Bool) (places : List ℕ) (planned : List Planned) → saves.too_long 0 (length stored) ≡ false
       → HavePlaces (format.CanName count) (saves.parts stored) places → HasPlaced at (saves.parts stored) places planned
       → HasTables saves (saves.parts stored) places planned → length store ≡ count
-      → saves.IsEntry store path slot attributes extent at entry → extent.units ≡ length stored → extent.first ≡ place_of planned 0
+      → saves.IsEntry store path slot attributes extent at entry → extent.units ≡ length stored
+      → extent.first ≡ place_of planned 0
       → IsBuilt format count planned entry.root
-  pub enters : (store base : List (List ℕ)) (directory now : Directory) (path : List ℕ) (slot : Slot) (attributes : Attributes) (extent : Extent)
+  pub enters : (store base : List (List ℕ)) (directory now : Directory) (path : List ℕ) (slot : Slot)
+      (attributes : Attributes) (extent : Extent)
       → format.Describes store directory → HasWholeUnits format store → saves.IsTarget store path (At slot)
-      → saves.too_long attributes.eof extent.units ≡ false → ((count : ℕ) × format.CanName count extent.first) → length attributes.date.0 ≡ 4
+      → saves.too_long attributes.eof extent.units ≡ false → ((count : ℕ) × format.CanName count extent.first)
+      → length attributes.date.0 ≡ 4
       → format.Describes base now → IsElsewhere format directory store base
       → HasEntering format saves now store base path slot attributes extent

@@ -15,12 +15,15 @@ PointsTo parts places part unit i =
     ⊎ (((k : ℕ) → k < length parts → part_at parts k ≢ part) × (pointer_of unit i ≡ 0))
 
 -- a block of 256 pointers that name the parts of a kind from a number on
-pub record IsTableUnit (parts : List NewPart) (places : List ℕ) (child : PartKind) (first : ℕ) (unit : List ℕ) : Type 0 where
+pub record IsTableUnit (parts : List NewPart) (places : List ℕ) (child : PartKind) (first : ℕ)
+    (unit : List ℕ) : Type 0 where
   pub size : length unit ≡ 512
   pub pointers : (i : ℕ) → i < 256 → PointsTo parts places (new_part child (first + i)) unit i
 
--- Each index of a plan has a block that names 256 units of the body, and its master index one that names the indexes. A file
--- has at most 128 of these, so the other pointers are 0.
+-- Each index of a plan has a block that names 256 units of the body, and its master index one that names the indexes. A
+-- file has at most 128 of these, so the other pointers are 0.
 pub record HasTableUnits (parts : List NewPart) (places : List ℕ) (planned : List Planned) : Type 0 where
-  pub indexes : (k : ℕ) → k < length parts → (part_at parts k).kind ≡ Index → IsTableUnit parts places Body (256 * (part_at parts k).number) (unit_of planned k)
-  pub master : (k : ℕ) → k < length parts → (part_at parts k).kind ≡ Master → IsTableUnit parts places Index 0 (unit_of planned k)
+  pub indexes : (k : ℕ) → k < length parts → (part_at parts k).kind ≡ Index
+      → IsTableUnit parts places Body (256 * (part_at parts k).number) (unit_of planned k)
+  pub master : (k : ℕ) → k < length parts → (part_at parts k).kind ≡ Master
+      → IsTableUnit parts places Index 0 (unit_of planned k)

@@ -73,8 +73,8 @@ fn walk_directories<D: Device, A: Allocator + Copy>(
     }
 }
 
-/// The key block of the first directory of a ProDOS volume that has a path, if one has. The letters of the given path are
-/// taken as capitals.
+/// The key block of the first directory of a ProDOS volume that has a path, if one has. The letters of the given path
+/// are taken as capitals.
 ///
 /// # Errors
 /// `Device` where a read fails; `Memory`; `Check` where a device tells of directories that are none.

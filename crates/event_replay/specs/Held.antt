@@ -24,8 +24,10 @@ abbrev pub orders_of : Option Bool → List Bool
 orders_of None = []
 orders_of (Some took) = took ∷ []
 
--- A device with these failures to come, which it meets in time, and this store, of whose writes so many stand more than at first, and that can count so many more.
-pub record IsDeviceAt (base left : ℕ) (device : DeviceState) (fails_read : Bool) (fails_write : Option Bool) (store : List (List ℕ)) (writes : ℕ) : Type 0 where
+-- A device with these failures to come, which it meets in time, and this store, of whose writes so many stand more than
+-- at first, and that can count so many more.
+pub record IsDeviceAt (base left : ℕ) (device : DeviceState) (fails_read : Bool) (fails_write : Option Bool)
+    (store : List (List ℕ)) (writes : ℕ) : Type 0 where
   pub honest : device.honest ≡ true
   pub readable : device.unreadable ≡ []
   pub reads : device.read_failures ≡ Some (count_of fails_read)
@@ -55,8 +57,8 @@ abbrev pub MarksOnly : ℕ → List Task → Type 0
 MarksOnly to (Map at marks ∷ tasks) = All (OnlyMarks to) marks × MarksOnly to tasks
 MarksOnly to tasks = Unit {0}
 
--- In the first change of the map no more writes come than it has units. They mark one place used at most; and that is the
--- one place that is lost now and was not at first.
+-- In the first change of the map no more writes come than it has units. They mark one place used at most; and that is
+-- the one place that is lost now and was not at first.
 pub record InFirstChange (units : ℕ) (first : List ℕ) (to : ℕ) (course : Course) (tasks : List Task) : Type 0 where
   pub count : course.writes + map_writes tasks ≤ units
   pub marks : MarksOnly to tasks
@@ -73,7 +75,8 @@ pub record HasBegun (units : ℕ) (first : List ℕ) (course : Course) (tasks : 
   pub begins : BeginsWork units first to course tasks
 
 -- an open session, whose work has come this far
-pub record IsOpenAt (format : Meaning) (session : Present) (state : SessionState) (opened : Opened) (writes moves : ℕ) : Type 0 where
+pub record IsOpenAt (format : Meaning) (session : Present) (state : SessionState) (opened : Opened)
+    (writes moves : ℕ) : Type 0 where
   pub not_closed : session.closed ≡ false
   pub left : state ≡ Open (length session.tasks)
   pub course : Course
@@ -84,23 +87,27 @@ pub record IsOpenAt (format : Meaning) (session : Present) (state : SessionState
 -- a session, open or closed, or none
 abbrev pub IsHeldAt : Meaning → Holds → SessionState → List (List ℕ) → Opened → ℕ → ℕ → Type 0
 IsHeldAt format (ASession session) state store opened writes moves =
-    IsVolume format store × (IsOpenAt format session state opened writes moves ⊎ ((session.closed ≡ true) × (state ≡ Closed)))
+    IsVolume format store × (IsOpenAt format session state opened writes moves
+    ⊎ ((session.closed ≡ true) × (state ≡ Closed)))
 IsHeldAt format (ADevice device) state store opened writes moves = state ≡ Absent
 
--- What is held is what the moment says, over a device of which so many writes more stand than at first, and that can count so many more.
+-- What is held is what the moment says, over a device of which so many writes more stand than at first, and that can
+-- count so many more.
 abbrev pub IsAt : Meaning → ℕ → ℕ → Holds → Moment → Type 0
 IsAt format base left held now =
     IsDeviceAt base left (device_of held) now.fails_read now.fails_write now.store now.writes
     × IsHeldAt format held now.session now.store now.opened now.writes now.moves
 
 -- a run from a moment, over events that were answered, to what is held then
-pub record HasRun {A : Type 0} (format : Meaning) (files : FileMeaning) (base left : ℕ) (first : Moment) (events : List Event) (answers : List (Answer A)) (held : Holds) : Type 0 where
+pub record HasRun {A : Type 0} (format : Meaning) (files : FileMeaning) (base left : ℕ) (first : Moment)
+    (events : List Event) (answers : List (Answer A)) (held : Holds) : Type 0 where
   pub run : List Moment
   pub is_run : IsRun format files first events answers run
   pub at : IsAt format base left held (last_of first run)
 
 -- A run from a moment to a device.
-pub record RanTo {A : Type 0} (format : Meaning) (files : FileMeaning) (base : ℕ) (first : Moment) (events : List Event) (answers : List (Answer A)) (device : DeviceState) : Type 0 where
+pub record RanTo {A : Type 0} (format : Meaning) (files : FileMeaning) (base : ℕ) (first : Moment) (events : List Event)
+    (answers : List (Answer A)) (device : DeviceState) : Type 0 where
   pub run : List Moment
   pub is_run : IsRun format files first (take (length answers) events) answers run
   pub honest : device.honest ≡ true
@@ -108,7 +115,8 @@ pub record RanTo {A : Type 0} (format : Meaning) (files : FileMeaning) (base : �
   pub standing : device.standing ≡ base + (last_of first run).writes
 
 -- A run from the first moment on a store to a device; or there was no memory for the first opening.
-pub record RanFrom {A : Type 0} (format : Meaning) (files : FileMeaning) (base : ℕ) (store : List (List ℕ)) (events : List Event) (answers : List (Answer A)) (device : DeviceState) : Type 0 where
+pub record RanFrom {A : Type 0} (format : Meaning) (files : FileMeaning) (base : ℕ) (store : List (List ℕ))
+    (events : List Event) (answers : List (Answer A)) (device : DeviceState) : Type 0 where
   pub first : Moment
   pub begins : Begins A format store first ⊎ ((answers ≡ []) × (first ≡ first_moment store Absent []))
   pub ran : RanTo format files base first events answers device

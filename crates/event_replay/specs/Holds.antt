@@ -57,7 +57,8 @@ Fits format (ASession session) = (course : Course) × IsSession format session c
 Fits format (ADevice device) = (device.unit_size ≡ format.unit_size) × format.Takes device.places
 
 -- what is true of a replay between two events
-pub record IsSound {D F A V : Type 0} (meaning : F → Meaning) (state : D → DeviceState) (directory : F → V → Directory) (replay : Replay D F A V) : Type 0 where
+pub record IsSound {D F A V : Type 0} (meaning : F → Meaning) (state : D → DeviceState) (directory : F → V → Directory)
+    (replay : Replay D F A V) : Type 0 where
   pub format : IsOfFormat replay.format.now replay.held
   pub fits : Fits (meaning replay.format.now) (holds state directory replay)
 
@@ -102,7 +103,8 @@ AnswersRead (Err Memory) answer = answer ≡ NoMemory
 AnswersRead (Err error) answer = answer ≡ Refused
 
 -- a read of a file on a device
-pub record ReadsDevice {A : Type 0} (format : Meaning) (files : FileMeaning) (path : List ℕ) (old : DeviceState) (answer : Answer A) (new : DeviceState) : Type 0 where
+pub record ReadsDevice {A : Type 0} (format : Meaning) (files : FileMeaning) (path : List ℕ) (old : DeviceState)
+    (answer : Answer A) (new : DeviceState) : Type 0 where
   pub result : Result (List ℕ) CmdError
   pub device : OnlyReads (told_device result) old new
   pub text : IsTrue old.honest → IfOk result (IsTextAt format files old.store (GivenPath path) false)
@@ -129,7 +131,8 @@ ChangesHolds change (ADevice old) (ADevice new) = new ≡ change old
 ChangesHolds change old new = ⊥
 
 -- an opening that was refused, and not for want of memory
-pub record IsRefusedOpening {A : Type 0} (format : Meaning) (old : DeviceState) (answer : Answer A) (new : DeviceState) : Type 0 where
+pub record IsRefusedOpening {A : Type 0} (format : Meaning) (old : DeviceState) (answer : Answer A)
+    (new : DeviceState) : Type 0 where
   pub error : OpenError A
   pub device : OnlyReads (is_device_error {T = Unit {0}} (Err error)) old new
   pub refused : IsTrue old.honest → IsRefusal format old.store reclaiming error

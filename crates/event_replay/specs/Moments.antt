@@ -20,15 +20,16 @@ IsNotOpen (Open left) = ⊥
 IsNotOpen Closed = Unit {0}
 IsNotOpen Absent = Unit {0}
 
--- What was there when the session was opened last: which places were lost, how many unit writes stood, and how often they
--- had changed the layout.
+-- What was there when the session was opened last: which places were lost, how many unit writes stood, and how often
+-- they had changed the layout.
 pub record Opened : Type 0 where
   pub lost : List ℕ
   pub writes : ℕ
   pub moves : ℕ
 
--- The units that stand; the session; whether the next read is to fail, and the next write, with whether its unit stands then; how many unit writes stand since the
--- first moment, and how often they have changed the layout; and what was there at the last opening.
+-- The units that stand; the session; whether the next read is to fail, and the next write, with whether its unit stands
+-- then; how many unit writes stand since the first moment, and how often they have changed the layout; and what was
+-- there at the last opening.
 pub record Moment : Type 0 where
   pub store : List (List ℕ)
   pub session : SessionState

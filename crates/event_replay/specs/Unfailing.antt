@@ -21,9 +21,11 @@ has_no_writes failures = false
 -- each place can be read, no failure is to come, and each write is passed on
 abbrev pub fails_nothing : DeviceState → Bool
 fails_nothing device =
-    is_empty device.unreadable && (has_no_reads device.read_failures && (has_no_writes device.write_failures && is_none device.passes))
+    is_empty device.unreadable && (has_no_reads device.read_failures
+    && (has_no_writes device.write_failures && is_none device.passes))
 
--- A device that is taken to fail nothing: it is honest where the one in it is, and that has failed nothing and has nothing to fail. All of its writes are those that stand.
+-- A device that is taken to fail nothing: it is honest where the one in it is, and that has failed nothing and has
+-- nothing to fail. All of its writes are those that stand.
 abbrev pub unfailing : Bool → DeviceState → DeviceState
 unfailing failed device = record device {
   honest = device.honest && (not failed && fails_nothing device);

@@ -37,9 +37,9 @@ pub record HasDeficit (format : Meaning) (store : List (List ℕ)) (deficit : �
 abbrev pub IsAmong : ℕ → List ℕ → ℕ → Type 0
 IsAmong to first place = (place ≡ to) ⊎ Contains first place
 
--- One place is lost at most, or two where the map has several units. But until the first write after an opening those are
--- lost that were lost then; and where the map has several units, until its first change is whole, which takes one write for
--- each at most, those that are lost were lost then, but for one place.
+-- One place is lost at most, or two where the map has several units. But until the first write after an opening those
+-- are lost that were lost then; and where the map has several units, until its first change is whole, which takes one
+-- write for each at most, those that are lost were lost then, but for one place.
 abbrev pub AreFew : ℕ → Opened → ℕ → List ℕ → Type 0
 AreFew units opened writes lost =
     (length lost ≤ 1)
@@ -66,7 +66,8 @@ pub record ChangesLayout (format : Meaning) (old new : List (List ℕ)) (before 
   pub described : format.Describes new directory
   pub change : ((to ≡ from) × (after ≡ before)) ⊎ (MovesOne (length directory.available) from to × (after ≡ before + 1))
 
--- One unit write that stands: an accepted volume, the same one, few of whose places are lost and at most one of whose parts has moved.
+-- One unit write that stands: an accepted volume, the same one, few of whose places are lost and at most one of whose
+-- parts has moved.
 pub record Writes (format : Meaning) (old new : Moment) : Type 0 where
   pub place : ℕ
   pub unit : List ℕ
@@ -77,8 +78,8 @@ pub record Writes (format : Meaning) (old new : Moment) : Type 0 where
   pub layout : ChangesLayout format old.store new.store old.moves new.moves
   pub few : HasFewLost format old.opened new.store new.writes
 
--- A store on which a session is opened: accepted, with a free place or in order; which of its places are lost, and how many
--- writes bring its parts home.
+-- A store on which a session is opened: accepted, with a free place or in order; which of its places are lost, and how
+-- many writes bring its parts home.
 pub record Opens (format : Meaning) (store : List (List ℕ)) (lost : List ℕ) (writes : ℕ) : Type 0 where
   pub directory : Directory
   pub accepted : IsAccepted format directory store

@@ -7,8 +7,8 @@ pub static FINDINGS: [Explanation; 32] = [
     Explanation {
         front: "2IMG",
         meaning: "The file is a 2IMG file, and its header says this of the image in it.",
-        advice: "With a wrong header take the image out by `a2shop unwrap`, and put it into a new file by `a2shop wrap` \
-            with the right order.",
+        advice: "With a wrong header take the image out by `a2shop unwrap`, and put it into a new file by \
+            `a2shop wrap` with the right order.",
     },
     Explanation {
         front: "FAULT Geometry",
@@ -192,8 +192,8 @@ pub static FINDINGS: [Explanation; 32] = [
         front: "----------------------------------------------------------------",
         meaning: "The file has no digest, since it can't be read: one of its pointers leads nowhere, two of its parts \
             stand at one place, or a sector or block of it can't be read. The other files are listed all the same.",
-        advice: "`a2shop check` tells the faults of the volume. Take the files that can be read off the image, and look \
-            for another copy of the disk.",
+        advice: "`a2shop check` tells the faults of the volume. Take the files that can be read off the image, and \
+            look for another copy of the disk.",
     },
     Explanation {
         front: "error:",

@@ -16,7 +16,8 @@ use Rattle.file_cmds.specs.declared.file_texts.FileText.{FileText}
 use Rattle.file_cmds.specs.declared.file_texts.FileText.TheVariants.{Whole, Faulty, Failed}
 
 -- the parts of all files, in order, of which none has a fault of its own
-pub record AreFaultlessParts (format : Meaning) (directory : Directory) (store : List (List ℕ)) (parts : List Part) : Type 0 where
+pub record AreFaultlessParts (format : Meaning) (directory : Directory) (store : List (List ℕ))
+    (parts : List Part) : Type 0 where
   pub are_parts : IsPartsOf format directory store parts
   pub faultless : (file : ℕ) → file < entries directory → ¬ OwnFault format directory store file
 
@@ -41,7 +42,8 @@ HasWalker device None (Some walker) = HasTables device walker
 HasWalker device None None = ⊥
 
 -- the files of a volume that was opened on this device
-pub record AreFilesOf {A : Type 0} (format : Meaning) (directory : Directory) (device : DeviceState) (files : VolumeFiles A) : Type 0 where
+pub record AreFilesOf {A : Type 0} (format : Meaning) (directory : Directory) (device : DeviceState)
+    (files : VolumeFiles A) : Type 0 where
   pub within : KeptWithin device.places files.parts
   pub walker : HasWalker device files.parts files.walker
   pub kept : IsTrue device.honest → AreKeptOf format directory device.store files.parts

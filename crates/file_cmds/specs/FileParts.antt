@@ -10,7 +10,8 @@ use Rattle.file_cmds.specs.declared.file_parts.FileParts.{FileParts}
 use Rattle.file_cmds.specs.declared.file_parts.FileParts.TheVariants.{Whole, Faulty, Failed}
 
 -- the parts of a file that has no fault of its own, in order
-pub record IsPartsAlone (format : Meaning) (directory : Directory) (store : List (List ℕ)) (file : ℕ) (parts : List Part) : Type 0 where
+pub record IsPartsAlone (format : Meaning) (directory : Directory) (store : List (List ℕ)) (file : ℕ)
+    (parts : List Part) : Type 0 where
   pub faultless : ¬ OwnFault format directory store file
   pub are_parts : IsPartsOfFile format directory store file parts
 

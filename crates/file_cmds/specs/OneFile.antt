@@ -6,7 +6,8 @@ use Rattle.vol_format.specs.Directory.{Directory, Listed, entries, entry_of}
 
 -- an entry by its number, pointing to nothing if it is another file's
 abbrev pub entry_alone : Directory → ℕ → ℕ → Listed
-entry_alone directory file entry = if entry == file then entry_of directory entry else record (entry_of directory entry) { root = Null }
+entry_alone directory file entry =
+    if entry == file then entry_of directory entry else record (entry_of directory entry) { root = Null }
 
 unfoldable pub entries_alone : Directory → ℕ → List Listed
 entries_alone directory file = map (entry_alone directory file) (range_with_len 0 (entries directory))

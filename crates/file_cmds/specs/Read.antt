@@ -8,7 +8,8 @@ use Rattle.file_formats.specs.Listing.{HasHeaderFault}
 use Rattle.file_cmds.specs.Text.{IsEntryText, OwnFault}
 
 -- the first file with a name has this text
-pub record IsTextAt (format : Meaning) (files : FileMeaning) (store : List (List ℕ)) (name : FileNameView) (whole : Bool) (text : List ℕ) : Type 0 where
+pub record IsTextAt (format : Meaning) (files : FileMeaning) (store : List (List ℕ)) (name : FileNameView)
+    (whole : Bool) (text : List ℕ) : Type 0 where
   pub directory : Directory
   pub described : format.Describes store directory
   pub file : ℕ
@@ -16,7 +17,8 @@ pub record IsTextAt (format : Meaning) (files : FileMeaning) (store : List (List
   pub read : IsEntryText format files directory store file whole text
 
 -- the first file with a name has a fault of its own
-pub record IsBroken (format : Meaning) (files : FileMeaning) (store : List (List ℕ)) (name : FileNameView) : Type 0 where
+pub record IsBroken (format : Meaning) (files : FileMeaning) (store : List (List ℕ))
+    (name : FileNameView) : Type 0 where
   pub directory : Directory
   pub described : format.Describes store directory
   pub file : ℕ
@@ -29,4 +31,5 @@ IsUnreadable format files store name = HasHeaderFault format store ⊎ IsBroken 
 
 -- the directory can be read, and has no file with the name
 abbrev pub HasNoFile : Meaning → FileMeaning → List (List ℕ) → FileNameView → Type 0
-HasNoFile format files store name = (directory : Directory) × format.Describes store directory × NamesNone files directory name
+HasNoFile format files store name =
+    (directory : Directory) × format.Describes store directory × NamesNone files directory name

@@ -6,8 +6,8 @@ use Rattle.vol_format.specs.Directory.{Directory}
 use Rattle.vol_format.specs.Meaning.{Meaning}
 use Rattle.vol_format.specs.Reach.{Reach}
 
--- Calls that read alone, some of which may have failed: the failures of a device are counted and used up, and nothing else
--- of it changes.
+-- Calls that read alone, some of which may have failed: the failures of a device are counted and used up, and nothing
+-- else of it changes.
 pub record ReadsOn (old new : DeviceState) : Type 0 where
   pub same : IsSameDevice old new
   pub faults : old.faults ≤ new.faults

@@ -13,8 +13,9 @@ use Rattle.edit_formats.specs.ProSaves.{IsDirectoryAt}
 use Rattle.file_edits.specs.Making.{making}
 use Rattle.file_edits.specs.Made.{HasMade as IsMade, IsMaking, IsOldOrMade as IsOldOrMadeIn, IsTold as IsToldIn}
 
--- `IsThere there store path`: whether a directory has the path. `AreWrites store path date writes`: these writes make the directory. `HasMade store path date new`: it was made, and
--- this is what stands then. `IsOldOrMade store path date new`: it was made or not, and the files are those of before. `IsTold store path date error`: an accepted volume has
+-- `IsThere there store path`: whether a directory has the path. `AreWrites store path date writes`: these writes make
+-- the directory. `HasMade store path date new`: it was made, and this is what stands then. `IsOldOrMade store path date
+-- new`: it was made or not, and the files are those of before. `IsTold store path date error`: an accepted volume has
 -- this cause not to get the directory.
 pub record DirectoryMeaning : Type 1 where
   pub IsThere : Bool → List (List ℕ) → List ℕ → Type 0
@@ -25,14 +26,18 @@ pub record DirectoryMeaning : Type 1 where
 
 -- the writes that make a directory, which are fewer than a device can count
 abbrev pub IsDirectoryEdit : DirectoryMeaning → List (List ℕ) → List ℕ → ProDate → List Write → Type 0
-IsDirectoryEdit directories store path date writes = directories.AreWrites store path date writes × (length writes < 18446744073709551616)
+IsDirectoryEdit directories store path date writes =
+    directories.AreWrites store path date writes × (length writes < 18446744073709551616)
 
 -- A directory that was made leaves an accepted volume with the files of before, and the same places are lost.
 pub record KeepsFiles (format : Meaning) (directories : DirectoryMeaning) : Type 0 where
-  pub volume : (store : List (List ℕ)) (path : List ℕ) (date : ProDate) (new : List (List ℕ)) → directories.HasMade store path date new → IsVolume format new
-  pub files : (store : List (List ℕ)) (path : List ℕ) (date : ProDate) (new : List (List ℕ)) → directories.HasMade store path date new
+  pub volume : (store : List (List ℕ)) (path : List ℕ) (date : ProDate) (new : List (List ℕ))
+      → directories.HasMade store path date new → IsVolume format new
+  pub files : (store : List (List ℕ)) (path : List ℕ) (date : ProDate) (new : List (List ℕ))
+      → directories.HasMade store path date new
       → (all : List File) → HasFiles format store all → HasFiles format new all
-  pub lost : (store : List (List ℕ)) (path : List ℕ) (date : ProDate) (new : List (List ℕ)) → directories.HasMade store path date new
+  pub lost : (store : List (List ℕ)) (path : List ℕ) (date : ProDate) (new : List (List ℕ))
+      → directories.HasMade store path date new
       → (place : ℕ) → IsLostOn format new place ↔ IsLostOn format store place
 
 -- ---- ProDOS

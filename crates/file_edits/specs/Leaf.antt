@@ -30,7 +30,8 @@ pub record IsLeafEntered (less more : List (List ℕ)) (place slot leaf : ℕ) :
   pub leaf_is : IsEmptyDirectory more leaf
 
 -- The tree has one entry more, in the directory with this key block, and one block more.
-pub record HasOneLeafMore (less more : List (List ℕ)) (place slot leaf : ℕ) (blocks : List ℕ) (entries : List Entry) : Type 0 where
+pub record HasOneLeafMore (less more : List (List ℕ)) (place slot leaf : ℕ) (blocks : List ℕ)
+    (entries : List Entry) : Type 0 where
   pub key : ℕ
   pub own : List ℕ
   pub run : IsRun less key own
@@ -48,8 +49,10 @@ pub record IsLeafEntry (leaf : ℕ) (bytes : List ℕ) : Type 0 where
   pub storage : storage_of bytes ≡ 13
   pub key : word bytes 0x11 ≡ leaf
 
--- The volume's directory has the entry of the new directory more, whose block is the system's. Only the system's blocks changed.
-pub record HasOneDirectoryMore (reserved : List Bool) (all : List Entry) (directory : Directory) (old new : List (List ℕ)) (above : Option (List ℕ)) (place slot leaf : ℕ) (bytes : List ℕ) : Type 0 where
+-- The volume's directory has the entry of the new directory more, whose block is the system's. Only the system's blocks
+-- changed.
+pub record HasOneDirectoryMore (reserved : List Bool) (all : List Entry) (directory : Directory)
+    (old new : List (List ℕ)) (above : Option (List ℕ)) (place slot leaf : ℕ) (bytes : List ℕ) : Type 0 where
   pub at : ℕ
   pub within : at ≤ listed_entries directory
   pub entry : Listed

@@ -20,7 +20,8 @@ use Rattle.file_edits.specs.Leaf.{IsEmptyDirectory}
 use Rattle.file_edits.specs.NewDirectory.{directory_block}
 use Rattle.file_edits.specs.WithDirectory.{with_directory}
 
--- The writes that make a directory on an accepted volume: its block at the first free place, and its entry in the first free slot of the directory to which the path leads.
+-- The writes that make a directory on an accepted volume: its block at the first free place, and its entry in the first
+-- free slot of the directory to which the path leads.
 pub record IsMaking (making : Making) (writes : List Write) : Type 0 where
   pub directory : Directory
   pub accepted : IsAccepted (pro_meaning making.reserved) directory making.store
@@ -32,8 +33,10 @@ pub record IsMaking (making : Making) (writes : List Write) : Type 0 where
   pub are : writes ≡ making_writes making directory slot place
   pub few : length writes < 18446744073709551616
 
--- The path led to a free slot of an accepted volume, and the first free place was this. The volume is accepted, and it says what it said, with the entry of the new directory
--- more, whose place is marked used and is the system's: `with_directory`. Its block is that of a new directory, which has no entry. The list of files is that of before, and the same places are lost.
+-- The path led to a free slot of an accepted volume, and the first free place was this. The volume is accepted, and it
+-- says what it said, with the entry of the new directory more, whose place is marked used and is the system's:
+-- `with_directory`. Its block is that of a new directory, which has no entry. The list of files is that of before, and
+-- the same places are lost.
 pub record HasMade (making : Making) (new : List (List ℕ)) : Type 0 where
   pub directory : Directory
   pub accepted : IsAccepted (pro_meaning making.reserved) directory making.store
@@ -45,11 +48,14 @@ pub record HasMade (making : Making) (new : List (List ℕ)) : Type 0 where
   pub within : at ≤ entries directory
   pub entry : Listed
   pub is : IsNewEntry making slot place entry
-  pub made : IsAccepted (pro_meaning making.reserved) (with_directory (remapped directory place false) at entry place) new
+  pub made : IsAccepted (pro_meaning making.reserved)
+      (with_directory (remapped directory place false) at entry place) new
   pub block : unit_at new place ≡ directory_block making.path slot making.date
   pub empty : IsEmptyDirectory new place
-  pub files : (all : List File) → HasFiles (pro_meaning making.reserved) making.store all → HasFiles (pro_meaning making.reserved) new all
-  pub lost : (other : ℕ) → IsLostOn (pro_meaning making.reserved) new other ↔ IsLostOn (pro_meaning making.reserved) making.store other
+  pub files : (all : List File) → HasFiles (pro_meaning making.reserved) making.store all
+      → HasFiles (pro_meaning making.reserved) new all
+  pub lost : (other : ℕ) → IsLostOn (pro_meaning making.reserved) new other
+      ↔ IsLostOn (pro_meaning making.reserved) making.store other
 
 -- The files of an accepted volume are those of before; at worst the place that the new directory was to take is lost.
 pub record HasNotMade (making : Making) (new : List (List ℕ)) : Type 0 where
@@ -63,12 +69,14 @@ IsOldOrMade making new = (new ≡ making.store) ⊎ HasNotMade making new ⊎ Ha
 
 -- there is a directory in which no entry has the name, but it has no free slot
 abbrev pub HasFullParent : Making → Type 0
-HasFullParent making = HasTarget (pro_meaning making.reserved) pro_saves making.store making.path (λ directory target. target ≡ Full)
+HasFullParent making = HasTarget (pro_meaning making.reserved) pro_saves making.store making.path
+    (λ directory target. target ≡ Full)
 
 -- there is a free slot, but no place is free
 abbrev pub HasNoPlace : Making → Type 0
 HasNoPlace making =
-    HasTarget (pro_meaning making.reserved) pro_saves making.store making.path (λ directory target. ((slot : Slot) × (target ≡ At slot)) × (free_places directory ≡ []))
+    HasTarget (pro_meaning making.reserved) pro_saves making.store making.path
+    (λ directory target. ((slot : Slot) × (target ≡ At slot)) × (free_places directory ≡ []))
 
 -- what each cause says
 abbrev pub IsTold : Making → EditError → Type 0

@@ -20,7 +20,8 @@ pub record Making : Type 0 where
 abbrev pub making : List Bool → List (List ℕ) → List ℕ → ProDate → Making
 making reserved store path date = record { reserved = reserved; store = store; path = path; date = date }
 
--- The writes: the new block, the unit of the map with its bit put to 0, and then the entry with the parent's count of files, in one write or two.
+-- The writes: the new block, the unit of the map with its bit put to 0, and then the entry with the parent's count of
+-- files, in one write or two.
 abbrev pub block_write : Making → Slot → ℕ → Write
 block_write making slot place = record { place = place; unit = directory_block making.path slot making.date }
 
@@ -34,9 +35,11 @@ abbrev pub placing_writes : Making → Directory → Slot → ℕ → List Write
 placing_writes making directory slot place = block_write making slot place ∷ mark_write making directory place ∷ []
 
 abbrev pub making_writes : Making → Directory → Slot → ℕ → List Write
-making_writes making directory slot place = placing_writes making directory slot place ++ entering making.store making.path slot place making.date
+making_writes making directory slot place =
+    placing_writes making directory slot place ++ entering making.store making.path slot place making.date
 
--- The entry of the new directory: it stands in this slot, its path is the given one in capitals, and it leads to a directory.
+-- The entry of the new directory: it stands in this slot, its path is the given one in capitals, and it leads to a
+-- directory.
 pub record IsNewEntry (making : Making) (slot : Slot) (place : ℕ) (entry : Listed) : Type 0 where
   pub place_is : entry.place ≡ slot.place
   pub slot_is : entry.slot ≡ slot.number

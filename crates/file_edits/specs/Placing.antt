@@ -34,11 +34,18 @@ pub record ReadVolume : Type 1 where
   pub device : DeviceState
 
 abbrev pub read_volume : Meaning → SaveMeaning → Directory → DeviceState → ReadVolume
-read_volume format saves directory device = record { format = format; saves = saves; directory = directory; device = device }
+read_volume format saves directory device = record {
+  format = format;
+  saves = saves;
+  directory = directory;
+  device = device;
+}
 
 -- the writes of the parts, and behind them those that mark their places used
-pub record HasPlacedWrites {A : Type 0} (volume : ReadVolume) (placed : PlacedFile) (writes : List (Prepared A)) : Type 0 where
+pub record HasPlacedWrites {A : Type 0} (volume : ReadVolume) (placed : PlacedFile)
+    (writes : List (Prepared A)) : Type 0 where
   pub start : List (Prepared A)
-  pub built : HasPartWrites volume.saves volume.format.unit_size placed.parts.now placed.places.now placed.file.stored.now placed.file.units.now
+  pub built : HasPartWrites volume.saves volume.format.unit_size placed.parts.now placed.places.now
+      placed.file.stored.now placed.file.units.now
       (length placed.parts.now) (map write_of start)
   pub marked : AreMarked volume.format false volume.directory placed.places.now volume.device start writes

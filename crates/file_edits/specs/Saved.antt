@@ -44,10 +44,12 @@ saved_file size saves stored text entry = record {
   body = stored_units (saves.kept stored) (kept_units size saves stored text);
 }
 
--- The writes that save a file to an accepted volume: its parts at the first free places, each table with its unit and each unit of the body as it is given, and its entry in
--- the first free slot of its directory, byte for byte as the format has it. The writes are kept in memory until the first is made, and there are fewer of them than a
--- device can count.
-pub record IsSaveEdit (format : Meaning) (saves : SaveMeaning) (store : List (List ℕ)) (path : List ℕ) (attributes : Attributes) (stored : List Bool) (text : List ℕ) (writes : List Write) : Type 0 where
+-- The writes that save a file to an accepted volume: its parts at the first free places, each table with its unit and
+-- each unit of the body as it is given, and its entry in the first free slot of its directory, byte for byte as the
+-- format has it. The writes are kept in memory until the first is made, and there are fewer of them than a device can
+-- count.
+pub record IsSaveEdit (format : Meaning) (saves : SaveMeaning) (store : List (List ℕ)) (path : List ℕ)
+    (attributes : Attributes) (stored : List Bool) (text : List ℕ) (writes : List Write) : Type 0 where
   pub directory : Directory
   pub accepted : IsAccepted format directory store
   pub slot : Slot
@@ -65,8 +67,10 @@ pub record IsSaveEdit (format : Meaning) (saves : SaveMeaning) (store : List (Li
   pub enters : saving.system ≡ saves.entering store path slot attributes (extent_of saves directory stored)
   pub few : length writes < 18446744073709551616
 
--- The path led to a free slot of an accepted volume, and the file is saved there: the files are those of before and this one, and the same places are lost.
-pub record HasSaved (format : Meaning) (saves : SaveMeaning) (path : List ℕ) (attributes : Attributes) (stored : List Bool) (text : List ℕ) (old new : List (List ℕ)) : Type 0 where
+-- The path led to a free slot of an accepted volume, and the file is saved there: the files are those of before and
+-- this one, and the same places are lost.
+pub record HasSaved (format : Meaning) (saves : SaveMeaning) (path : List ℕ) (attributes : Attributes)
+    (stored : List Bool) (text : List ℕ) (old new : List (List ℕ)) : Type 0 where
   pub directory : Directory
   pub accepted : IsAccepted format directory old
   pub slot : Slot
@@ -77,18 +81,21 @@ pub record HasSaved (format : Meaning) (saves : SaveMeaning) (path : List ℕ) (
   pub saved : HasFileSaved format directory at (saved_file format.unit_size saves stored text entry) old new
 
 -- The files of an accepted volume are those of before; at worst the places that the new file was to take are lost.
-pub record HasNotSaved (format : Meaning) (saves : SaveMeaning) (stored : List Bool) (old new : List (List ℕ)) : Type 0 where
+pub record HasNotSaved (format : Meaning) (saves : SaveMeaning) (stored : List Bool)
+    (old new : List (List ℕ)) : Type 0 where
   pub directory : Directory
   pub accepted : IsAccepted format directory old
   pub unsaved : HasNothingSaved format (new_places saves directory stored) old new
 
 -- the same store, or one with the files of before, or one with the new file
-abbrev pub IsOldOrSaved : Meaning → SaveMeaning → List ℕ → Attributes → List Bool → List ℕ → List (List ℕ) → List (List ℕ) → Type 0
+abbrev pub IsOldOrSaved : Meaning → SaveMeaning → List ℕ → Attributes → List Bool → List ℕ → List (List ℕ)
+    → List (List ℕ) → Type 0
 IsOldOrSaved format saves path attributes stored text old new =
     (new ≡ old) ⊎ HasNotSaved format saves stored old new ⊎ HasSaved format saves path attributes stored text old new
 
 -- the path of a new file leads to this, on an accepted volume
-pub record HasTarget (format : Meaning) (saves : SaveMeaning) (store : List (List ℕ)) (path : List ℕ) (Is : Directory → Target → Type 0) : Type 0 where
+pub record HasTarget (format : Meaning) (saves : SaveMeaning) (store : List (List ℕ)) (path : List ℕ)
+    (Is : Directory → Target → Type 0) : Type 0 where
   pub directory : Directory
   pub accepted : IsAccepted format directory store
   pub target : Target
@@ -114,28 +121,34 @@ HasNameInUse format saves store path = HasTarget format saves store path (λ dir
 -- the name can be entered, but the file is longer than a file can be
 abbrev pub IsTooLong : Meaning → SaveMeaning → List (List ℕ) → List ℕ → Attributes → List Bool → Type 0
 IsTooLong format saves store path attributes stored =
-    HasTarget format saves store path (λ directory target. IsVacant target × (saves.too_long attributes.eof (length stored) ≡ true))
+    HasTarget format saves store path
+    (λ directory target. IsVacant target × (saves.too_long attributes.eof (length stored) ≡ true))
 
 -- the file is not too long, but its directory has no free slot
 abbrev pub HasFullDirectory : Meaning → SaveMeaning → List (List ℕ) → List ℕ → Attributes → List Bool → Type 0
 HasFullDirectory format saves store path attributes stored =
-    HasTarget format saves store path (λ directory target. (target ≡ Full) × (saves.too_long attributes.eof (length stored) ≡ false))
+    HasTarget format saves store path
+    (λ directory target. (target ≡ Full) × (saves.too_long attributes.eof (length stored) ≡ false))
 
 -- there is a free slot, but fewer places are free than the file has parts
 abbrev pub HasFewPlaces : Meaning → SaveMeaning → List (List ℕ) → List ℕ → Attributes → List Bool → Type 0
 HasFewPlaces format saves store path attributes stored =
-    HasTarget format saves store path (λ directory target. ((slot : Slot) × (target ≡ At slot)) × (saves.too_long attributes.eof (length stored) ≡ false)
+    HasTarget format saves store path
+    (λ directory target. ((slot : Slot) × (target ≡ At slot)) × (saves.too_long attributes.eof (length stored) ≡ false)
     × (length (free_places directory) < length (saves.parts stored)))
 
 -- what is told of a file that is to be saved
-abbrev pub IsSaveTold : {T : Type 0} → Meaning → SaveMeaning → List (List ℕ) → List ℕ → Attributes → List Bool → Result T EditError → Type 0
+abbrev pub IsSaveTold : {T : Type 0} → Meaning → SaveMeaning → List (List ℕ) → List ℕ → Attributes → List Bool
+    → Result T EditError → Type 0
 IsSaveTold format saves store path attributes stored (Ok x) = Unit {0}
 IsSaveTold format saves store path attributes stored (Err NotFound) = HasNoDirectory format saves store path
 IsSaveTold format saves store path attributes stored (Err Name) = HasNoName format saves store path
 IsSaveTold format saves store path attributes stored (Err Exists) = HasNameInUse format saves store path
 IsSaveTold format saves store path attributes stored (Err TooLong) = IsTooLong format saves store path attributes stored
-IsSaveTold format saves store path attributes stored (Err DirFull) = HasFullDirectory format saves store path attributes stored
-IsSaveTold format saves store path attributes stored (Err VolumeFull) = HasFewPlaces format saves store path attributes stored
+IsSaveTold format saves store path attributes stored (Err DirFull) =
+    HasFullDirectory format saves store path attributes stored
+IsSaveTold format saves store path attributes stored (Err VolumeFull) =
+    HasFewPlaces format saves store path attributes stored
 IsSaveTold format saves store path attributes stored (Err error) = Unit {0}
 
 -- why a file is not saved: no other refusal is told

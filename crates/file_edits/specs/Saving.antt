@@ -20,8 +20,10 @@ saving_of format saves store file = record { format = format; saves = saves; sto
 -- the writes that do it
 abbrev pub AreWritesOf : Saving → List Write → Type 0
 AreWritesOf saving writes =
-    IsSaveEdit saving.format saving.saves saving.store saving.file.path.now saving.file.attributes.now saving.file.stored.now saving.file.units.now writes
+    IsSaveEdit saving.format saving.saves saving.store saving.file.path.now saving.file.attributes.now
+    saving.file.stored.now saving.file.units.now writes
 
 -- what is told of it
 abbrev pub IsToldOf : {T : Type 0} → Saving → Result T EditError → Type 0
-IsToldOf saving result = IsSaveTold saving.format saving.saves saving.store saving.file.path.now saving.file.attributes.now saving.file.stored.now result
+IsToldOf saving result = IsSaveTold saving.format saving.saves saving.store saving.file.path.now
+    saving.file.attributes.now saving.file.stored.now result

@@ -9,7 +9,8 @@ use Rattle.edit_formats.specs.Saves.{SaveMeaning}
 use Rattle.file_edits.specs.declared.given.NewFile.{NewFile}
 use Rattle.file_edits.specs.Saved.{IsVacant}
 
--- The slot that a path leads to, for a file that is not too long. A name that can't be entered is told before the length, and the length before a directory that is full.
+-- The slot that a path leads to, for a file that is not too long. A name that can't be entered is told before the
+-- length, and the length before a directory that is full.
 abbrev pub slot_or_refusal : Target → Bool → Result Slot EditError
 slot_or_refusal NoDirectory long = Err NotFound
 slot_or_refusal NoName long = Err Name

@@ -20,10 +20,15 @@ with_system directory place = record directory {
 abbrev pub with_directory : Directory → ℕ → Listed → ℕ → Directory
 with_directory directory at entry place = with_system (inserted directory at entry) place
 
--- The volume is accepted with the entry of the new directory; the parts of its files are those of before, under the new numbers of the files and with the same units.
-pub record HasNewDirectory (format : Meaning) (few : Directory) (at : ℕ) (entry : Listed) (place : ℕ) (old new : List (List ℕ)) : Type 0 where
+-- The volume is accepted with the entry of the new directory; the parts of its files are those of before, under the new
+-- numbers of the files and with the same units.
+pub record HasNewDirectory (format : Meaning) (few : Directory) (at : ℕ) (entry : Listed) (place : ℕ)
+    (old new : List (List ℕ)) : Type 0 where
   pub accepted : IsAccepted format (with_directory few at entry place) new
-  pub goes : (part : Part) → Reach format few old part → Reach format (with_directory few at entry place) new (shifted_part at part)
-  pub came : (part : Part) → Reach format (with_directory few at entry place) new part → (other : Part) × Reach format few old other × (part ≡ shifted_part at other)
+  pub goes : (part : Part) → Reach format few old part
+      → Reach format (with_directory few at entry place) new (shifted_part at part)
+  pub came : (part : Part) → Reach format (with_directory few at entry place) new part
+      → (other : Part) × Reach format few old other × (part ≡ shifted_part at other)
   pub units : (part : Part) → Reach format few old part → unit_at new part.place ≡ unit_at old part.place
-  pub files : (all : List File) → IsFiles format few old all → IsFiles format (with_directory few at entry place) new all
+  pub files : (all : List File) → IsFiles format few old all
+      → IsFiles format (with_directory few at entry place) new all

@@ -17,8 +17,8 @@ ghost use Rattle.file_edits.specs.WithDirectory.{with_directory, HasNewDirectory
 use vol_format::WritableFormat;
 
 /// A law: the entry of an empty directory of one block, written into a free slot of a directory, makes the volume's
-/// directory that with one entry more, in this slot and under the path of its directory and its name, and with the block
-/// as one of the system's. The block stood at an available place before.
+/// directory that with one entry more, in this slot and under the path of its directory and its name, and with the
+/// block as one of the system's. The block stood at an available place before.
 pub fn an_empty_directory_is_entered_into_another()
     ensures { (reserved : List Bool) (store : List (List ℕ)) (directory : Directory) (tree : Tree)
         (key place slot leaf : ℕ) (above : Option (List ℕ)) (bytes : List ℕ)

@@ -88,15 +88,15 @@ fn make_new<D: Device, B: Allocator + Copy, A: Allocator + Copy>(
 
 /// Makes an empty directory of one block under a path that no entry has. The block gets the first free place, and its
 /// entry the first free slot of the directory before the last slash of the path, which must be there; a path without a
-/// slash is of the volume's directory. The block is written first, then the unit of the map in which its place is marked
-/// used, then the entry with its directory's count of files. All writes are prepared before the first is made. Where it
-/// is known that the volume is accepted, the parts of its files are not walked first.
+/// slash is of the volume's directory. The block is written first, then the unit of the map in which its place is
+/// marked used, then the entry with its directory's count of files. All writes are prepared before the first is made.
+/// Where it is known that the volume is accepted, the parts of its files are not walked first.
 ///
 /// # Errors
 /// Of several the first in this order: `Check` where the volume is not accepted; `NotFound` where it has no such
-/// directory; `Name` where no entry can have this name; `Exists` where an entry of the directory has it; `DirFull` where
-/// the directory has no free slot; `VolumeFull` where no place is free. `Device` where a read or a write fails; `Memory`,
-/// before the first write alone.
+/// directory; `Name` where no entry can have this name; `Exists` where an entry of the directory has it; `DirFull`
+/// where the directory has no free slot; `VolumeFull` where no place is free. `Device` where a read or a write fails;
+/// `Memory`, before the first write alone.
 pub fn make_directory<D: Device, B: Allocator + Copy, A: Allocator + Copy>(
     alloc: A,
     device: &mut D,
@@ -116,7 +116,8 @@ pub fn make_directory<D: Device, B: Allocator + Copy, A: Allocator + Copy>(
 
     // an honest device
     ensures made { IsTrue (D.state device.old).honest
-        → OnOk result (HasMade (making format.now (D.state device.old).store path.now date) (D.state device.new).store) }
+        → OnOk result (HasMade (making format.now (D.state device.old).store path.now date)
+        (D.state device.new).store) }
     ensures stopped { IsTrue (D.state device.old).honest → result ≡ Err EditError.Device
         → IsOldOrMade (making format.now (D.state device.old).store path.now date) (D.state device.new).store }
     ensures check { IsTrue (D.state device.old).honest → result ≡ Err EditError.Check

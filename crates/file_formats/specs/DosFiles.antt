@@ -18,7 +18,8 @@ filled_name bytes = bytes ++ replicate (30 - length bytes) 0xa0
 -- Of a path 30 bytes at most are a name, of stored bytes one to 30.
 abbrev pub dos_matches : FileNameView → List ℕ → Bool
 dos_matches (GivenPath path) stored = nat_le (length path) 30 && bytes_eq (dos_name path) stored
-dos_matches (StoredPath bytes) stored = nat_le 1 (length bytes) && nat_le (length bytes) 30 && bytes_eq (filled_name bytes) stored
+dos_matches (StoredPath bytes) stored =
+    nat_le 1 (length bytes) && nat_le (length bytes) 30 && bytes_eq (filled_name bytes) stored
 
 -- DOS 3.3 keeps no dates
 abbrev pub no_date : ProDate
@@ -43,7 +44,8 @@ dos_shown entry = record {
 abbrev pub number_at : List ℕ → ℕ → ℕ
 number_at text at = slice_index text at + 256 * slice_index text (at + 1)
 
--- The body of a file: BASIC programs, of kinds 01 and 02, begin with their length; binary files, of kind 04, with an address and their length.
+-- The body of a file: BASIC programs, of kinds 01 and 02, begin with their length; binary files, of kind 04, with an
+-- address and their length.
 abbrev pub dos_body : ℕ → List ℕ → List ℕ
 dos_body kind text =
     if kind == 1 || kind == 2 then take (number_at text 0) (drop 2 text)

@@ -4,8 +4,8 @@ use Rattle.vol_format.specs.Directory.{Directory, Listed, entries, entry_of, is_
 use Rattle.file_formats.specs.FileNames.{FileNameView}
 use Rattle.file_formats.specs.declared.listing.ListEntry.{ListEntry}
 
--- `matches name stored`: the name is that of an entry with this path. `shown entry` is what a listing shows of an entry, and
--- `body bytes text` the body of a file whose entry has these bytes and whose units hold this text.
+-- `matches name stored`: the name is that of an entry with this path. `shown entry` is what a listing shows of an
+-- entry, and `body bytes text` the body of a file whose entry has these bytes and whose units hold this text.
 pub record FileMeaning : Type 1 where
   pub matches : FileNameView → List ℕ → Bool
   pub shown : {A : Type 0} → Listed → ListEntry A
@@ -22,4 +22,5 @@ pub record IsFirstNamed (files : FileMeaning) (directory : Directory) (name : Fi
   pub first : (earlier : ℕ) → earlier < file → is_named files name (entry_of directory earlier) ≡ false
 
 abbrev pub NamesNone : FileMeaning → Directory → FileNameView → Type 0
-NamesNone files directory name = (file : ℕ) → file < entries directory → is_named files name (entry_of directory file) ≡ false
+NamesNone files directory name =
+    (file : ℕ) → file < entries directory → is_named files name (entry_of directory file) ≡ false

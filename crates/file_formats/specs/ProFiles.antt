@@ -17,8 +17,8 @@ pro_matches (StoredPath bytes) stored = bytes_eq bytes stored
 abbrev pub is_locked : ℕ → Bool
 is_locked access = not (bit_and access 0xc2 == 0xc2)
 
--- What is shown of an entry. Its bytes are without the two of the key pointer, so those that stand behind it, from blocks used on,
--- stand two lower than in the block.
+-- What is shown of an entry. Its bytes are without the two of the key pointer, so those that stand behind it, from
+-- blocks used on, stand two lower than in the block.
 abbrev pub pro_shown : {A : Type 0} → Listed → ListEntry A
 pro_shown entry = record {
   locked = is_locked (slice_index entry.bytes 0x1c);

@@ -31,8 +31,8 @@ zero_at (byte ∷ bytes) = if byte == 0 then 0 else suc (zero_at bytes)
 abbrev pub before_zero : List ℕ → List ℕ
 before_zero bytes = take (zero_at bytes) bytes
 
--- The bytes of a text: in DOS 3.3 a $00 ends it, and what stands behind fills its sectors up (Beneath Apple DOS, chapter
--- 4, TEXT files); in ProDOS the end of the file does.
+-- The bytes of a text: in DOS 3.3 a $00 ends it, and what stands behind fills its sectors up (Beneath Apple DOS,
+-- chapter 4, TEXT files); in ProDOS the end of the file does.
 abbrev pub text_in : PlaceForm → List ℕ → List ℕ → List ℕ
 text_in Sector whole body = before_zero whole
 text_in Block whole body = body

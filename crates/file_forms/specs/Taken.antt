@@ -38,7 +38,8 @@ abbrev pub of_single : Option FileInfo → List ℕ → TakenView
 of_single (Some info) fork = taken info.file_type info.aux_type fork
 of_single None fork = taken 0x06 0 fork
 
--- The file that is given so: a text ($04), a program in Applesoft BASIC ($FC, for $0801), or what an AppleSingle file has.
+-- The file that is given so: a text ($04), a program in Applesoft BASIC ($FC, for $0801), or what an AppleSingle file
+-- has.
 abbrev pub IsTakenFrom : PlaceForm → GivenForm → List ℕ → TakenView → Type 0
 IsTakenFrom system (Text high) given file =
     (bytes : List ℕ) × texts.IsTaken (text_form system high) given bytes × (file ≡ taken 0x04 0 bytes)

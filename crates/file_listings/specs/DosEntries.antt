@@ -31,4 +31,5 @@ entries_text style listing facts = rows_text style (listed_volume listing) (rows
 abbrev pub directory_text : Style → Directory → List FileFacts → Text
 directory_text Catalog directory facts = catalog_text directory
 directory_text (Entries style) directory facts =
-    rows_text style (volume_of Dos (decimal (slice_index directory.name 0)) directory) (rows_of {A = Global} dos_row (map dos_shown directory.listed) facts)
+    rows_text style (volume_of Dos (decimal (slice_index directory.name 0)) directory)
+    (rows_of {A = Global} dos_row (map dos_shown directory.listed) facts)

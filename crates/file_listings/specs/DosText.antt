@@ -47,7 +47,8 @@ three_digits n = padded_integral (format_spec 32 0 4 3 (2 ^ 64 - 1)) false [] (d
 
 -- a file: * where it is locked, its kind, its length in sectors, its name
 abbrev pub file_line : {A : Type 0} → ListEntry A → Text
-file_line file = (if file.locked then 42 else 32) ∷ letter_of file.kind ∷ 32 ∷ three_digits file.size ++ 32 ∷ name_text file.path
+file_line file = (if file.locked then 42 else 32) ∷ letter_of file.kind ∷ 32 ∷ three_digits file.size ++ 32
+    ∷ name_text file.path
 
 -- a line ends with a newline
 abbrev pub line : Text → Text
@@ -55,7 +56,8 @@ line text = text ++ 10 ∷ []
 
 -- the volume number, a line for each file, and how many sectors are free
 abbrev pub lines_of : {A : Type 0} → ℕ → List (ListEntry A) → ℕ → Text
-lines_of volume files free = line (codes "DISK VOLUME " ++ decimal volume) ++ flat_map (λ file. line (file_line file)) files
+lines_of volume files free = line (codes "DISK VOLUME " ++ decimal volume)
+    ++ flat_map (λ file. line (file_line file)) files
     ++ line (codes "FREE " ++ decimal free)
 
 abbrev pub listing_text : {A : Type 0} → Listing A → Text
@@ -63,7 +65,8 @@ listing_text listing = lines_of (slice_index listing.volume 0) listing.entries.i
 
 -- the listing of a directory: its number, a line for each file, and how many sectors are free
 abbrev pub catalog_text : Directory → Text
-catalog_text directory = lines_of {A = Global} (slice_index directory.name 0) (map dos_shown directory.listed) (free_count directory)
+catalog_text directory = lines_of {A = Global} (slice_index directory.name 0) (map dos_shown directory.listed)
+    (free_count directory)
 
 -- the line of an entry of the catalog
 abbrev pub entry_line : Entry → Text

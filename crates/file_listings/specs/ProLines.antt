@@ -47,6 +47,7 @@ lines_of listed = entry_lines listed.style listed.directory listed.facts
 abbrev pub line_in : {A : Type 0} → ProLines A → Text
 line_in lines = string_bytes lines.line
 
--- A path has a name of 15 bytes and a slash for each directory on its way and for its file; a volume has 65,535 blocks at most, and so has no more directories.
+-- A path has a name of 15 bytes and a slash for each directory on its way and for its file; a volume has 65,535 blocks
+-- at most, and so has no more directories.
 abbrev pub most_path_bytes : Tree → ℕ
 most_path_bytes tree = 16 * (min (length tree.blocks) 65535 + 1)

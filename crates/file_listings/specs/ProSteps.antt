@@ -30,7 +30,10 @@ count_line plan = line (count_text (length plan.steps))
 
 -- the plan whose steps these are, and the line that was made last
 abbrev pub plan_in : {A : Type 0} → ProSteps A → ProPlan
-plan_in lines = record { directory = directory_with (system_of lines.volume) (tree_of lines.volume) (map_in lines.volume).units; steps = lines.steps.items }
+plan_in lines = record {
+  directory = directory_with (system_of lines.volume) (tree_of lines.volume) (map_in lines.volume).units;
+  steps = lines.steps.items;
+}
 
 abbrev pub line_in : {A : Type 0} → ProSteps A → Text
 line_in lines = string_bytes lines.line

@@ -26,7 +26,8 @@ path_text directory path = if directory then map shown path ++ 47 ∷ [] else ma
 -- an entry: * where it is locked, $ and its type, blocks used, its length in bytes, its modification, its path
 abbrev pub pro_file_line : {A : Type 0} → ListEntry A → Text
 pro_file_line file =
-    (if file.locked then 42 else 32) ∷ 36 ∷ hex_digit (file.kind / 16) ∷ hex_digit (file.kind % 16) ∷ 32 ∷ right_in 5 file.size
+    (if file.locked then 42 else 32) ∷ 36 ∷ hex_digit (file.kind / 16) ∷ hex_digit (file.kind % 16) ∷ 32
+    ∷ right_in 5 file.size
     ++ 32 ∷ right_in 8 file.eof ++ 32 ∷ date_text file.modified.0 ++ 32 ∷ path_text file.directory file.path
 
 -- the line of an entry of a directory
@@ -44,7 +45,8 @@ entry_lines Catalog directory facts = map catalog_line directory.listed
 entry_lines (Entries style) directory facts =
     map (row_line style) (rows_of {A = Global} pro_row (map pro_shown directory.listed) facts)
 
--- the lines before and behind them: the volume's name and how many blocks are free, or what is told of the volume as data
+-- the lines before and behind them: the volume's name and how many blocks are free, or what is told of the volume as
+-- data
 abbrev pub first_line : Style → Directory → Text
 first_line Catalog directory = line (codes "VOLUME /" ++ map shown directory.name)
 first_line (Entries style) directory = head_line style (volume_of Prodos (map shown directory.name) directory)
@@ -55,4 +57,5 @@ last_line (Entries style) directory = []
 
 abbrev pub directory_text : Style → Directory → List FileFacts → Text
 directory_text style directory facts =
-    first_line style directory ++ flat_map (λ text. text) (entry_lines style directory facts) ++ last_line style directory
+    first_line style directory ++ flat_map (λ text. text) (entry_lines style directory facts)
+    ++ last_line style directory

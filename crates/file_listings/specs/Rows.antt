@@ -62,7 +62,8 @@ pro_row file facts = record {
 }
 
 -- the rows of some entries, each with what is known of its file
-abbrev pub rows_of : {A : Type 0} → (ListEntry A → FileFacts → RowView) → List (ListEntry A) → List FileFacts → List RowView
+abbrev pub rows_of : {A : Type 0} → (ListEntry A → FileFacts → RowView) → List (ListEntry A) → List FileFacts
+    → List RowView
 rows_of row [] facts = []
 rows_of row (file ∷ files) facts = row file (first_facts facts) ∷ rows_of row files (drop 1 facts)
 

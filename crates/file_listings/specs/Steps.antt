@@ -35,7 +35,8 @@ count_text moves = decimal moves ++ (if moves == 1 then codes " move" else codes
 
 -- a line for each step, and how many there are
 abbrev pub plan_words_text : PlaceForm → FileMeaning → Directory → List Step → Text
-plan_words_text form files directory steps = flat_map (step_line form files directory) steps ++ line (count_text (length steps))
+plan_words_text form files directory steps =
+    flat_map (step_line form files directory) steps ++ line (count_text (length steps))
 
 -- what stands for a step of a number that there is not
 abbrev pub no_step : Step

@@ -1,11 +1,11 @@
 //! The text of a listing and of a plan in words, to the byte.
 //!
 //! A volume is listed as its file system does, or its entries are told as data (`Style`): a row for each
-//! (`specs/Rows.antt`), with what is known of its file beside the entry (`KnownFiles`, `specs/Known.antt`): the facts of
-//! each, kept packed, and their parts in one list, so that no line takes memory for them. The listing of a DOS 3.3
-//! volume is one text (`specs/DosText.antt`, `specs/DosEntries.antt`). A path is as long as its directories are deep, so
-//! the lines of a ProDOS volume (`specs/ProText.antt`) are made one at a time, into room that is taken first, so that no
-//! line asks for memory (`ProLines`, `specs/ProLines.antt`).
+//! (`specs/Rows.antt`), with what is known of its file beside the entry (`KnownFiles`, `specs/Known.antt`): the facts
+//! of each, kept packed, and their parts in one list, so that no line takes memory for them. The listing of a DOS 3.3
+//! volume is one text (`specs/DosText.antt`, `specs/DosEntries.antt`). A path is as long as its directories are deep,
+//! so the lines of a ProDOS volume (`specs/ProText.antt`) are made one at a time, into room that is taken first, so
+//! that no line asks for memory (`ProLines`, `specs/ProLines.antt`).
 //!
 //! The text of a plan is a line for each of its steps, which part of which file goes from where to where, and the line
 //! of their number (`specs/Steps.antt`, `plan_words_text`). Those of a ProDOS volume are made one at a time too

@@ -56,7 +56,8 @@ line_at told path = take (length told - 1) told ++ line (codes " " ++ escaped pa
 abbrev pub TellsAt : Text → Reply → Reply → Type 0
 TellsAt path told reply =
     (¬ IsOfEntry told × (reply ≡ told))
-    ⊎ (IsOfEntry told × ((IsTold Refused reply × (text_of reply ≡ line_at (text_of told) path)) ⊎ (reply ≡ failed failures.Memory)))
+    ⊎ (IsOfEntry told × ((IsTold Refused reply × (text_of reply ≡ line_at (text_of told) path))
+    ⊎ (reply ≡ failed failures.Memory)))
 
 -- the path of the entry of a number
 abbrev pub path_of : List EntryView → ℕ → Text
@@ -95,7 +96,8 @@ pub record IsAllAdded (adding : AdditionTo) (holds : Option (ℕ → List ℕ)) 
   pub kept : KeepsBytes device (made_of reply)
 
 -- An item was not saved: those before it were, and it is told why, with the path of its entry.
-pub record IsNotAllAdded {H : Type 0} (may_fail : H → ℕ → Failure → Type 0) (adding : AdditionTo) (holds : Option (ℕ → List ℕ))
+pub record IsNotAllAdded {H : Type 0} (may_fail : H → ℕ → Failure → Type 0) (adding : AdditionTo)
+    (holds : Option (ℕ → List ℕ))
     (saves : SaveMeaning) (format : Meaning) (device : DeviceState) (reply : Reply) : Type 0 where
   pub left : DeviceState
   pub item : RefusedItem
@@ -103,7 +105,8 @@ pub record IsNotAllAdded {H : Type 0} (may_fail : H → ℕ → Failure → Type
   pub told : TellsAt (path_of adding.folder.entries (slice_index_or adding.plan.files item.item 0)) item.reply reply
 
 -- what became of the items of a plan on a volume that has its directories
-abbrev pub AreToldItems : {H : Type 0} → (H → ℕ → Failure → Type 0) → AdditionTo → Option (ℕ → List ℕ) → SaveMeaning → Meaning → DeviceState → Reply → Type 0
+abbrev pub AreToldItems : {H : Type 0} → (H → ℕ → Failure → Type 0) → AdditionTo → Option (ℕ → List ℕ) → SaveMeaning
+    → Meaning → DeviceState → Reply → Type 0
 AreToldItems may_fail adding holds saves format device reply =
     IsAllAdded adding holds saves format device reply ⊎ IsNotAllAdded may_fail adding holds saves format device reply
 
@@ -113,27 +116,33 @@ abbrev pub making_of : AdditionTo → ChangedMeaning → Making
 making_of adding format = making_by format.directories format.units adding.date
 
 -- All directories are there, and this is told of the items on the volume that has them.
-pub record IsToldBehind {H : Type 0} (may_fail : H → ℕ → Failure → Type 0) (adding : AdditionTo) (holds : Option (ℕ → List ℕ))
+pub record IsToldBehind {H : Type 0} (may_fail : H → ℕ → Failure → Type 0) (adding : AdditionTo)
+    (holds : Option (ℕ → List ℕ))
     (format : ChangedMeaning) (device : DeviceState) (reply : Reply) : Type 0 where
   pub between : DeviceState
   pub kept : AreKept (making_of adding format) adding.plan.directories device between
   pub stored : HasDirectories (making_of adding format) adding.plan.directories device.store between.store
   pub told : AreToldItems may_fail adding holds format.edits.save format.units between reply
 
--- A directory is not there and was not made: those before it are there, and it is told why, with the path of its folder.
-pub record IsNotAllMade (adding : AdditionTo) (format : ChangedMeaning) (device : DeviceState) (reply : Reply) : Type 0 where
+-- A directory is not there and was not made: those before it are there, and it is told why, with the path of its
+-- folder.
+pub record IsNotAllMade (adding : AdditionTo) (format : ChangedMeaning) (device : DeviceState)
+    (reply : Reply) : Type 0 where
   pub left : DeviceState
   pub directory : RefusedItem
   pub refused : HasNoDirectory (making_of adding format) adding.plan.directories device left directory
-  pub told : TellsAt (path_of adding.folder.entries (slice_index_or adding.plan.folders directory.item 0)) directory.reply reply
+  pub told : TellsAt (path_of adding.folder.entries (slice_index_or adding.plan.folders directory.item 0))
+      directory.reply reply
 
-abbrev pub IsPlanTold : {H : Type 0} → (H → ℕ → Failure → Type 0) → AdditionTo → Option (ℕ → List ℕ) → ChangedMeaning → DeviceState → Reply → Type 0
+abbrev pub IsPlanTold : {H : Type 0} → (H → ℕ → Failure → Type 0) → AdditionTo → Option (ℕ → List ℕ) → ChangedMeaning
+    → DeviceState → Reply → Type 0
 IsPlanTold may_fail adding holds format device reply =
     IsToldBehind may_fail adding holds format device reply ⊎ IsNotAllMade adding format device reply
 
--- What is told of a plan: that the volume is not accepted, or could not be looked at; or what became of its directories and
--- items on a volume that is accepted.
-abbrev pub IsPlanReply : {H : Type 0} → (H → ℕ → Failure → Type 0) → AdditionTo → Option (ℕ → List ℕ) → ChangedMeaning → DeviceState → Reply → Type 0
+-- What is told of a plan: that the volume is not accepted, or could not be looked at; or what became of its directories
+-- and items on a volume that is accepted.
+abbrev pub IsPlanReply : {H : Type 0} → (H → ℕ → Failure → Type 0) → AdditionTo → Option (ℕ → List ℕ) → ChangedMeaning
+    → DeviceState → Reply → Type 0
 IsPlanReply may_fail adding holds format device reply =
     ((reply ≡ refused refusals.Check) × ¬ IsVolume format.units device.store)
     ⊎ ((reply ≡ failed failures.Device) × LacksUnit device)
@@ -143,7 +152,8 @@ IsPlanReply may_fail adding holds format device reply =
 -- ---- the folder
 
 -- What is told of the folder: the first entry that is refused, before anything is read; or what is told of its plan.
-abbrev pub IsFolderReply : {H : Type 0} → (H → ℕ → Failure → Type 0) → AddedFolder → ProDate → Option (ℕ → List ℕ) → ChangedMeaning → DeviceState → Reply → Type 0
+abbrev pub IsFolderReply : {H : Type 0} → (H → ℕ → Failure → Type 0) → AddedFolder → ProDate → Option (ℕ → List ℕ)
+    → ChangedMeaning → DeviceState → Reply → Type 0
 IsFolderReply may_fail folder date holds format device reply =
     (reply ≡ failed failures.Memory)
     ⊎ ((number : ℕ) × (refusal : Refusal) × IsFirstRefused folder number refusal
@@ -156,7 +166,8 @@ abbrev pub folder_by : VolumeOptions → AdditionView → List EntryView → Add
 folder_by volume words entries = record { file_system = volume.file_system; into = words.into; entries = entries }
 
 -- What is told of an image: `Date` first, where the words say none; then what is told of its volume.
-abbrev pub IsAddReply : {H : Type 0} → (H → ℕ → Failure → Type 0) → VolumeOptions → Option Text → AdditionView → List EntryView → Option (ℕ → List ℕ) → List ℕ → Reply → Type 0
+abbrev pub IsAddReply : {H : Type 0} → (H → ℕ → Failure → Type 0) → VolumeOptions → Option Text → AdditionView
+    → List EntryView → Option (ℕ → List ℕ) → List ℕ → Reply → Type 0
 IsAddReply may_fail volume reserve words entries holds image reply =
     ((reply ≡ refused refusals.Date) × ¬ NamesDate words.date)
     ⊎ ((date : ProDate) × IsDateOf words.date date
@@ -169,7 +180,8 @@ IsShelled None told reply = reply ≡ told
 IsShelled (Some shell) told reply = IsInShell shell.front.items shell.back.items told reply
 
 -- What is answered to a job that adds the files of a folder, of which these are the entries.
-abbrev pub IsAddAnswer : {H : Type 0} → (H → ℕ → Failure → Type 0) → AskView → List EntryView → Option (ℕ → List ℕ) → List ℕ → Option (Shell Global) → Reply → Type 0
+abbrev pub IsAddAnswer : {H : Type 0} → (H → ℕ → Failure → Type 0) → AskView → List EntryView → Option (ℕ → List ℕ)
+    → List ℕ → Option (Shell Global) → Reply → Type 0
 IsAddAnswer may_fail (AddTo volume reserve words out) entries holds image shell reply =
     (told : Reply) × IsAddReply may_fail volume reserve words entries holds image told × IsShelled shell told reply
 IsAddAnswer may_fail ask entries holds image shell reply = ⊥

@@ -67,7 +67,8 @@ abbrev pub IsNotKept : Making → Text → DeviceState → DeviceState → Reply
 IsNotKept making path old new reply = IsNotLooked old new reply ⊎ IsNotMade making path old new reply
 
 -- Behind directories that are there comes the one that is told, which is not; nothing was done after that.
-pub record HasNoDirectory (making : Making) (paths : List Text) (old new : DeviceState) (refused : Refused) : Type 0 where
+pub record HasNoDirectory (making : Making) (paths : List Text) (old new : DeviceState)
+    (refused : Refused) : Type 0 where
   pub before : List Text
   pub path : Text
   pub behind : List Text

@@ -30,4 +30,5 @@ readable_path path = path ++ codes ".utf8.txt"
 
 -- whether a path is that of the readable form of a file that is one of the entries
 abbrev pub has_file_beside : List EntryView → List ℕ → Bool
-has_file_beside entries path = list_any (λ entry. is_file entry.kind && bytes_eq path (readable_path entry.path)) entries
+has_file_beside entries path =
+    list_any (λ entry. is_file entry.kind && bytes_eq path (readable_path entry.path)) entries

@@ -24,14 +24,15 @@ pub record SaidPath : Type 0 where
 abbrev pub parts : Text → List Text
 parts path = slice_split (λ byte. byte == 47) path
 
--- parts of a path, in ProDOS: each before the last one is that of a folder and says the name of a directory, and the last
--- one says this
+-- parts of a path, in ProDOS: each before the last one is that of a folder and says the name of a directory, and the
+-- last one says this
 abbrev pub SayPartsIn : {S : Type 0} → (Text → S → Type 0) → List Text → List Text → S → Type 0
 SayPartsIn Says [] names said = ⊥
 SayPartsIn Says (last ∷ []) [] said = Says last said
 SayPartsIn Says (last ∷ []) (name ∷ names) said = ⊥
 SayPartsIn Says (folder ∷ next ∷ behind) [] said = ⊥
-SayPartsIn Says (folder ∷ next ∷ behind) (name ∷ names) said = SaysFolder Block folder name × SayPartsIn Says (next ∷ behind) names said
+SayPartsIn Says (folder ∷ next ∷ behind) (name ∷ names) said =
+    SaysFolder Block folder name × SayPartsIn Says (next ∷ behind) names said
 
 -- the last one says a file, or the name of a directory
 abbrev pub SayParts : List Text → List Text → FileView → Type 0
@@ -78,7 +79,8 @@ may_have Prodos said = are_pro_names said.directories said.file.name
 abbrev pub before : Text → Text
 before directory = directory ++ codes "/"
 
--- a path of ProDOS: behind the directory into which all files go, where one is said, the names with `/` between each two
+-- a path of ProDOS: behind the directory into which all files go, where one is said, the names with `/` between each
+-- two
 abbrev pub pro_path : Option Text → List Text → Text → Text
 pro_path into directories name = flat_map before (option_to_list into ++ directories) ++ name
 

@@ -1,5 +1,5 @@
--- The plan of a folder: which directories are made of its folders, which of its files are added, as which items, and which
--- entries are passed over with a word.
+-- The plan of a folder: which directories are made of its folders, which of its files are added, as which items, and
+-- which entries are passed over with a word.
 use Rattle.std.specs.Prelude.{◌≡◌, ℕ, Bool, true, false, List, ◌∷◌, ◌++◌, Option, Some, None, Ok, Err, filter, length, map}
 use Rattle.std.specs.List.{AllZip, enumerate_from, filter_map}
 use Rattle.folder_adding.specs.HostEntries.{EntryView}
@@ -11,8 +11,8 @@ use Rattle.folder_adding.specs.declared.planned.PlanError.{PlanError}
 use Rattle.folder_adding.specs.declared.planned.PlanError.TheVariants.{Refused, Memory}
 use Rattle.shop_replies.specs.declared.refusal.Refusal.{Refusal}
 
--- a plan as contracts see it: the paths of the directories, and for each of them the number of its entry; the items, and for
--- each of them the number of its entry; and the numbers of the entries that are passed over with a word
+-- a plan as contracts see it: the paths of the directories, and for each of them the number of its entry; the items,
+-- and for each of them the number of its entry; and the numbers of the entries that are passed over with a word
 pub record PlanView : Type 0 where
   pub directories : List Text
   pub folders : List ℕ

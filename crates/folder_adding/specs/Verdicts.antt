@@ -17,15 +17,15 @@ use Rattle.shop_jobs.specs.declared.job.FileSystem.TheVariants.{Dos, Prodos}
 use Rattle.shop_replies.specs.declared.refusal.Refusal.{Refusal}
 use Rattle.shop_replies.specs.declared.refusal.Refusal.TheVariants as refusals
 
--- a folder whose files are to be added: the file system of the volume, the path of the directory into which they go, where
--- one is said, and all entries
+-- a folder whose files are to be added: the file system of the volume, the path of the directory into which they go,
+-- where one is said, and all entries
 pub record AddedFolder : Type 0 where
   pub file_system : FileSystem
   pub into : Option Text
   pub entries : List EntryView
 
--- what is done with an entry that is not refused: an item is added, the directory of this path is made where none is there,
--- or the entry is passed over with a word
+-- what is done with an entry that is not refused: an item is added, the directory of this path is made where none is
+-- there, or the entry is passed over with a word
 pub data Step : Type 0 where
   adds : ItemView → Step
   makes : Text → Step
@@ -82,8 +82,8 @@ is_readable contents.Program = true
 abbrev pub is_second : AddedFolder → Text → SaidPath → Bool
 is_second folder path said = is_readable said.file.content && has_file_beside folder.entries path
 
--- A file: its path says one; it is not the readable form of one that stands beside it; the volume has its type; and files
--- and directories may have the names.
+-- A file: its path says one; it is not the readable form of one that stands beside it; the volume has its type; and
+-- files and directories may have the names.
 pub data IsFileVerdict (folder : AddedFolder) (path : Text) : Verdict → Type 0 where
   no_path : ((said : SaidPath) → ¬ SaysPath folder.file_system path said)
       → IsFileVerdict folder path (Err refusals.Host)

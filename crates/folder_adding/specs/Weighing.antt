@@ -21,7 +21,8 @@ use Rattle.vol_layout.specs.declared.form.PlaceForm.TheVariants.{Block}
 
 -- these are the paths of the files among the entries
 abbrev pub ArePathsOf : List EntryView → FilePaths → Type 0
-ArePathsOf entries files = (path : List ℕ) → contains_by (λ file. bytes_eq path file.now) files.paths ≡ has_file entries path
+ArePathsOf entries files = (path : List ℕ)
+    → contains_by (λ file. bytes_eq path file.now) files.paths ≡ has_file entries path
 
 -- what stands before and behind the first `/` of a path
 pub record IsCut (path folder behind : Text) : Type 0 where
@@ -57,10 +58,17 @@ verdict_view (Refused refusal) = Err refusal
 
 -- the folder of these entries, added to that place of a volume
 abbrev pub folder_at : Destination → List EntryView → AddedFolder
-folder_at destination entries = record { file_system = destination.file_system; into = option_copied destination.into; entries = entries }
+folder_at destination entries = record {
+  file_system = destination.file_system;
+  into = option_copied destination.into;
+  entries = entries;
+}
 
 -- the plan with the step of the entry that has this number
 abbrev pub with_step : ℕ → PlanView → Step → PlanView
 with_step number plan (adds item) = record plan { items = plan.items ++ item ∷ []; files = plan.files ++ number ∷ [] }
-with_step number plan (makes path) = record plan { directories = plan.directories ++ path ∷ []; folders = plan.folders ++ number ∷ [] }
+with_step number plan (makes path) = record plan {
+  directories = plan.directories ++ path ∷ [];
+  folders = plan.folders ++ number ∷ [];
+}
 with_step number plan passes = record plan { passed = plan.passed ++ number ∷ [] }

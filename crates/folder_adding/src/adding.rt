@@ -63,8 +63,8 @@ fn add_item<D: Device, F: SavableFormat, H: HostFiles>(
 }
 
 /// Saves all items to a device's volume, in order, each with the bytes of the file that has its number. One file is in
-/// memory at a time. Where it is known that the volume is accepted, it is not checked first, and behind the first item it
-/// is known.
+/// memory at a time. Where it is known that the volume is accepted, it is not checked first, and behind the first item
+/// it is known.
 ///
 /// # Errors
 /// The first item whose file can't be read, or that is not saved, with the reply to that; the items before it were

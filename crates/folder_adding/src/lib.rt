@@ -1,5 +1,5 @@
-//! The files of a folder of the host, added to a volume: which entries of the folder are added, as which files, and these
-//! files saved one after the other. All of them are, or the first that was not is told.
+//! The files of a folder of the host, added to a volume: which entries of the folder are added, as which files, and
+//! these files saved one after the other. All of them are, or the first that was not is told.
 //!
 //! The model of a plan. `specs/HostEntries.antt` has the entries of a folder, `specs/HostPaths.antt` what their paths
 //! say of files and directories of a volume, and `specs/Verdicts.antt` what becomes of an entry: an item is added, a
@@ -26,9 +26,9 @@
 //! (`specs/AddedText.antt`), each path of an item as a listing shows that of its file, which is a law too
 //! (`specs/Listed.antt`).
 //!
-//! `add_reply` answers the job (`specs/AddReply.antt`): the plan of the folder, its directories made and its items saved
-//! on the volume of the image, and the image handed out where all of that was done. A refusal for an entry is told with
-//! the entry's path.
+//! `add_reply` answers the job (`specs/AddReply.antt`): the plan of the folder, its directories made and its items
+//! saved on the volume of the image, and the image handed out where all of that was done. A refusal for an entry is
+//! told with the entry's path.
 //!
 //! What always holds: one file is in memory at a time; after a failure of the device nothing of it is called again; and
 //! where no failure of the device is told and an item is not saved, the volume is that of the items before it.

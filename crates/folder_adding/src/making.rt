@@ -1,7 +1,14 @@
 // Directories of a device's volume, each made where none is there.
 ghost use Rattle.std.specs.Prelude.{◌≡◌, IfErr, IsTrue, OnOk, map};
 ghost use Rattle.a2_device.specs.Device.{IsSameDevice};
-ghost use Rattle.folder_adding.specs.Directories.{AreKept, HasDirectories, HasNoDirectory, IsKept, IsNotKept, making_by};
+ghost use Rattle.folder_adding.specs.Directories.{
+  AreKept,
+  HasDirectories,
+  HasNoDirectory,
+  IsKept,
+  IsNotKept,
+  making_by,
+};
 ghost use Rattle.vol_format.specs.Accepted.{IsVolume};
 ghost use Rattle.vol_format.specs.Fits.{Fits};
 

@@ -31,8 +31,8 @@ fn push_step(plan: &mut Plan, number: usize, step: Step) -> Result<(), AllocErro
     Ok(())
 }
 
-/// The plan of a folder whose files are added to a volume of this file system, in ProDOS into this directory. All of its
-/// entries are weighed, in order.
+/// The plan of a folder whose files are added to a volume of this file system, in ProDOS into this directory. All of
+/// its entries are weighed, in order.
 ///
 /// # Errors
 /// The first entry that is refused, and why.

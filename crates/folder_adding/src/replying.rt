@@ -165,8 +165,9 @@ fn save_items<F: SavableFormat, H: HostFiles>(
     requires size { 0 < (⟦<ImageDevice as Device>⟧.state device).unit_size }
     requires honest { IsTrue (⟦<ImageDevice as Device>⟧.state device).honest }
     requires accepted { IsVolume (F.meaning format.now) (⟦<ImageDevice as Device>⟧.state device).store }
-    ensures told { (result ≡ failed failures.Memory) ⊎ AreToldItems (numbered_may_fail H.may_fail) (adding_view folder.now (plan_view plan.now)) (H.holds files.old)
-        (F.saves format.now) (F.meaning format.now) (⟦<ImageDevice as Device>⟧.state device) result }
+    ensures told { (result ≡ failed failures.Memory) ⊎ AreToldItems (numbered_may_fail H.may_fail)
+        (adding_view folder.now (plan_view plan.now)) (H.holds files.old) (F.saves format.now) (F.meaning format.now)
+        (⟦<ImageDevice as Device>⟧.state device) result }
 {
     let mut device = device;
     let batch = batch_of(folder, plan);
@@ -288,8 +289,8 @@ fn add_folder<H: HostFiles>(
     requires units { HasUnitsOf volume.file_system (⟦<ImageDevice as Device>⟧.state device) }
     requires opened { IsOpened volume.file_system (⟦<ImageDevice as Device>⟧.state device) }
     requires same { folder.now.file_system ≡ volume.file_system }
-    ensures told { IsFolderReply (numbered_may_fail H.may_fail) (folder_view folder.now) folder.now.date (H.holds files.old)
-        (changed_by volume reserved) (⟦<ImageDevice as Device>⟧.state device) result }
+    ensures told { IsFolderReply (numbered_may_fail H.may_fail) (folder_view folder.now) folder.now.date
+        (H.holds files.old) (changed_by volume reserved) (⟦<ImageDevice as Device>⟧.state device) result }
 {
     match plan(alloc, folder.file_system, folder.into, folder.entries) {
         Ok(plan) => match volume.file_system {
@@ -363,13 +364,13 @@ fn in_shell(alloc: Global, shell: Option<&Shell>, reply: Reply) -> Reply
 
 /// The reply to a job that adds the files of a folder to the volume of an image, with the bytes of that, or of the
 /// payload of a container with this shell. These are the entries of the folder, and `files` has a file for each number
-/// of an entry; one of them is in memory at a time. Of ProDOS each folder in it is a directory, which is made where none
-/// is there, before a file is read.
+/// of an entry; one of them is in memory at a time. Of ProDOS each folder in it is a directory, which is made where
+/// none is there, before a file is read.
 ///
 /// Of several refusals the first comes in this order: `Date`; `Reserve`; `Length`; `Host`, `Type` or `Name` of the
-/// first entry that is refused; `Check`; of each folder in turn `Exists`, `DirFull` and the others of a directory that is
-/// made; of each file in turn `InputTooLong`, `Text` and those of a saving. Those of an entry have its path behind them.
-/// An image comes where all were added.
+/// first entry that is refused; `Check`; of each folder in turn `Exists`, `DirFull` and the others of a directory that
+/// is made; of each file in turn `InputTooLong`, `Text` and those of a saving. Those of an entry have its path behind
+/// them. An image comes where all were added.
 pub fn add_reply<H: HostFiles>(
     alloc: Global,
     job: &Job,

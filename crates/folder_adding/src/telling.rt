@@ -69,8 +69,8 @@ fn push_added(text: &mut String, batch: &Batch<'_>) -> Result<(), AllocError>
     Ok(())
 }
 
-/// A line for each item, with its path as a listing shows that of its file; one for each of the entries of a folder that
-/// have these numbers, with its path as words are shown; and last how many items there are.
+/// A line for each item, with its path as a listing shows that of its file; one for each of the entries of a folder
+/// that have these numbers, with its path as words are shown; and last how many items there are.
 ///
 /// # Errors
 /// Want of memory alone.

@@ -4,7 +4,8 @@ use Rattle.host_folders.specs.declared.folder.FolderFailure.{FolderFailure}
 use Rattle.host_folders.specs.Folder.{FolderState, IsCutShort, after_file, after_folder}
 
 -- the clauses of a call that makes a folder
-pub record MakesFolder {T : Type 0} (path : List ℕ) (result : Result T FolderFailure) (old new : FolderState) : Type 0 where
+pub record MakesFolder {T : Type 0} (path : List ℕ) (result : Result T FolderFailure)
+    (old new : FolderState) : Type 0 where
   pub same : new.honest ≡ old.honest
   pub made : IsTrue old.honest → OnOk result (new ≡ after_folder path old)
   pub failed : IsTrue old.honest → OnErr result (new ≡ old)

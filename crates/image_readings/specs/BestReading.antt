@@ -46,9 +46,10 @@ choice_of readings (Best number) =
 choice_of readings Ambiguous = choices.Ambiguous
 choice_of readings NoVolume = choices.Unknown
 
--- The image was read in each way that has what is given and that its length allows, and this is chosen by the verdict on
--- those readings alone.
-pub record IsChoice (file_system : Option FileSystem) (order : Option Order) (image : List ℕ) (choice : Choice) : Type 0 where
+-- The image was read in each way that has what is given and that its length allows, and this is chosen by the verdict
+-- on those readings alone.
+pub record IsChoice (file_system : Option FileSystem) (order : Option Order) (image : List ℕ)
+    (choice : Choice) : Type 0 where
   pub readings : List Reading
   pub are : AreReadingsIn (ways_given file_system order) image readings
   pub verdict : Verdict

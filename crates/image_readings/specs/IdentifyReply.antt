@@ -66,18 +66,20 @@ pub record IsIdentified (head image : List ℕ) (reply : Reply) : Type 0 where
   pub some : readings ≢ []
   pub ranked : IsRanked head readings reply
 
--- The reply to an image: the readings and the verdict, behind this text; `Length` where the length allows no reading; or want of
--- memory.
+-- The reply to an image: the readings and the verdict, behind this text; `Length` where the length allows no reading;
+-- or want of memory.
 abbrev pub IsImageReply : List ℕ → List ℕ → Reply → Type 0
 IsImageReply head image reply =
     IsIdentified head image reply
     ⊎ ((reply ≡ refused refusals.Length) × (filter (allows (length image)) ways ≡ []))
     ⊎ (reply ≡ failed failures.Memory)
 
--- The reply to a file: that to an image; that to the payload of a container, behind what the container says; or what is wrong with
--- a file that begins like a container and is none.
+-- The reply to a file: that to an image; that to the payload of a container, behind what the container says; or what is
+-- wrong with a file that begins like a container and is none.
 abbrev pub IsIdentifyReply : List ℕ → Reply → Type 0
 IsIdentifyReply file reply =
     ((¬ BeginsLikeContainer file) × IsImageReply [] file reply)
-    ⊎ ((container : Container) × IsContainer file container × IsImageReply (container_text container) (payload_in file container) reply)
-    ⊎ ((fault : ContainerFault) × BeginsLikeContainer file × IsFault file fault × (reply ≡ refused (refusals.Container fault)))
+    ⊎ ((container : Container) × IsContainer file container
+    × IsImageReply (container_text container) (payload_in file container) reply)
+    ⊎ ((fault : ContainerFault) × BeginsLikeContainer file × IsFault file fault
+    × (reply ≡ refused (refusals.Container fault)))

@@ -30,7 +30,8 @@ way_text reading = file_system_word reading.file_system ++ 32 ∷ order_word rea
 
 -- whether a volume is accepted, how many files, entries and directory units it has, and how many places are lost
 abbrev pub found_text : Standing → ℕ → ℕ → Text
-found_text (Accepted files lost) entries units = codes "ACCEPTED files " ++ (decimal files ++ (codes " entries " ++ (decimal entries
+found_text (Accepted files lost) entries units =
+    codes "ACCEPTED files " ++ (decimal files ++ (codes " entries " ++ (decimal entries
     ++ (codes " chain " ++ (decimal units ++ (codes " lost " ++ decimal lost))))))
 found_text Refused entries units = codes "REFUSED entries " ++ (decimal entries ++ (codes " chain " ++ decimal units))
 
@@ -56,7 +57,8 @@ yes_or_no true = codes "yes"
 yes_or_no false = codes "no"
 
 abbrev pub container_text : Container → Text
-container_text container = codes "2IMG order " ++ (order_word container.order ++ (codes " bytes " ++ (decimal container.size
+container_text container = codes "2IMG order "
+    ++ (order_word container.order ++ (codes " bytes " ++ (decimal container.size
     ++ (codes " protected " ++ (yes_or_no container.protected ++ codes "\n")))))
 
 -- a line for each reading, then the verdict

@@ -49,11 +49,13 @@ finding_at readings number = (slice_index_or readings number no_reading).finding
 
 -- some volume can be read
 abbrev pub HasVolume : List Reading → Type 0
-HasVolume readings = (number : ℕ) × (found : Found) × (number < length readings) × (finding_at readings number ≡ Volume found)
+HasVolume readings = (number : ℕ) × (found : Found) × (number < length readings)
+    × (finding_at readings number ≡ Volume found)
 
 -- what is found in every other reading yields to a volume
 abbrev pub BeatsOthers : List Reading → ℕ → Found → Type 0
-BeatsOthers readings best found = (other : ℕ) → other < length readings → other ≢ best → yields (finding_at readings other) found ≡ true
+BeatsOthers readings best found =
+    (other : ℕ) → other < length readings → other ≢ best → yields (finding_at readings other) found ≡ true
 
 -- the volume of this reading can be read, and every other yields to it
 pub record IsBest (readings : List Reading) (number : ℕ) : Type 0 where

@@ -62,7 +62,8 @@ finding_of file_system fault = Broken
 -- nothing is found but a fault, or a unit can't be read
 abbrev pub IsNoVolume : FileSystem → DeviceState → Finding → Type 0
 IsNoVolume file_system device finding =
-    ((fault : Fault) × (plain_meaning file_system).HeaderFaultAt device.store fault × (finding ≡ finding_of file_system fault))
+    ((fault : Fault) × (plain_meaning file_system).HeaderFaultAt device.store fault
+    × (finding ≡ finding_of file_system fault))
     ⊎ (LacksUnit device × (finding ≡ Unreadable))
 
 -- what is found of a volume
@@ -77,4 +78,5 @@ IsToldOf file_system device finding = IsNoVolume file_system device finding
 
 -- what is found in an image that is read in this way
 abbrev pub IsReadingOf : List ℕ → Reading → Type 0
-IsReadingOf image reading = OfVolume reading.file_system reading.order image (λ device. IsToldOf reading.file_system device reading.finding)
+IsReadingOf image reading = OfVolume reading.file_system reading.order image
+    (λ device. IsToldOf reading.file_system device reading.finding)

@@ -192,8 +192,8 @@ fn payload_reply(alloc: Global, mut file: Vec<u8>, container: Container) -> Repl
 /// The readings of an image in each way that its length allows, and which of them is best; of a container what it says,
 /// and the readings of its payload.
 ///
-/// `Done` where one is best, else `Faulty`; `Refused` with `Length` where the length allows none, with `Container` where
-/// the file begins like a container and is none; `Failed` for want of memory.
+/// `Done` where one is best, else `Faulty`; `Refused` with `Length` where the length allows none, with `Container`
+/// where the file begins like a container and is none; `Failed` for want of memory.
 pub fn identify_reply(alloc: Global, file: Vec<u8>) -> Reply
     ensures { IsIdentifyReply file.items result }
 {

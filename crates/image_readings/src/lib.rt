@@ -5,8 +5,9 @@
 //! whether the directory can be read, how long it is, how many entries it has, and whether the volume is accepted
 //! (`specs/Readings.antt`). `rank` names the one reading that beats every other, if there is one
 //! (`specs/Ranking.antt`); `identify_reply` tells all readings that the image's length allows, and the verdict, of a
-//! container those of its payload behind what it says (`specs/IdentifyText.antt`, `specs/IdentifyReply.antt`); `best_reading` chooses among the readings in a file system,
-//! an order or both that are given (`specs/BestReading.antt`).
+//! container those of its payload behind what it says (`specs/IdentifyText.antt`, `specs/IdentifyReply.antt`);
+//! `best_reading` chooses among the readings in a file system, an order or both that are given
+//! (`specs/BestReading.antt`).
 //!
 //! What always holds: an image is read where it is lent, without a copy, and its bytes are as they were after each
 //! call; what is told of it follows from its bytes alone; and a reading is called best only where it beats every other.

@@ -1,5 +1,5 @@
--- The content of a volume: the digest of a text with a line for each of its files. Two dumps of one disk, in other orders
--- or with other gaps, have one content.
+-- The content of a volume: the digest of a text with a line for each of its files. Two dumps of one disk, in other
+-- orders or with other gaps, have one content.
 use Rattle.std.specs.Prelude.{◌≡◌, ◌<◌, ◌≤◌, ◌⊎◌, ℕ, Bool, List, flat_map, is_some, length, slice_index_or, sum_by}
 use Rattle.std.specs.List.{list_all}
 use Rattle.sha2.specs.Sha256.{sha256}
@@ -39,7 +39,8 @@ abbrev pub are_read : List FileLine → Bool
 are_read lines = list_all is_read lines
 
 -- the lines of the first files of an order
-pub record AreLinesOf (volume : SeenVolume) (unreadable : List ℕ) (order : List Named) (lines : List FileLine) : Type 0 where
+pub record AreLinesOf (volume : SeenVolume) (unreadable : List ℕ) (order : List Named)
+    (lines : List FileLine) : Type 0 where
   pub within : length lines ≤ length order
   pub each : (n : ℕ) (named : Named) (l : FileLine) → n < length lines
       → IsLineOf volume unreadable (slice_index_or order n named).file (slice_index_or lines n l)
@@ -68,4 +69,5 @@ pub record HasLargeBodies (volume : SeenVolume) (unreadable : List ℕ) : Type 0
 -- The content; or that the paths or the bodies of the files have too many bytes.
 abbrev pub IsContent : SeenVolume → List ℕ → Content → Type 0
 IsContent volume unreadable (Of digest whole) = IsDigestOf volume unreadable digest whole
-IsContent volume unreadable TooLarge = (most_path_bytes < path_bytes (paths_in volume)) ⊎ HasLargeBodies volume unreadable
+IsContent volume unreadable TooLarge =
+    (most_path_bytes < path_bytes (paths_in volume)) ⊎ HasLargeBodies volume unreadable

@@ -19,7 +19,8 @@ lost_in (Accepted files lost) = Some lost
 lost_in Refused = None
 
 -- the name, how many files it has, how many places are lost and how many are marked free, and the content
-pub record AreFacts (form : PlaceForm) (meaning : FileMeaning) (format : Meaning) (device : DeviceState) (facts : VolumeFacts) : Type 0 where
+pub record AreFacts (form : PlaceForm) (meaning : FileMeaning) (format : Meaning) (device : DeviceState)
+    (facts : VolumeFacts) : Type 0 where
   pub directory : Directory
   pub described : format.Describes device.store directory
   pub name : facts.name ≡ directory.name

@@ -65,4 +65,5 @@ digest_text None = 45 ∷ []
 digest_text (Some digest) = lower_hex digest
 
 abbrev pub line_text : FileLine → Text
-line_text l = upper_hex l.path ++ 32 ∷ decimal l.kind ++ 32 ∷ decimal l.aux ++ 32 ∷ decimal l.eof ++ 32 ∷ digest_text l.digest
+line_text l = upper_hex l.path ++ 32 ∷ decimal l.kind ++ 32 ∷ decimal l.aux ++ 32 ∷ decimal l.eof ++ 32
+    ∷ digest_text l.digest

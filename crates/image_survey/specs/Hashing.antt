@@ -22,7 +22,8 @@ IsAdded hashing lines true = IsHashed hashing lines
 IsAdded hashing lines false = most_bytes < bytes_of lines
 
 -- the lines of the first files of an order were hashed
-pub record IsHashedTo (volume : SeenVolume) (unreadable : List ℕ) (order : List Named) (many : ℕ) (hashing : Hashing) : Type 0 where
+pub record IsHashedTo (volume : SeenVolume) (unreadable : List ℕ) (order : List Named) (many : ℕ)
+    (hashing : Hashing) : Type 0 where
   pub lines : List FileLine
   pub are_lines : AreLinesOf volume unreadable order lines
   pub long : length lines ≡ many
@@ -39,7 +40,8 @@ IsFinished lines (Of digest whole) = IsDigestBy lines digest whole
 IsFinished lines TooLarge = ⊥
 
 -- the lines of all files of an order were hashed, or those of the first have too many bytes
-pub record AreHashed (volume : SeenVolume) (unreadable : List ℕ) (order : List Named) (digest : List ℕ) (whole : Bool) : Type 0 where
+pub record AreHashed (volume : SeenVolume) (unreadable : List ℕ) (order : List Named) (digest : List ℕ)
+    (whole : Bool) : Type 0 where
   pub lines : List FileLine
   pub are_lines : AreLinesOf volume unreadable order lines
   pub all : length lines ≡ length order

@@ -110,7 +110,8 @@ free_on r = member (codes "free") (number_or_null r.free)
     (member (codes "fs") (text_or_null (option_map file_system_word r.file_system)) (image_on r))
 
 abbrev pub row_members : RowView → Members
-row_members r = member (codes "content") (digest_or_null r.content) (member (codes "files") (number_or_null r.files) (free_on r))
+row_members r = member (codes "content") (digest_or_null r.content)
+    (member (codes "files") (number_or_null r.files) (free_on r))
 
 abbrev pub row_data : RowView → Data
 row_data r = object (row_members r)
@@ -121,7 +122,8 @@ file_data found path = row_data (row_of found path)
 -- ---- the line of an image that is the same as another, and the last line
 
 abbrev pub same_data : ℕ → Text → Data
-same_data group path = object (member (codes "path") (string path) (member (codes "same") (number_value group) no_members))
+same_data group path = object (member (codes "path") (string path)
+    (member (codes "same") (number_value group) no_members))
 
 abbrev pub none_on : Counts → ℕ → Members
 none_on counts same = member (codes "none") (number_value counts.none)

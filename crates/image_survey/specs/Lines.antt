@@ -31,15 +31,18 @@ digest_in TooLarge = None
 
 -- how many files, lost places and free places a volume has
 abbrev pub numbers_text : VolumeFacts → Text
-numbers_text facts = codes "files " ++ decimal facts.files ++ codes " lost " ++ number_text facts.lost ++ codes " free " ++ decimal facts.free
+numbers_text facts = codes "files " ++ decimal facts.files ++ codes " lost " ++ number_text facts.lost ++ codes " free "
+    ++ decimal facts.free
 
 abbrev pub reading_text : BestReading → Text
-reading_text best = file_system_word best.file_system ++ 32 ∷ order_word best.order ++ 32 ∷ volume_text best.file_system best.facts.name
+reading_text best = file_system_word best.file_system ++ 32 ∷ order_word best.order ++ 32
+    ∷ volume_text best.file_system best.facts.name
     ++ 32 ∷ numbers_text best.facts
 
 -- the digests of a file and of its volume's content
 abbrev pub best_text : BestReading → List ℕ → Text
-best_text best sha256 = codes "BEST " ++ reading_text best ++ codes " image " ++ lower_hex sha256 ++ codes " content " ++ digest_text (digest_in best.facts.content)
+best_text best sha256 = codes "BEST " ++ reading_text best ++ codes " image " ++ lower_hex sha256 ++ codes " content "
+    ++ digest_text (digest_in best.facts.content)
 
 abbrev pub image_text : ImageVerdict → List ℕ → Text
 image_text (Best best) sha256 = best_text best sha256
@@ -64,11 +67,13 @@ abbrev pub total_of : Counts → ℕ
 total_of counts = counts.best + counts.ambiguous + counts.none + counts.other + counts.unread
 
 abbrev pub later_text : Counts → ℕ → Text
-later_text counts same = codes "none " ++ decimal counts.none ++ codes " other " ++ decimal counts.other ++ codes " unread " ++ decimal counts.unread
+later_text counts same = codes "none " ++ decimal counts.none ++ codes " other " ++ decimal counts.other
+    ++ codes " unread " ++ decimal counts.unread
     ++ codes " same " ++ decimal same
 
 abbrev pub counts_text : Counts → ℕ → Text
-counts_text counts same = codes "best " ++ decimal counts.best ++ codes " ambiguous " ++ decimal counts.ambiguous ++ 32 ∷ later_text counts same
+counts_text counts same = codes "best " ++ decimal counts.best ++ codes " ambiguous " ++ decimal counts.ambiguous ++ 32
+    ∷ later_text counts same
 
 abbrev pub totals_text : ℕ → Counts → ℕ → Text
 totals_text files counts same = codes "SURVEYED files " ++ decimal files ++ 32 ∷ counts_text counts same

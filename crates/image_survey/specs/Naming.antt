@@ -7,7 +7,8 @@ use Rattle.image_survey.specs.declared.ordered.Named.{Named}
 -- the files of the first entries
 pub record AreNamed (paths : List (Option (List ℕ))) (many : ℕ) (named : List Named) : Type 0 where
   pub each : (one : Named) → Contains named one → IsNamed paths one
-  pub all : (file : ℕ) (path : List ℕ) → file < many → path_at paths file ≡ Some path → Contains named (record { path = path; file = file })
+  pub all : (file : ℕ) (path : List ℕ) → file < many → path_at paths file ≡ Some path
+      → Contains named (record { path = path; file = file })
   pub once : length named ≡ count_by is_some (take many paths)
 
 -- none stands behind one that it is before

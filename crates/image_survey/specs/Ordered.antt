@@ -23,6 +23,7 @@ IsNamed paths named = path_at paths named.file ≡ Some named.path
 -- The files of a volume, each once, in rising order of their paths, those of one path in the order of the directory.
 pub record AreInOrder (paths : List (Option (List ℕ))) (order : List Named) : Type 0 where
   pub each : (named : Named) → Contains order named → IsNamed paths named
-  pub all : (file : ℕ) (path : List ℕ) → path_at paths file ≡ Some path → Contains order (record { path = path; file = file })
+  pub all : (file : ℕ) (path : List ℕ) → path_at paths file ≡ Some path
+      → Contains order (record { path = path; file = file })
   pub once : length order ≡ count_by is_some paths
   pub rising : AllPairs (λ named later. is_before later named ≡ false) order

@@ -34,7 +34,8 @@ last_line Lines counts same = line (totals_text (total_of counts) counts same)
 last_line Json counts same = line (compact_text (totals_data counts same))
 
 abbrev pub end_text : SurveyForm → List Told → List SameLine → Text
-end_text form told lines = flat_map (same_line form (candidates told)) lines ++ last_line form (counts_of told) (length lines)
+end_text form told lines = flat_map (same_line form (candidates told)) lines
+    ++ last_line form (counts_of told) (length lines)
 
 -- 0, or 1 where an image has no best reading or no volume, or a file could not be read
 abbrev pub status_of : Counts → ℕ
@@ -47,17 +48,21 @@ pub record IsSurveyOf (told : List Told) (survey : Survey) : Type 0 where
 
 -- One more was told of; or the writer failed behind a front of its line, and it counts as told; or there was no memory,
 -- and those that were told of are the same.
-abbrev pub IsTelling : Told → Survey → Survey → Option (List ℕ) → Option (List ℕ) → Result (Unit {0}) SurveyError → Type 0
+abbrev pub IsTelling : Told → Survey → Survey → Option (List ℕ) → Option (List ℕ) → Result (Unit {0}) SurveyError
+    → Type 0
 IsTelling one old new text text_now (Ok done) =
-    ((told : List Told) → IsSurveyOf told old → IsSurveyOf (told ++ one ∷ []) new) × Appends text text_now (file_line old.form one)
+    ((told : List Told) → IsSurveyOf told old → IsSurveyOf (told ++ one ∷ []) new)
+    × Appends text text_now (file_line old.form one)
 IsTelling one old new text text_now (Err Output) =
-    ((told : List Told) → IsSurveyOf told old → IsSurveyOf (told ++ one ∷ []) new) × AppendsFront text text_now (file_line old.form one)
+    ((told : List Told) → IsSurveyOf told old → IsSurveyOf (told ++ one ∷ []) new)
+    × AppendsFront text text_now (file_line old.form one)
 IsTelling one old new text text_now (Err Memory) =
     ((told : List Told) → IsSurveyOf told old → IsSurveyOf told new) × Keeps text text_now
 
--- The end of a survey of these files was told, with its status; or the writer failed or memory ran out behind a front of
--- it, and the status is 4.
-pub record IsEndTold (form : SurveyForm) (told : List Told) (status : ℕ) (text text_now : Option (List ℕ)) : Type 0 where
+-- The end of a survey of these files was told, with its status; or the writer failed or memory ran out behind a front
+-- of it, and the status is 4.
+pub record IsEndTold (form : SurveyForm) (told : List Told) (status : ℕ)
+    (text text_now : Option (List ℕ)) : Type 0 where
   pub lines : List SameLine
   pub are : AreSameLines (candidates told) lines
   pub written : IsWritten (status_of (counts_of told)) (end_text form told lines) status text text_now

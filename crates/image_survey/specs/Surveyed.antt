@@ -55,7 +55,8 @@ agrees (Some said) order = is_order said order
 
 -- The image in a file: of a container its payload, in the order that the header says, else all bytes.
 abbrev pub IsPayload : List ℕ → Option Order → List ℕ → Type 0
-IsPayload bytes None payload = (¬ BeginsLikeContainer bytes) × (is_image_length (length bytes) ≡ true) × (payload ≡ bytes)
+IsPayload bytes None payload =
+    (¬ BeginsLikeContainer bytes) × (is_image_length (length bytes) ≡ true) × (payload ≡ bytes)
 IsPayload bytes (Some order) payload =
     (container : Container) × IsContainer bytes container × (container.order ≡ order)
     × (payload ≡ slice_range bytes container.start (container.start + container.size))
@@ -69,7 +70,8 @@ is_container (Some order) = true
 -- what is told of the volume that an image has in this way to read it
 abbrev pub AreFactsIn : List ℕ → FileSystem → Order → VolumeFacts → Type 0
 AreFactsIn payload file_system order facts =
-    OfVolume file_system order payload (λ device. AreFacts (form_of file_system) (files_of file_system) (plain_meaning file_system) device facts)
+    OfVolume file_system order payload
+    (λ device. AreFacts (form_of file_system) (files_of file_system) (plain_meaning file_system) device facts)
 
 pub record IsBest (payload : List ℕ) (file_system : FileSystem) (order : Order) (best : BestReading) : Type 0 where
   pub in_system : best.file_system ≡ file_system

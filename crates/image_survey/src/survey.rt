@@ -206,8 +206,8 @@ impl Survey {
     /// Tells what was found of one more file, with its path, on a line.
     ///
     /// # Errors
-    /// `Memory`, and then nothing is told and the survey is as it was; more than 2^64 - 1 files of a kind count as that.
-    /// `Output` where the writer fails, behind a front of the line.
+    /// `Memory`, and then nothing is told and the survey is as it was; more than 2^64 - 1 files of a kind count as
+    /// that. `Output` where the writer fails, behind a front of the line.
     pub fn add<T: Write>(
         &mut self,
         alloc: Global,

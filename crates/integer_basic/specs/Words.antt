@@ -1,5 +1,5 @@
--- The words of the bytes $00 to $7F of a line, in order. (The tokens of Integer BASIC, as the listing routine of its ROM
--- shows them; Apple II Reference Manual.)
+-- The words of the bytes $00 to $7F of a line, in order. (The tokens of Integer BASIC, as the listing routine of its
+-- ROM shows them; Apple II Reference Manual.)
 use Rattle.std.specs.Prelude.{ℕ, ◌-◌, ◌&&◌, not, Bool, if◌then◌else◌, List, [], ◌∷◌, ◌++◌, bytes_eq, codes, length, map, slice_index, slice_index_or}
 use Rattle.std.specs.Char.{is_ascii_uppercase}
 use Rattle.std.specs.List.{list_any}
@@ -22,11 +22,12 @@ words =
     codes "$" ∷ codes "$" ∷ codes "(" ∷ codes "," ∷ codes "," ∷ codes ";" ∷ codes ";" ∷ codes ";" ∷
     codes "," ∷ codes "," ∷ codes "," ∷ codes "TEXT" ∷ codes "GR" ∷ codes "CALL" ∷ codes "DIM" ∷ codes "DIM" ∷
     codes "TAB" ∷ codes "END" ∷ codes "INPUT" ∷ codes "INPUT" ∷ codes "INPUT" ∷ codes "FOR" ∷ codes "=" ∷ codes "TO" ∷
-    codes "STEP" ∷ codes "NEXT" ∷ codes "," ∷ codes "RETURN" ∷ codes "GOSUB" ∷ codes "REM" ∷ codes "LET" ∷ codes "GOTO" ∷
-    codes "IF" ∷ codes "PRINT" ∷ codes "PRINT" ∷ codes "PRINT" ∷ codes "POKE" ∷ codes "," ∷ codes "COLOR=" ∷ codes "PLOT" ∷
-    codes "," ∷ codes "HLIN" ∷ codes "," ∷ codes "AT" ∷ codes "VLIN" ∷ codes "," ∷ codes "AT" ∷ codes "VTAB" ∷
-    codes "=" ∷ codes "=" ∷ codes ")" ∷ codes ")" ∷ codes "LIST" ∷ codes "," ∷ codes "LIST" ∷ codes "POP" ∷
-    codes "NODSP" ∷ codes "NODSP" ∷ codes "NOTRACE" ∷ codes "DSP" ∷ codes "DSP" ∷ codes "TRACE" ∷ codes "PR#" ∷ codes "IN#" ∷ []
+    codes "STEP" ∷ codes "NEXT" ∷ codes "," ∷ codes "RETURN" ∷ codes "GOSUB" ∷ codes "REM" ∷ codes "LET" ∷
+    codes "GOTO" ∷ codes "IF" ∷ codes "PRINT" ∷ codes "PRINT" ∷ codes "PRINT" ∷ codes "POKE" ∷ codes "," ∷
+    codes "COLOR=" ∷ codes "PLOT" ∷ codes "," ∷ codes "HLIN" ∷ codes "," ∷ codes "AT" ∷ codes "VLIN" ∷ codes "," ∷
+    codes "AT" ∷ codes "VTAB" ∷ codes "=" ∷ codes "=" ∷ codes ")" ∷ codes ")" ∷ codes "LIST" ∷ codes "," ∷
+    codes "LIST" ∷ codes "POP" ∷ codes "NODSP" ∷ codes "NODSP" ∷ codes "NOTRACE" ∷ codes "DSP" ∷ codes "DSP" ∷
+    codes "TRACE" ∷ codes "PR#" ∷ codes "IN#" ∷ []
 
 -- ---- spaces
 

@@ -1,7 +1,7 @@
-//! Tests of the libraries of files: of `file_cmds`, `file_listings` and `file_edits` worked volumes of DOS 3.3 and ProDOS
-//! with the literal text of their listings and the literal bytes of their files, each public call on its happy path,
-//! refused memory, and each read and write failing in turn; of `host_folders` names, what they say, folders in memory and
-//! new folders of the system.
+//! Tests of the libraries of files: of `file_cmds`, `file_listings` and `file_edits` worked volumes of DOS 3.3 and
+//! ProDOS with the literal text of their listings and the literal bytes of their files, each public call on its happy
+//! path, refused memory, and each read and write failing in turn; of `host_folders` names, what they say, folders in
+//! memory and new folders of the system.
 
 mod deletions;
 mod directories;

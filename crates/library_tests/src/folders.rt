@@ -1,5 +1,5 @@
-//! Tests of what stands late in the house: of `folder_adding` files that are saved one after the other, and the plans of
-//! folders; of `shop_files` files that are replaced in a folder in memory, whose calls fail in turn.
+//! Tests of what stands late in the house: of `folder_adding` files that are saved one after the other, and the plans
+//! of folders; of `shop_files` files that are replaced in a folder in memory, whose calls fail in turn.
 
 mod additions;
 mod folder;

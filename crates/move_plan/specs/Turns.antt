@@ -10,14 +10,16 @@ use Rattle.move_plan.specs.Runs.{IsAt}
 
 -- a ring whose first part is aside, and of which i more parts are home
 pub record IsTurning {A : Type 0} (ring : List ℕ) (old now : Planner A) (i : ℕ) : Type 0 where
-  pub underway : (start : Placement) → IsAt start old → IsUnderway start now.now now.moves.items (old.rings.items ++ ring ∷ [])
+  pub underway : (start : Placement) → IsAt start old
+      → IsUnderway start now.now now.moves.items (old.rings.items ++ ring ∷ [])
   pub rings : now.rings.items ≡ old.rings.items
   pub spare : now.spare ≡ old.spare
   pub size : length now.now.at ≡ length old.now.at
   pub places : now.now.places ≡ old.now.places
   pub layout : IsLayout now.now.at now.now.places
   pub free : Contains now.now.at (slice_index (turned ring) i) → ⊥
-  pub ahead : (j : ℕ) → i ≤ j → j + 1 < length ring → slice_index now.now.at (slice_index ring (j + 1)) ≡ slice_index (turned ring) (j + 1)
+  pub ahead : (j : ℕ) → i ≤ j → j + 1 < length ring
+      → slice_index now.now.at (slice_index ring (j + 1)) ≡ slice_index (turned ring) (j + 1)
   pub others : (k : ℕ) → k < length old.now.at → k ≢ slice_index ring 0 → slice_index now.now.at k < length old.now.at
   pub first : slice_index now.now.at (slice_index ring 0) ≡ old.spare
   pub kept : (k : ℕ) → k < length old.now.at → slice_index old.now.at k ≡ k → slice_index now.now.at k ≡ k
@@ -50,7 +52,8 @@ pub record IsTurnedTo {A : Type 0} (start : Placement) (p : Planner A) (k : ℕ)
   pub count : ℕ
   pub left : ℕ
   pub trail : HasTrail start p.moves.items count left
-  pub is : ((left ≡ p.spare) × (count ≡ max (length (holes start.at)) 1)) ⊎ ((p.moves.items ≡ []) × (left ≡ start.places) × (length (holes start.at) ≡ 0))
+  pub is : ((left ≡ p.spare) × (count ≡ max (length (holes start.at)) 1))
+      ⊎ ((p.moves.items ≡ []) × (left ≡ start.places) × (length (holes start.at) ≡ 0))
   pub past : length start.at ≤ p.spare
   pub room : p.spare < start.places
 

@@ -49,7 +49,8 @@ unit_in bitmap place = unit_at bitmap.units (place - bitmap.first)
 -- the bitmap with the byte that has the bit of a block written
 abbrev pub with_byte : FreeMap → ℕ → ℕ → FreeMap
 with_byte bitmap block byte = record bitmap {
-  units = slice_set bitmap.units (block / 4096) (slice_set (unit_at bitmap.units (block / 4096)) (block % 4096 / 8) byte);
+  units = slice_set bitmap.units (block / 4096)
+      (slice_set (unit_at bitmap.units (block / 4096)) (block % 4096 / 8) byte);
 }
 
 abbrev pub byte_of : FreeMap → ℕ → ℕ

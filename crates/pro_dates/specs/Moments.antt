@@ -12,7 +12,8 @@ pub record IsMoment (bytes : List ℕ) : Type 0 where
 
 -- the date and time are those of the bytes
 abbrev pub IsMomentOf : List ℕ → DateTime → Type 0
-IsMomentOf bytes moment = IsYmd (pos (full_year (year_bits bytes))) (pos (month_bits bytes)) (pos (day_bits bytes)) moment.date
+IsMomentOf bytes moment = IsYmd (pos (full_year (year_bits bytes))) (pos (month_bits bytes))
+    (pos (day_bits bytes)) moment.date
     × IsHms (pos (hour_byte bytes)) (pos (minute_byte bytes)) (pos 0) (pos 0) moment.time
 
 -- the date, the hour and the minute are those of the bytes

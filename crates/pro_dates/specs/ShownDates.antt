@@ -35,7 +35,8 @@ digits count n = padded_integral (format_spec 32 0 4 count (2 ^ 64 - 1)) false [
 -- YYYY-MM-DD HH:MM
 abbrev pub minute_text : Minute → List ℕ
 minute_text moment =
-    digits 4 moment.year ++ 45 ∷ digits 2 moment.month ++ 45 ∷ digits 2 moment.day ++ 32 ∷ digits 2 moment.hour ++ 58 ∷ digits 2 moment.minute
+    digits 4 moment.year ++ 45 ∷ digits 2 moment.month ++ 45 ∷ digits 2 moment.day ++ 32 ∷ digits 2 moment.hour ++ 58
+    ∷ digits 2 moment.minute
 
 -- bytes that name no minute have these 16 characters
 abbrev pub text_of_minute : Option Minute → List ℕ

@@ -9,7 +9,8 @@ two_digits n = (48 + n / 10) ∷ (48 + n % 10) ∷ []
 -- YYYY-MM-DDTHH:MM
 abbrev pub stamp_bytes : Minute → List ℕ
 stamp_bytes moment =
-    two_digits (moment.year / 100) ++ two_digits (moment.year % 100) ++ 45 ∷ two_digits moment.month ++ 45 ∷ two_digits moment.day
+    two_digits (moment.year / 100) ++ two_digits (moment.year % 100) ++ 45 ∷ two_digits moment.month ++ 45
+    ∷ two_digits moment.day
     ++ 84 ∷ two_digits moment.hour ++ 58 ∷ two_digits moment.minute
 
 -- a year of four digits, and the rest of two

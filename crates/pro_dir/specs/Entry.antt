@@ -16,7 +16,12 @@ abbrev pub slot_bytes : List ℕ → ℕ → List ℕ
 slot_bytes unit slot = take 39 (drop (4 + 39 * slot) unit)
 
 abbrev pub entry_at : ℕ → ℕ → List ℕ → ℕ → Entry
-entry_at directory place unit slot = record { directory = directory; place = place; slot = slot; bytes = slot_bytes unit slot }
+entry_at directory place unit slot = record {
+  directory = directory;
+  place = place;
+  slot = slot;
+  bytes = slot_bytes unit slot;
+}
 
 -- byte 00 has the storage type in its high four bits and the length of the name, which begins at 01, in the others
 abbrev pub storage_of : List ℕ → ℕ
@@ -51,7 +56,9 @@ entries_in store directory places = flat_map (λ place. entries_of directory pla
 
 -- the slots of one block that have no entry, with its place, and of some blocks in order
 unfoldable pub free_slots_of : ℕ → ℕ → List ℕ → List (ℕ × ℕ)
-free_slots_of directory place unit = map (λ slot. (place, slot)) (filter (λ slot. is_inactive (entry_at directory place unit slot)) (range_with_len 0 13))
+free_slots_of directory place unit =
+    map (λ slot. (place, slot)) (filter (λ slot. is_inactive (entry_at directory place unit slot))
+    (range_with_len 0 13))
 
 abbrev pub free_slots_in : List (List ℕ) → ℕ → List ℕ → List (ℕ × ℕ)
 free_slots_in store directory places = flat_map (λ place. free_slots_of directory place (unit_at store place)) places

@@ -17,7 +17,8 @@ leads_to entry key = is_directory entry && (key_of entry == key)
 -- the last of the first entries, so many, that is of the directory with a key block
 abbrev pub last_directory : List Entry → ℕ → ℕ → Option ℕ
 last_directory entries zero key = None
-last_directory entries (suc count) key = if leads_to (entry_in entries count) key then Some count else last_directory entries count key
+last_directory entries (suc count) key =
+    if leads_to (entry_in entries count) key then Some count else last_directory entries count key
 
 abbrev pub parent_of : List Entry → ℕ → Option ℕ
 parent_of entries number = last_directory entries number (entry_in entries number).directory

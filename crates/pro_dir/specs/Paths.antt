@@ -6,7 +6,8 @@ use Rattle.pro_dir.specs.Entry.{is_directory, key_of, name_of}
 
 -- the path of a subdirectory by its key block, among some subdirectories with their key blocks and paths
 abbrev pub path_at : List (ℕ × List ℕ) → ℕ → Option (List ℕ)
-path_at known key = option_map (λ (directory : ℕ × List ℕ). directory.1) (find (λ (directory : ℕ × List ℕ). directory.0 == key) known)
+path_at known key = option_map (λ (directory : ℕ × List ℕ). directory.1)
+    (find (λ (directory : ℕ × List ℕ). directory.0 == key) known)
 
 -- a name in a directory; what stands in the volume's directory has its name alone
 abbrev pub name_below : Option (List ℕ) → List ℕ → List ℕ

@@ -17,7 +17,8 @@ CanLink store block = (2 ≤ block) × (block < length store)
 -- from one block, the links lead over these blocks to the last of them
 abbrev pub Leads : List (List ℕ) → ℕ → List ℕ → ℕ → Type 0
 Leads store from [] last = last ≡ from
-Leads store from (block ∷ rest) last = CanLink store block × (block ≡ next_of (unit_at store from)) × Leads store block rest last
+Leads store from (block ∷ rest) last =
+    CanLink store block × (block ≡ next_of (unit_at store from)) × Leads store block rest last
 
 -- the blocks of the directory with a key block: the links lead from it over the others to one that has no link
 pub record IsRun (store : List (List ℕ)) (key : ℕ) (blocks : List ℕ) : Type 0 where
@@ -52,7 +53,8 @@ abbrev pub Lists : List (List ℕ) → List Entry → List Entry → List ℕ �
 Lists store from [] blocks rest = (from ≡ rest) × (blocks ≡ [])
 Lists store from (entry ∷ entries) blocks rest =
     (others : List Entry) × (own : List ℕ) × (later : List ℕ) × (from ≡ entry ∷ others) × (blocks ≡ own ++ later)
-    × HasBlocks (is_directory entry) store (key_of entry) own × Lists store (entries_in store (key_of entry) own ++ others) entries later rest
+    × HasBlocks (is_directory entry) store (key_of entry) own
+    × Lists store (entries_in store (key_of entry) own ++ others) entries later rest
 
 -- the tree of directories from block 2 on: its blocks and its entries, as far as to `rest`
 pub record IsListed (store : List (List ℕ)) (blocks : List ℕ) (entries rest : List Entry) : Type 0 where
@@ -72,14 +74,16 @@ pub record HasBadLink (store : List (List ℕ)) (before : List ℕ) (key holder 
   pub rest : List ℕ
   pub leads : Leads store key rest holder
   pub linked_on : next_of (unit_at store holder) ≢ 0
-  pub bad : (¬ CanLink store (next_of (unit_at store holder))) ⊎ Contains (before ++ key ∷ rest) (next_of (unit_at store holder))
+  pub bad : (¬ CanLink store (next_of (unit_at store holder)))
+      ⊎ Contains (before ++ key ∷ rest) (next_of (unit_at store holder))
 
 -- What is wrong with the subdirectory that an entry in the block `holder` names, where some blocks were met before: its
 -- key block is none or was met, or has no header of a subdirectory; or the header has other sizes; or a link is bad.
 abbrev pub SubdirectoryFaultAt : List (List ℕ) → List ℕ → ℕ → ℕ → Fault → Type 0
 SubdirectoryFaultAt store before holder key (DirLink place) =
     ((place ≡ holder) × ((¬ CanLink store key) ⊎ Contains before key ⊎ ¬ HasKind 0x0e (unit_at store key)))
-    ⊎ (CanLink store key × HasKind 0x0e (unit_at store key) × HasSizes (unit_at store key) × HasBadLink store before key place)
+    ⊎ (CanLink store key × HasKind 0x0e (unit_at store key) × HasSizes (unit_at store key)
+    × HasBadLink store before key place)
 SubdirectoryFaultAt store before holder key (Geometry place) =
     (place ≡ key) × CanLink store key × HasKind 0x0e (unit_at store key) × ¬ HasSizes (unit_at store key)
 SubdirectoryFaultAt store before holder key fault = ⊥
@@ -96,4 +100,5 @@ pub record IsCutOff (store : List (List ℕ)) (fault : Fault) : Type 0 where
 
 -- the volume directory has a bad link, or a subdirectory has this fault
 abbrev pub TreeFaultAt : List (List ℕ) → Fault → Type 0
-TreeFaultAt store fault = ((holder : ℕ) × (fault ≡ DirLink holder) × HasBadLink store [] 2 holder) ⊎ IsCutOff store fault
+TreeFaultAt store fault = ((holder : ℕ) × (fault ≡ DirLink holder) × HasBadLink store [] 2 holder)
+    ⊎ IsCutOff store fault

@@ -1,4 +1,5 @@
--- What the header, the directories and the map's pointer of a volume say (ProDOS 8 Technical Reference Manual, Appendix B).
+-- What the header, the directories and the map's pointer of a volume say (ProDOS 8 Technical Reference Manual, Appendix
+-- B).
 use Rattle.std.specs.Prelude.{◌≡◌, ◌⊎◌, ◌≤◌, ◌<◌, ℕ, ◌+◌, ◌/◌, List, length, Contains}
 use Rattle.a2_device.specs.Device.{unit_at}
 use Rattle.a2_device.specs.declared.fault.Fault.{Fault}
@@ -36,7 +37,8 @@ pub record HasGeometry (store : List (List ℕ)) : Type 0 where
 
 -- each block of the map is one that a link could name, and none is a directory's
 abbrev pub HasMap : List (List ℕ) → ℕ → List ℕ → Type 0
-HasMap store first blocks = (place : ℕ) → first ≤ place → place < first + map_blocks (length store) → CanLink store place × ¬ Contains blocks place
+HasMap store first blocks = (place : ℕ) → first ≤ place → place < first + map_blocks (length store)
+    → CanLink store place × ¬ Contains blocks place
 
 -- a store says this of its directories
 pub record Describes (store : List (List ℕ)) (directory : Directory) : Type 0 where

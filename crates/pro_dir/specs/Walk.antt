@@ -22,7 +22,8 @@ pub record IsTable (places : ℕ) (met : List Bool) (blocks : List ℕ) : Type 0
 
 -- the entries of a block of a directory from a slot on
 unfoldable pub entries_from : ℕ → ℕ → List ℕ → ℕ → List Entry
-entries_from directory place unit slot = filter is_listed (map (entry_at directory place unit) (range_with_len slot (13 - slot)))
+entries_from directory place unit slot =
+    filter is_listed (map (entry_at directory place unit) (range_with_len slot (13 - slot)))
 
 -- the entries of slots that wait, and of all that wait, the next of them in the last
 abbrev pub waiting_in : List (List ℕ) → Waiting → List Entry
@@ -35,7 +36,8 @@ all_waiting store pending = flat_map (waiting_in store) (reverse pending)
 abbrev pub whole_block : ℕ → ℕ → Waiting
 whole_block directory place = record { directory = directory; place = place; slot = 0 }
 
--- There is as much to do: a block that is met takes the place of fourteen, of which slots that wait have those from theirs on.
+-- There is as much to do: a block that is met takes the place of fourteen, of which slots that wait have those from
+-- theirs on.
 abbrev pub left_in : Waiting → ℕ
 left_in slots = 14 - slots.slot
 
@@ -66,10 +68,13 @@ FewListed slots old new (Some entry) = length new + slots.slot ≤ length old + 
 
 -- the first slot of one block that has no entry
 unfoldable pub first_free_of : ℕ → ℕ → List ℕ → Option (ℕ × ℕ)
-first_free_of directory place unit = option_map (λ slot. (place, slot)) (find (λ slot. is_inactive (entry_at directory place unit slot)) (range_with_len 0 13))
+first_free_of directory place unit =
+    option_map (λ slot. (place, slot))
+    (find (λ slot. is_inactive (entry_at directory place unit slot)) (range_with_len 0 13))
 
 -- a directory is read up to the holder, whose unit is at hand, with its first slot that has no entry
-pub record IsFollowing (store : List (List ℕ)) (key : ℕ) (before blocks : List ℕ) (free : Option (ℕ × ℕ)) (holder : ℕ) (unit : List ℕ) : Type 0 where
+pub record IsFollowing (store : List (List ℕ)) (key : ℕ) (before blocks : List ℕ) (free : Option (ℕ × ℕ)) (holder : ℕ)
+    (unit : List ℕ) : Type 0 where
   pub rest : List ℕ
   pub is : blocks ≡ before ++ key ∷ rest
   pub can_link : CanLink store key
@@ -91,20 +96,25 @@ kept_slots key (Some slot) = record { directory = key; place = slot.0; number = 
 
 -- a block is the key block of a directory that some entries name, or of the volume's
 abbrev pub IsKeyOf : List Entry → ℕ → Type 0
-IsKeyOf entries key = (key ≡ 2) ⊎ ((entry : Entry) × Contains entries entry × (is_directory entry ≡ true) × (key_of entry ≡ key))
+IsKeyOf entries key = (key ≡ 2)
+    ⊎ ((entry : Entry) × Contains entries entry × (is_directory entry ≡ true) × (key_of entry ≡ key))
 
 -- the slot that is kept for a directory
 abbrev pub kept_for : List FreeSlot → ℕ → Option (ℕ × ℕ)
-kept_for free key = option_map (λ (slot : FreeSlot). (slot.place, slot.number)) (find (λ (slot : FreeSlot). slot.directory == key) free)
+kept_for free key = option_map (λ (slot : FreeSlot). (slot.place, slot.number))
+    (find (λ (slot : FreeSlot). slot.directory == key) free)
 
 -- for each directory so far its first slot without an entry is kept, if it has one
-pub record KeepsFree (store : List (List ℕ)) (blocks : List ℕ) (entries : List Entry) (free : List FreeSlot) : Type 0 where
+pub record KeepsFree (store : List (List ℕ)) (blocks : List ℕ) (entries : List Entry)
+    (free : List FreeSlot) : Type 0 where
   pub named : (slot : FreeSlot) → Contains free slot → Contains blocks slot.directory
   pub keys : (key : ℕ) → IsKeyOf entries key → Contains blocks key
-  pub first : (key : ℕ) (own : List ℕ) → IsKeyOf entries key → IsRun store key own → kept_for free key ≡ slice_get (free_slots_in store key own) 0
+  pub first : (key : ℕ) (own : List ℕ) → IsKeyOf entries key → IsRun store key own
+      → kept_for free key ≡ slice_get (free_slots_in store key own) 0
 
 -- the tree is listed up to what waits, the next of it last
-pub record IsListing (store : List (List ℕ)) (blocks : List ℕ) (entries rest : List Entry) (free : List FreeSlot) : Type 0 where
+pub record IsListing (store : List (List ℕ)) (blocks : List ℕ) (entries rest : List Entry)
+    (free : List FreeSlot) : Type 0 where
   pub listed : IsListed store blocks entries rest
   pub keeps : KeepsFree store blocks entries free
 

@@ -21,10 +21,12 @@ long_bytes n = (n % 256) ∷ (n / 256 % 256) ∷ (n / 65536) ∷ []
 abbrev pub padded : ℕ → List ℕ → List ℕ
 padded len name = take len name ++ replicate (15 - len) 0
 
--- A file's 39 bytes: the storage type and the length of the name, the name, the type, the key pointer, the blocks used, the
--- length of the file, the creation, the two versions, the access bits, the auxiliary type, the modification and the
+-- A file's 39 bytes: the storage type and the length of the name, the name, the type, the key pointer, the blocks used,
+-- the length of the file, the creation, the two versions, the access bits, the auxiliary type, the modification and the
 -- directory's key block.
 abbrev pub entry_bytes : NewFile → List ℕ
 entry_bytes file =
-    (16 * file.storage + file.len) ∷ (padded file.len file.name ++ file.kind ∷ (word_bytes file.key ++ word_bytes file.blocks ++ long_bytes file.eof ++ file.date.0
+    (16 * file.storage + file.len)
+    ∷ (padded file.len file.name ++ file.kind
+    ∷ (word_bytes file.key ++ word_bytes file.blocks ++ long_bytes file.eof ++ file.date.0
     ++ 0 ∷ 0 ∷ file.access ∷ (word_bytes file.aux ++ file.date.0 ++ word_bytes file.dir)))

@@ -76,9 +76,9 @@ fn without_name<'a>(path: &'a [u8], name: &[u8], letters: Letters) -> Option<&'a
 }
 
 impl<A: Allocator> VolumeDir<A> {
-    /// The entry of the directory in which an entry stands, if that is not the volume's. It stands before the entry, and
-    /// the entry's path is its path, a slash and the entry's own name; the path of an entry of the volume's directory is
-    /// its own name.
+    /// The entry of the directory in which an entry stands, if that is not the volume's. It stands before the entry,
+    /// and the entry's path is its path, a slash and the entry's own name; the path of an entry of the volume's
+    /// directory is its own name.
     pub fn parent(&self, entry: u32) -> Option<u32>
         requires { entry < length (directory_of self.now).entries }
         ensures value { result ≡ parent_in (directory_of self.now).entries entry }

@@ -40,20 +40,24 @@ filled_entry more place slot key = entry_at key place (unit_at more place) slot
 -- what this entry says, entered into a tree of directories at a number
 abbrev pub pro_new : List (List ℕ) → ℕ → ℕ → Tree → ℕ → ℕ → Listed
 pro_new more place slot tree key at =
-    pro_entry (total_blocks tree.header) at (path_of (insert_at at (filled_entry more place slot key) tree.entries) at) (filled_entry more place slot key)
+    pro_entry (total_blocks tree.header) at (path_of (insert_at at (filled_entry more place slot key) tree.entries) at)
+    (filled_entry more place slot key)
 
 -- the directory with a key block is the volume's, or its entry is among the first so many
 abbrev pub IsNumber : List Entry → ℕ → Entry → Type 0
 IsNumber entries number entry = (number < length entries) × (slice_index_or entries number entry ≡ entry)
 
 abbrev pub IsEntryBefore : List Entry → ℕ → ℕ → Type 0
-IsEntryBefore entries at key = (number : ℕ) × (entry : Entry) × (number < at) × IsNumber entries number entry × (is_directory entry ≡ true) × (key_of entry ≡ key)
+IsEntryBefore entries at key =
+    (number : ℕ) × (entry : Entry) × (number < at) × IsNumber entries number entry × (is_directory entry ≡ true)
+    × (key_of entry ≡ key)
 
 abbrev pub IsDirectoryBefore : List Entry → ℕ → ℕ → Type 0
 IsDirectoryBefore entries at key = (key ≡ 2) ⊎ IsEntryBefore entries at key
 
 -- The tree has one entry more, in the directory with this key block.
-pub record HasOneMore (less more : List (List ℕ)) (place slot : ℕ) (blocks : List ℕ) (entries : List Entry) : Type 0 where
+pub record HasOneMore (less more : List (List ℕ)) (place slot : ℕ) (blocks : List ℕ)
+    (entries : List Entry) : Type 0 where
   pub key : ℕ
   pub own : List ℕ
   pub run : IsRun less key own
@@ -64,7 +68,8 @@ pub record HasOneMore (less more : List (List ℕ)) (place slot : ℕ) (blocks :
   pub tree : IsTree more blocks (insert_at at (filled_entry more place slot key) entries)
 
 -- The tree has one entry less.
-pub record HasOneLess (less more : List (List ℕ)) (place slot : ℕ) (blocks : List ℕ) (entries : List Entry) : Type 0 where
+pub record HasOneLess (less more : List (List ℕ)) (place slot : ℕ) (blocks : List ℕ)
+    (entries : List Entry) : Type 0 where
   pub key : ℕ
   pub own : List ℕ
   pub run : IsRun more key own
@@ -75,7 +80,8 @@ pub record HasOneLess (less more : List (List ℕ)) (place slot : ℕ) (blocks :
   pub is : entries ≡ insert_at at (filled_entry more place slot key) others
   pub tree : IsTree less blocks others
 
--- Two stores that differ in the header of one key block alone, and there at most in what is not read of it, as the count of files.
+-- Two stores that differ in the header of one key block alone, and there at most in what is not read of it, as the
+-- count of files.
 pub record IsCounted (old new : List (List ℕ)) (place : ℕ) : Type 0 where
   pub size : length new ≡ length old
   pub elsewhere : (other : ℕ) → other ≢ place → unit_at new other ≡ unit_at old other

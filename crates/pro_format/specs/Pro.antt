@@ -48,7 +48,8 @@ available_in system = first_available system (length system)
 
 -- for each block its bit in the units of the map
 unfoldable pub pro_free : List (List ℕ) → ℕ → List Bool
-pro_free units places = map (λ place. is_free_in (unit_at units (place / 4096)) (place % 4096)) (range_with_len 0 places)
+pro_free units places = map (λ place. is_free_in (unit_at units (place / 4096)) (place % 4096))
+    (range_with_len 0 places)
 
 -- an entry's bytes without the two of its key pointer
 abbrev pub without_key : List ℕ → List ℕ
@@ -114,7 +115,8 @@ key_offset slot = slot_offset slot + 0x11
 
 -- a directory block with one key pointer written
 abbrev pub pro_with_root : List ℕ → ℕ → ℕ → List ℕ
-pro_with_root unit slot place = slice_set (slice_set unit (key_offset slot) (place % 256)) (key_offset slot + 1) (place / 256)
+pro_with_root unit slot place =
+    slice_set (slice_set unit (key_offset slot) (place % 256)) (key_offset slot + 1) (place / 256)
 
 -- a block of the map with one bit written: bit 7 of a byte is its first block, and 1 is free
 abbrev pub bit_byte : ℕ → ℕ
@@ -125,7 +127,8 @@ with_bit true place byte = bit_or byte (2 ^ (7 - place % 8))
 with_bit false place byte = bit_and byte (255 - 2 ^ (7 - place % 8))
 
 abbrev pub pro_with_free : List ℕ → ℕ → Bool → List ℕ
-pro_with_free unit place free = slice_set unit (bit_byte place) (with_bit free place (slice_index unit (bit_byte place)))
+pro_with_free unit place free =
+    slice_set unit (bit_byte place) (with_bit free place (slice_index unit (bit_byte place)))
 
 -- a block of the map with the bits of some places put to 0
 abbrev pub bits_cleared : List ℕ → List ℕ → List ℕ
@@ -143,7 +146,8 @@ names_part link = false
 
 abbrev pub has_root_at : Directory → ℕ → ℕ → Bool
 has_root_at directory place slot =
-    list_any (λ (entry : Listed). (entry.place == place && entry.slot == slot) && names_part entry.root) directory.listed
+    list_any (λ (entry : Listed). (entry.place == place && entry.slot == slot) && names_part entry.root)
+    directory.listed
 
 abbrev pub root_at_byte : Directory → ℕ → ℕ → Bool
 root_at_byte directory place at =

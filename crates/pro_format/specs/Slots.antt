@@ -1,4 +1,5 @@
--- Slots of the directories of a volume, and what is written into them (ProDOS 8 Technical Reference Manual, Appendix B).
+-- Slots of the directories of a volume, and what is written into them (ProDOS 8 Technical Reference Manual, Appendix
+-- B).
 use Rattle.std.specs.Prelude.{◌≡◌, ◌≢◌, ◌<◌, ◌≤◌, ℕ, Bool, true, List, length, Option, Some, None, slice_get, take, Contains}
 use Rattle.a2_device.specs.Device.{unit_at}
 use Rattle.pro_dir.specs.declared.entry.Entry.{Entry}
@@ -37,7 +38,8 @@ pub record IsFreeSlotOf (store : List (List ℕ)) (key place slot : ℕ) : Type 
 -- What a walk over the directories of a volume keeps: for each of them its first slot without an entry, if it has one.
 abbrev pub KeepsFreeSlots : {A : Type 0} → List (List ℕ) → VolumeDir A → Type 0
 KeepsFreeSlots store volume =
-    (key : ℕ) (own : List ℕ) → IsKeyOf (directory_of volume).entries key → IsRun store key own → free_slot_of volume key ≡ slice_get (free_slots_in store key own) 0
+    (key : ℕ) (own : List ℕ) → IsKeyOf (directory_of volume).entries key → IsRun store key own
+    → free_slot_of volume key ≡ slice_get (free_slots_in store key own) 0
 
 -- the 39 bytes of a file's entry, of a storage type that is neither 0, for no entry, nor D, for a subdirectory
 pub record IsFileEntry (bytes : List ℕ) : Type 0 where
@@ -60,11 +62,13 @@ IsPathOfDirectory all key (Some path) = IsPathOfSubdirectory all key path
 
 -- each directory that some entries name is one of those of a store
 abbrev pub KeepsDirectoriesOf : List Entry → List (List ℕ) → Type 0
-KeepsDirectoriesOf all new = (after : Tree) (key : ℕ) → Describes new after → IsKeyOf all key → IsKeyOf after.entries key
+KeepsDirectoriesOf all new = (after : Tree) (key : ℕ) → Describes new after → IsKeyOf all key
+    → IsKeyOf after.entries key
 
--- The volume's directory has one entry more: it stands in this slot, its path is its name below the path of its directory,
--- and its storage type and its key pointer tell where its file begins. Only the system's blocks changed.
-pub record HasOneEntryMore (reserved : List Bool) (all : List Entry) (directory : Directory) (old new : List (List ℕ)) (above : Option (List ℕ)) (place slot : ℕ) (bytes : List ℕ) : Type 0 where
+-- The volume's directory has one entry more: it stands in this slot, its path is its name below the path of its
+-- directory, and its storage type and its key pointer tell where its file begins. Only the system's blocks changed.
+pub record HasOneEntryMore (reserved : List Bool) (all : List Entry) (directory : Directory) (old new : List (List ℕ))
+    (above : Option (List ℕ)) (place slot : ℕ) (bytes : List ℕ) : Type 0 where
   pub at : ℕ
   pub within : at ≤ entries directory
   pub entry : Listed
@@ -78,7 +82,8 @@ pub record HasOneEntryMore (reserved : List Bool) (all : List Entry) (directory 
   pub directories : KeepsDirectoriesOf all new
 
 -- The volume's directory has one entry less: it was the present one with that entry. Only the system's blocks changed.
-pub record HasOneEntryLess (reserved : List Bool) (all : List Entry) (directory : Directory) (old new : List (List ℕ)) (file : ℕ) : Type 0 where
+pub record HasOneEntryLess (reserved : List Bool) (all : List Entry) (directory : Directory) (old new : List (List ℕ))
+    (file : ℕ) : Type 0 where
   pub few : Directory
   pub described : DescribesPro reserved new few
   pub within : file ≤ entries few
@@ -91,14 +96,16 @@ pub record HasSameDirectory (reserved : List Bool) (directory : Directory) (old 
   pub described : DescribesPro reserved new directory
   pub rest : HasSameRest directory old new
 
--- A new file's entry as `encode` of `pro_dir` takes it: its name has at most 15 bytes, and its storage type is a file's.
+-- A new file's entry as `encode` of `pro_dir` takes it: its name has at most 15 bytes, and its storage type is a
+-- file's.
 pub record IsProperFile (file : NewFile) : Type 0 where
   pub storage : (0 < file.storage) × (file.storage < 13)
   pub short : file.len ≤ 15
   pub name : length file.name ≡ 15
   pub date : length file.date.0 ≡ 4
 
--- What the bytes of a new file's entry say. Its bytes are those of a file's entry, with its name, its storage type and its key pointer.
+-- What the bytes of a new file's entry say. Its bytes are those of a file's entry, with its name, its storage type and
+-- its key pointer.
 pub record SaysOfFile (file : NewFile) (bytes : List ℕ) : Type 0 where
   pub is : IsFileEntry bytes
   pub name_is : name_of bytes ≡ take file.len file.name

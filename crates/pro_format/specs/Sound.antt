@@ -12,7 +12,8 @@ pub record IsSound (tree : Tree) (system : List Bool) : Type 0 where
   pub blocks : All (λ (entry : Entry). entry.place < total_blocks tree.header) tree.entries
   pub slots : All (λ (entry : Entry). entry.slot < 13) tree.entries
   pub few : length tree.entries < 4294967296
-  pub map : (place : ℕ) → map_first tree.header ≤ place → place < map_first tree.header + map_blocks (total_blocks tree.header) → place < total_blocks tree.header
+  pub map : (place : ℕ) → map_first tree.header ≤ place
+      → place < map_first tree.header + map_blocks (total_blocks tree.header) → place < total_blocks tree.header
   pub size : length system ≡ total_blocks tree.header
   pub first : slice_index_or system 0 true ≡ true
 

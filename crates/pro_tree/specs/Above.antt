@@ -20,4 +20,5 @@ pub record IsAbove (parts : List Part) (k above : ℕ) : Type 0 where
   pub kind : is_above (part_of parts above).kind (part_of parts k).kind ≡ true
   pub file : (part_of parts above).file ≡ (part_of parts k).file
   pub nearest : (between : ℕ) → above < between → between < k
-      → ((part_of parts between).file ≡ (part_of parts k).file) × (is_above (part_of parts between).kind (part_of parts k).kind ≡ false)
+      → ((part_of parts between).file ≡ (part_of parts k).file)
+      × (is_above (part_of parts between).kind (part_of parts k).kind ≡ false)

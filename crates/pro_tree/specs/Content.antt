@@ -22,7 +22,8 @@ is_of_part places width unit at = nat_lt (at % 256) width && names_part places (
 
 -- an index with its first pointers put to 0 where they name parts
 unfoldable pub cleared : ℕ → ℕ → List ℕ → List ℕ
-cleared places width unit = map (λ at. if is_of_part places width unit at then 0 else slice_index unit at) (range_with_len 0 512)
+cleared places width unit = map (λ at. if is_of_part places width unit at then 0 else slice_index unit at)
+    (range_with_len 0 512)
 
 -- a block of a file with its pointers to parts put to 0
 abbrev pub pro_content : ℕ → PartKind → List ℕ → List ℕ

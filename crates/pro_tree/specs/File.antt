@@ -21,13 +21,15 @@ MasterAt store storage key place = (storage ≡ 3) × Names store key place
 abbrev pub IndexAt : List (List ℕ) → ℕ → ℕ → ℕ → ℕ → Type 0
 IndexAt store storage key m place =
     ((storage ≡ 2) × (m ≡ 0) × Names store key place)
-    ⊎ ((master : ℕ) × MasterAt store storage key master × (m < 128) × Names store (pointer_of (unit_at store master) m) place)
+    ⊎ ((master : ℕ) × MasterAt store storage key master × (m < 128)
+    × Names store (pointer_of (unit_at store master) m) place)
 
 -- A seedling has unit 0 of its body at its key pointer, and the others have unit 256 m + i at pointer i of index m.
 abbrev pub BodyAt : List (List ℕ) → ℕ → ℕ → ℕ → ℕ → Type 0
 BodyAt store storage key n place =
     ((storage ≡ 1) × (n ≡ 0) × Names store key place)
-    ⊎ ((index : ℕ) × IndexAt store storage key (n / 256) index × Names store (pointer_of (unit_at store index) (n % 256)) place)
+    ⊎ ((index : ℕ) × IndexAt store storage key (n / 256) index
+    × Names store (pointer_of (unit_at store index) (n % 256)) place)
 
 abbrev pub PlacedAt : List (List ℕ) → ℕ → ℕ → PartKind → ℕ → ℕ → Type 0
 PlacedAt store storage key Master number place = (number ≡ 0) × MasterAt store storage key place
@@ -39,4 +41,5 @@ PlacedAt store storage key AList number place = ⊥
 pub data InFile (store : List (List ℕ)) (file storage key : ℕ) : Part → Type 0 where
   at_key : {part : Part} → pro_root (length store) file storage key ≡ To part → InFile store file storage key part
   at_pointer : {parent part : Part} (i : ℕ) → InFile store file storage key parent
-      → pro_child (length store) parent.kind parent.file parent.number (unit_at store parent.place) i ≡ To part → InFile store file storage key part
+      → pro_child (length store) parent.kind parent.file parent.number (unit_at store parent.place) i ≡ To part
+      → InFile store file storage key part

@@ -31,12 +31,15 @@ pub record HasNoWild (store : List (List ℕ)) (file storage key : ℕ) : Type 0
   pub key_pointer : pro_root (length store) file storage key ≢ Wild
   pub pointers : (part : Part) (i : ℕ) → InFile store file storage key part → named_by store part i ≢ Wild
 
--- A fault of a file: a wild pointer in its entry or in one of its indexes, two parts at one place, or a storage type that has no parts.
+-- A fault of a file: a wild pointer in its entry or in one of its indexes, two parts at one place, or a storage type
+-- that has no parts.
 abbrev pub FileFaultAt : List (List ℕ) → ℕ → ℕ → ℕ → ℕ → Fault → Type 0
 FileFaultAt store file storage key entry (OutOfRange place) =
     ((place ≡ entry) × (pro_root (length store) file storage key ≡ Wild))
-    ⊎ ((part : Part) × InFile store file storage key part × (part.place ≡ place) × ((i : ℕ) × (named_by store part i ≡ Wild)))
+    ⊎ ((part : Part) × InFile store file storage key part × (part.place ≡ place)
+    × ((i : ℕ) × (named_by store part i ≡ Wild)))
 FileFaultAt store file storage key entry (Shared place) =
-    (part : Part) × (other : Part) × InFile store file storage key part × InFile store file storage key other × (part.place ≡ place) × (other.place ≡ place) × (part ≢ other)
+    (part : Part) × (other : Part) × InFile store file storage key part × InFile store file storage key other
+    × (part.place ≡ place) × (other.place ≡ place) × (part ≢ other)
 FileFaultAt store file storage key entry (StorageType place) = (place ≡ entry) × (HasParts storage → ⊥)
 FileFaultAt store file storage key entry fault = ⊥

@@ -1,5 +1,6 @@
--- The pointers of an index block (ProDOS 8 Technical Reference Manual, Appendix B): the numbers of 256 blocks, whose low bytes stand in
--- the first half of the block and whose high bytes stand in the second. A master index has the same form.
+-- The pointers of an index block (ProDOS 8 Technical Reference Manual, Appendix B): the numbers of 256 blocks, whose
+-- low bytes stand in the first half of the block and whose high bytes stand in the second. A master index has the same
+-- form.
 use Rattle.std.specs.Prelude.{ℕ, ◌+◌, ◌*◌, ◌/◌, ◌%◌, List, slice_index, slice_set}
 
 -- the block number of a pointer

@@ -10,10 +10,11 @@ use Rattle.pro_tree.specs.Pointers.{pointer_of}
 abbrev pub pro_link : ℕ → ℕ → PartKind → ℕ → ℕ → Link
 pro_link places file kind number block =
     if block == 0 then Null
-    else (if nat_lt block places then To (record { file = file; kind = kind; number = number; place = block }) else Wild)
+    else (if nat_lt block places then To (record { file = file; kind = kind; number = number; place = block })
+    else Wild)
 
--- The key block of a seedling (storage type 1) is the one unit of its body, that of a sapling (2) an index, that of a tree (3) a
--- master index. A subdirectory (D) has no parts, and other storage types are not read.
+-- The key block of a seedling (storage type 1) is the one unit of its body, that of a sapling (2) an index, that of a
+-- tree (3) a master index. A subdirectory (D) has no parts, and other storage types are not read.
 abbrev pub pro_root : ℕ → ℕ → ℕ → ℕ → Link
 pro_root places file storage key =
     if storage == 1 then pro_link places file Body 0 key
@@ -21,8 +22,8 @@ pro_root places file storage key =
     else (if storage == 3 then pro_link places file Master 0 key
     else (if storage == 13 then ToDirectory else OtherType)))
 
--- Pointer i of an index names unit 256 m + i of the body, where the index has the number m. Of a master index, the first 128 pointers name
--- the indexes of their numbers; the others are not followed.
+-- Pointer i of an index names unit 256 m + i of the body, where the index has the number m. Of a master index, the
+-- first 128 pointers name the indexes of their numbers; the others are not followed.
 abbrev pub pro_pointers : PartKind → ℕ
 pro_pointers Master = 128
 pro_pointers Index = 256

@@ -29,7 +29,8 @@ pub record IsTame (link : Link) : Type 0 where
 abbrev pub IsRefusedAt : List Bool → ℕ → Link → Fault → Type 0
 IsRefusedAt met holder link (OutOfRange place) = (place ≡ holder) × (link ≡ Wild)
 IsRefusedAt met holder link (StorageType place) = (place ≡ holder) × ((link ≡ ToDirectory) ⊎ (link ≡ OtherType))
-IsRefusedAt met holder link (Shared place) = (part : Part) × (link ≡ To part) × (part.place ≡ place) × (slice_index_or met place false ≡ true)
+IsRefusedAt met holder link (Shared place) =
+    (part : Part) × (link ≡ To part) × (part.place ≡ place) × (slice_index_or met place false ≡ true)
 IsRefusedAt met holder link fault = ⊥
 
 -- the parts so far are parts of the file, of ranks below a number and in order
@@ -38,7 +39,8 @@ pub record IsSoFar (store : List (List ℕ)) (file storage key below : ℕ) (par
   pub ordered : AllPairs (λ part later. rank part < rank later) parts
 
 -- a part, where its file was followed as far as its rank
-pub record IsReached (store : List (List ℕ)) (file storage key : ℕ) (part : Part) (met : List Bool) (parts : List Part) : Type 0 where
+pub record IsReached (store : List (List ℕ)) (file storage key : ℕ) (part : Part) (met : List Bool)
+    (parts : List Part) : Type 0 where
   pub in_file : InFile store file storage key part
   pub table : IsTable met parts
   pub so_far : IsSoFar store file storage key (rank part + 1) parts
@@ -58,7 +60,8 @@ pub record IsTaking (store : List (List ℕ)) (part : Part) (old parts : List Pa
   pub grown : (other : Part) → Contains old other → Contains parts other
   pub added : (other : Part) → Contains parts other → Contains old other ⊎ IsClosed store parts other
   pub pointers : AreTaken store part parts n
-  pub walked : (file storage key : ℕ) → InFile store file storage key part → IsSoFar store file storage key (rank part + 1) old
+  pub walked : (file storage key : ℕ) → InFile store file storage key part
+      → IsSoFar store file storage key (rank part + 1) old
       → IsSoFar store file storage key below parts
 
 -- where the places that were met were those of the parts, they are so still

@@ -5,7 +5,8 @@ use Rattle.std.specs.Fmt.{decimal}
 use Rattle.vol_layout.specs.declared.moves.Move.{Move}
 use Rattle.vol_layout.specs.Layouts.{Placement}
 
--- a layout, parts that are misplaced in it, rings of it, how many moves it takes at least to bring each part home, and moves that do
+-- a layout, parts that are misplaced in it, rings of it, how many moves it takes at least to bring each part home, and
+-- moves that do
 pub record Certificate : Type 0 where
   pub at : List ℕ
   pub places : ℕ
@@ -109,8 +110,8 @@ AreWholeLines bytes = (bytes ≡ []) ⊎ ((front : List ℕ) × (bytes ≡ front
 abbrev pub CanBegin : List ℕ → Type 0
 CanBegin front = (c : Certificate) × (more : List ℕ) × HasText c × (certificate_text c ≡ front ++ more)
 
--- the line of this number, from 1, is the first that cannot stand: some certificate's text begins with the lines before it, and none with
--- them and a line more of these bytes; the line may be missing, or lack its line feed
+-- the line of this number, from 1, is the first that cannot stand: some certificate's text begins with the lines before
+-- it, and none with them and a line more of these bytes; the line may be missing, or lack its line feed
 pub record IsFirstBadLine (bytes : List ℕ) (number : ℕ) : Type 0 where
   pub front : List ℕ
   pub rest : List ℕ

@@ -37,7 +37,8 @@ EndsAtTarget layout c = IsTarget (after layout.at c.moves)
 abbrev pub AddsUp : Certificate → Type 0
 AddsUp c = (c.bound ≡ length c.off + length c.rings) × (c.bound ≡ length c.moves)
 
--- a certificate that is good for a layout: distinct misplaced parts, rings without a common part, and as many moves, which lead to the target
+-- a certificate that is good for a layout: distinct misplaced parts, rings without a common part, and as many moves,
+-- which lead to the target
 pub record IsGood (layout : Placement) (c : Certificate) : Type 0 where
   pub same : IsOfLayout layout c
   pub misplaced : TellsMisplaced layout c

@@ -33,7 +33,8 @@ pub record HasWords (bytes numbers rest : List ℕ) : Type 0 where
 -- they do not begin with a line of two numbers, with these names
 abbrev pub LacksTwo : List ℕ → List ℕ → List ℕ → Type 0
 LacksTwo name second_name bytes =
-    (m n : ℕ) (more : List ℕ) → IsSmall m → IsSmall n → bytes ≡ name ++ (word m ++ (line second_name (n ∷ []) ++ more)) → ⊥
+    (m n : ℕ) (more : List ℕ) → IsSmall m → IsSmall n → bytes ≡ name ++ (word m ++ (line second_name (n ∷ []) ++ more))
+    → ⊥
 
 -- no byte is a line feed
 abbrev pub HasNoFeed : List ℕ → Type 0
@@ -48,7 +49,8 @@ pub record BeginsOtherwise (bytes others : List ℕ) : Type 0 where
   pub is : bytes ≡ body ++ 10 ∷ next
   pub lacks : (more : List ℕ) → others ≡ body ++ 10 ∷ more → ⊥
 
--- of these bytes the rest is left: the lines before it begin a text of something that fits, and what such a text has behind them begins otherwise
+-- of these bytes the rest is left: the lines before it begin a text of something that fits, and what such a text has
+-- behind them begins otherwise
 pub record IsLeft {X : Type 0} (Fits : X → Type 0) (text : X → List ℕ) (bytes rest : List ℕ) : Type 0 where
   pub front : List ℕ
   pub split : bytes ≡ front ++ rest
@@ -80,8 +82,8 @@ abbrev pub StopsAt : {X : Type 0} → (X → Type 0) → (X → List ℕ) → Li
 StopsAt Fits text bytes (Fault rest) = IsLeft Fits text bytes rest.now
 StopsAt Fits text bytes OutOfMemory = Unit {0}
 
--- of these bytes, which are no certificate's text, the rest is left: some certificate's text begins with the lines before it, and none with
--- a line more
+-- of these bytes, which are no certificate's text, the rest is left: some certificate's text begins with the lines
+-- before it, and none with a line more
 pub record IsLeftOver (bytes rest : List ℕ) : Type 0 where
   pub front : List ℕ
   pub split : bytes ≡ front ++ rest

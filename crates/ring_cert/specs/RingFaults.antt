@@ -18,11 +18,13 @@ IsFaultOfRings at rings (IllegalMove move) = ⊥
 IsFaultOfRings at rings NotAtTarget = ⊥
 IsFaultOfRings at rings Sum = ⊥
 
--- why numbers, and lists of numbers, are not distinct ones and rings without a common part: the first number that stands before in its
--- own of the two, or else the first list that is no ring
+-- why numbers, and lists of numbers, are not distinct ones and rings without a common part: the first number that
+-- stands before in its own of the two, or else the first list that is no ring
 abbrev pub IsFaultOfParts : List ℕ → List ℕ → List (List ℕ) → CertFault → Type 0
-IsFaultOfParts at off rings (Repeated part) = IsFirstRepeat off part ⊎ (AreDistinct off × IsFirstRepeat (concat rings) part)
-IsFaultOfParts at off rings (NotARing ring) = AreDistinct off × AreDistinct (concat rings) × IsFirstNot (IsRing at) rings ring
+IsFaultOfParts at off rings (Repeated part) =
+    IsFirstRepeat off part ⊎ (AreDistinct off × IsFirstRepeat (concat rings) part)
+IsFaultOfParts at off rings (NotARing ring) =
+    AreDistinct off × AreDistinct (concat rings) × IsFirstNot (IsRing at) rings ring
 IsFaultOfParts at off rings Memory = Unit {0}
 IsFaultOfParts at off rings OtherLayout = ⊥
 IsFaultOfParts at off rings (NotMisplaced part) = ⊥

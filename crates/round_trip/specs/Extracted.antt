@@ -14,8 +14,8 @@ use Rattle.volume_extract.specs.Extraction.{source_with}
 use Rattle.volume_extract.specs.Items.{Item, item_at, made_in}
 use Rattle.volume_extract.specs.Source.{AreItemsAt, Source, contents_at}
 
--- An extraction: how its volume is read and put into a folder, the directory of the volume, the device before and after,
--- and what became of the entries.
+-- An extraction: how its volume is read and put into a folder, the directory of the volume, the device before and
+-- after, and what became of the entries.
 pub record Extracted : Type 0 where
   pub volume : VolumeOptions
   pub options : ExtractOptions
@@ -27,8 +27,8 @@ pub record Extracted : Type 0 where
 abbrev pub source_in : Extracted → Source
 source_in e = source_with (plan_for e.volume e.options) e.directory
 
--- The types of files stand in their names, the directory is the one that the device's store describes, and the items are
--- those of its first entries, as `extract` makes them.
+-- The types of files stand in their names, the directory is the one that the device's store describes, and the items
+-- are those of its first entries, as `extract` makes them.
 pub record IsExtracted (e : Extracted) : Type 0 where
   pub named : e.options.naming ≡ Naps
   pub described : (source_in e).meaning.Describes e.device.store e.directory

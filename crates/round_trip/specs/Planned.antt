@@ -19,8 +19,8 @@ use Rattle.vol_format.specs.Directory.{Listed}
 
 -- ---- what is planned
 
--- the path that an entry had: of DOS 3.3 the characters of its name, without the spaces that fill it up, and of ProDOS its
--- path, behind the directory into which all files go, where one is said
+-- the path that an entry had: of DOS 3.3 the characters of its name, without the spaces that fill it up, and of ProDOS
+-- its path, behind the directory into which all files go, where one is said
 abbrev pub path_again : FileSystem → Option Text → Listed → Text
 path_again Dos into entry = characters (name_bytes Sector entry.path)
 path_again Prodos into entry = flat_map before (option_to_list into) ++ entry.path
@@ -55,8 +55,8 @@ pub record MayBeNew (e : Extracted) (number : ℕ) : Type 0 where
   pub kind : HasKind e number
   pub names : may_have e.volume.file_system (said_of e number Bytes) ≡ true
 
--- A file: its path says its names, its type and its aux type. Where a new file may have them, it is added as what it was,
--- with its bytes as they are; and else it is refused for its type or for a name, and for nothing else.
+-- A file: its path says its names, its type and its aux type. Where a new file may have them, it is added as what it
+-- was, with its bytes as they are; and else it is refused for its type or for a name, and for nothing else.
 pub record IsPlannedAgain (folder : AddedFolder) (e : Extracted) (number : ℕ) : Type 0 where
   pub says : SaysPath folder.file_system (item_in e number).host (said_of e number Bytes)
   pub planned : MayBeNew e number
@@ -79,8 +79,8 @@ content_in e number = content_of (type_of (item_in e number).entry)
 abbrev pub form_host : Extracted → ℕ → Text
 form_host e number = text_beside (item_in e number).host
 
--- The readable form of a file, which stands beside it: its path says the same. It is passed over where the file is an entry
--- too, and where it stands alone it is added as what the file was, with its bytes in that form.
+-- The readable form of a file, which stands beside it: its path says the same. It is passed over where the file is an
+-- entry too, and where it stands alone it is added as what the file was, with its bytes in that form.
 pub record IsFormPlannedAgain (folder : AddedFolder) (e : Extracted) (number : ℕ) : Type 0 where
   pub says : SaysPath folder.file_system (form_host e number) (said_of e number (content_in e number))
   pub passed : has_file folder.entries (item_in e number).host ≡ true
@@ -94,8 +94,8 @@ pub record IsFormPlannedAgain (folder : AddedFolder) (e : Extracted) (number : �
 abbrev pub has_names : Extracted → ℕ → Bool
 has_names e number = are_pro_names (directory_said e number).directories (directory_said e number).name
 
--- The folder of a directory, which ProDOS alone has: its path says its names. Where new directories may have them, it is
--- made where it is not there, under the path that it had; and else it is refused for a name.
+-- The folder of a directory, which ProDOS alone has: its path says its names. Where new directories may have them, it
+-- is made where it is not there, under the path that it had; and else it is refused for a name.
 pub record IsDirectoryAgain (folder : AddedFolder) (e : Extracted) (number : ℕ) : Type 0 where
   pub prodos : e.volume.file_system ≡ Prodos
   pub says : SaysDirectory folder.file_system (item_in e number).host (directory_said e number)

@@ -14,8 +14,8 @@ use Rattle.shop_jobs.specs.declared.job.FileSystem.{FileSystem}
 use Rattle.shop_jobs.specs.declared.job.FileSystem.TheVariants.{Dos, Prodos}
 use Rattle.vol_format.specs.Directory.{Listed}
 
--- the path that is stored of it: of DOS 3.3 the name that its entry had, with spaces up to 30 bytes, and of ProDOS the path
--- that it had, with its letters as capitals
+-- the path that is stored of it: of DOS 3.3 the name that its entry had, with spaces up to 30 bytes, and of ProDOS the
+-- path that it had, with its letters as capitals
 abbrev pub stored_again : FileSystem → Option Text → Listed → Text
 stored_again Dos into entry = filled_name entry.path
 stored_again Prodos into entry = folded (path_again Prodos into entry)

@@ -23,8 +23,10 @@ entry_of (file path bytes) = file_at path
 -- the entries of a folder in which just these were made, each once, in any order
 pub record AreEntriesOf (made : List Made) (entries : List EntryView) : Type 0 where
   pub each : (one : Made) → Contains made one → Contains entries (entry_of one)
-  pub none_else : (entry : EntryView) → Contains entries entry → (one : Made) × Contains made one × (entry ≡ entry_of one)
-  pub once : (entry : EntryView) (one other : ℕ) → slice_get entries one ≡ Some entry → slice_get entries other ≡ Some entry
+  pub none_else : (entry : EntryView) → Contains entries entry
+      → (one : Made) × Contains made one × (entry ≡ entry_of one)
+  pub once : (entry : EntryView) (one other : ℕ) → slice_get entries one ≡ Some entry
+      → slice_get entries other ≡ Some entry
       → one ≡ other
 
 -- the numbers of the items that are a file that was read, that have a readable form beside it, and that are a directory
@@ -50,8 +52,8 @@ pub record IsEntryAt (entries : List EntryView) (numbers : List ℕ) (place : �
   pub numbered : slice_get numbers place ≡ Some number
   pub there : slice_get entries number ≡ Some entry
 
--- at a place of a plan there is the file of an item, and its entry; the directory of one, and its entry; and the readable form
--- of one, which is passed over
+-- at a place of a plan there is the file of an item, and its entry; the directory of one, and its entry; and the
+-- readable form of one, which is passed over
 pub record IsFileOf (folder : AddedFolder) (e : Extracted) (plan : PlanView) (place number : ℕ) : Type 0 where
   pub of : IsFileIn e number
   pub item : slice_get plan.items place ≡ Some (item_again folder e number Bytes)
@@ -73,8 +75,8 @@ pub record ArePlacesOf (many : ℕ) (Is : ℕ → Type 0) (At : ℕ → ℕ → 
   pub one_place : (number one other : ℕ) → At one number → At other number → one ≡ other
   pub one_number : (place one other : ℕ) → At place one → At place other → one ≡ other
 
--- The files of a plan are just those that were read, its directories those of the volume, and what it passes over are the
--- readable forms.
+-- The files of a plan are just those that were read, its directories those of the volume, and what it passes over are
+-- the readable forms.
 pub record IsPlanAgain (folder : AddedFolder) (e : Extracted) (plan : PlanView) : Type 0 where
   pub files : ArePlacesOf (length plan.items) (IsFileIn e) (IsFileOf folder e plan)
   pub directories : ArePlacesOf (length plan.directories) (IsDirectoryIn e) (IsDirectoryOf folder e plan)
@@ -92,7 +94,8 @@ pub record IsWholePlanned (folder : AddedFolder) (e : Extracted) : Type 0 where
 -- each file among the entries holds what was put into the file of its path
 abbrev pub HoldWhatWasMade : List Made → List EntryView → (ℕ → List ℕ) → Type 0
 HoldWhatWasMade made entries contents =
-    (number : ℕ) (path : Text) → slice_get entries number ≡ Some (file_at path) → Contains made (file path (contents number))
+    (number : ℕ) (path : Text) → slice_get entries number ≡ Some (file_at path)
+    → Contains made (file path (contents number))
 
 -- the body of a file that was read
 abbrev pub body_of : Found → List ℕ

@@ -27,8 +27,8 @@ ghost use Rattle.volume_extract.specs.Items.{made_in};
 
 use folder_adding::an_entry_makes_one_step;
 
-/// A law: what `extract` tells to be done, with types in names and into an empty folder that is honest, is an extraction
-/// of all entries of the volume, and just what was made of these is in the folder.
+/// A law: what `extract` tells to be done, with types in names and into an empty folder that is honest, is an
+/// extraction of all entries of the volume, and just what was made of these is in the folder.
 pub fn what_extract_does_is_an_extraction()
     ensures { (volume : VolumeOptions) (options : ExtractOptions) (device device_now : DeviceState)
         (folder folder_now : FolderState) (status : ℕ) (text text_now : Option (List ℕ))
@@ -38,8 +38,8 @@ pub fn what_extract_does_is_an_extraction()
         → (e : Extracted) × IsWhole e volume options device device_now folder_now.made }
 {}
 
-/// A law: a file that was extracted is planned as what it was, whatever else stands in its folder, or is refused for its
-/// type or a name.
+/// A law: a file that was extracted is planned as what it was, whatever else stands in its folder, or is refused for
+/// its type or a name.
 pub fn an_extracted_file_is_planned_as_it_was()
     ensures { (e : Extracted) (folder : AddedFolder) (number : ℕ) → IsExtracted e
         → folder.file_system ≡ e.volume.file_system → IsFileIn e number → IsPlannedAgain folder e number }

@@ -1,20 +1,21 @@
 //! What `extract` puts into a folder of the host, taken as what `add` adds to a volume: it is planned as the files and
 //! directories of the volume that was extracted.
 //!
-//! Nothing here runs: each function is a law, with a body that does nothing and its contract for the statement. The laws
-//! stand on what is proved of the two halves, `volume_extract` and `folder_adding`, and of the names between them
+//! Nothing here runs: each function is a law, with a body that does nothing and its contract for the statement. The
+//! laws stand on what is proved of the two halves, `volume_extract` and `folder_adding`, and of the names between them
 //! (`host_folders`).
 //!
 //! An extraction (`specs/Extracted.antt`) is a volume, the directory that its store describes, and the items of that
-//! directory's entries as `extract` makes them, with types in the names of files. What `extract` tells to be done is one
-//! (`what_extract_does_is_an_extraction`).
+//! directory's entries as `extract` makes them, with types in the names of files. What `extract` tells to be done is
+//! one (`what_extract_does_is_an_extraction`).
 //!
-//! What becomes of its items where they are added again is `specs/Planned.antt`. The path of a file says the stored names
-//! of the directories in which it stood, and its own name, type and aux type; and where a new file may have these, it is
-//! added under the path that it had, with its kind and aux type (`an_extracted_file_is_planned_as_it_was`). Its readable
-//! form is passed over beside it, and alone it is added as the file (`a_readable_form_is_passed_over_or_planned`). The
-//! folder of a directory says the names too, and the directory is made under the path that it had
-//! (`an_extracted_directory_is_planned_as_it_was`). What can't be added is refused for its type or for a name.
+//! What becomes of its items where they are added again is `specs/Planned.antt`. The path of a file says the stored
+//! names of the directories in which it stood, and its own name, type and aux type; and where a new file may have
+//! these, it is added under the path that it had, with its kind and aux type
+//! (`an_extracted_file_is_planned_as_it_was`). Its readable form is passed over beside it, and alone it is added as the
+//! file (`a_readable_form_is_passed_over_or_planned`). The folder of a directory says the names too, and the directory
+//! is made under the path that it had (`an_extracted_directory_is_planned_as_it_was`). What can't be added is refused
+//! for its type or for a name.
 //!
 //! Of all that was made, as the entries of a folder in any order, `specs/Whole.antt` speaks: where new files and
 //! directories may have all names and types, no entry is refused, and the plan has just the files that were read, just

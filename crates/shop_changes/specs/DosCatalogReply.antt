@@ -16,7 +16,8 @@ use Rattle.shop_replies.specs.Volume.{LacksUnit, OfVolume, TakesBytes}
 abbrev pub TellsCatalog : DeviceState → Reply → Type 0
 TellsCatalog device reply = IsTold Done reply × IsListingText device.store (text_of reply)
 
--- The listing; `Check` for a VTOC of another geometry or a broken catalog chain; a failure where a sector can't be read; or want of memory.
+-- The listing; `Check` for a VTOC of another geometry or a broken catalog chain; a failure where a sector can't be
+-- read; or want of memory.
 abbrev pub IsDosListed : DeviceState → Reply → Type 0
 IsDosListed device reply =
     TellsCatalog device reply

@@ -21,13 +21,19 @@ abbrev pub TellsEdit : {T : Type 0} → Result T EditError → Outcome → Type 
 TellsEdit (Ok done) outcome = outcome ≡ Changed
 TellsEdit (Err error) outcome = outcome ≡ Unfinished (reply_to_edit_refusal error)
 
--- A command was tried, and the outcome tells what it answered. Done, all writes of the edit stand and nothing else has changed, and the files are those of before after the edit of
--- their list. Stopped by a failure, one was met, a front of the writes stands, none was made after it, and the files are those of before or of the edit. Refused, the refusal has its cause.
-pub record IsEditOutcome (edit : EditView) (name : FileNameView) (files : FileMeaning) (rules : EditRules) (format : Meaning) (old new : DeviceState) (outcome : Outcome) : Type 0 where
+-- A command was tried, and the outcome tells what it answered. Done, all writes of the edit stand and nothing else has
+-- changed, and the files are those of before after the edit of their list. Stopped by a failure, one was met, a front
+-- of the writes stands, none was made after it, and the files are those of before or of the edit. Refused, the refusal
+-- has its cause.
+pub record IsEditOutcome (edit : EditView) (name : FileNameView) (files : FileMeaning) (rules : EditRules)
+    (format : Meaning) (old new : DeviceState) (outcome : Outcome) : Type 0 where
   pub result : Result (Unit {0}) EditError
   pub told : TellsEdit result outcome
   pub edited : HasEdited (AreWritesOf edit name files rules format old.store) result old new
   pub refusals : IfErr result IsRenameRefusal
-  pub changed : IsTrue old.honest → OnOk result (HasChanged format (edited_files edit name files rules) old.store new.store)
+  pub changed : IsTrue old.honest
+      → OnOk result (HasChanged format (edited_files edit name files rules) old.store new.store)
   pub stopped : IsTrue old.honest → result ≡ Err Device → IsOldOrEdited edit name files rules format old.store new.store
-  pub caused : IsTrue old.honest → IfErr result (λ error. IfSome (refusal_of_edit error) (λ refusal. IsCause refusal edit name files rules format old.store))
+  pub caused : IsTrue old.honest
+      → IfErr result (λ error. IfSome (refusal_of_edit error)
+      (λ refusal. IsCause refusal edit name files rules format old.store))

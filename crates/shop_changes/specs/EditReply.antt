@@ -17,9 +17,10 @@ use Rattle.shop_changes.specs.EditRules.{EditRules}
 use Rattle.shop_changes.specs.Edits.{AreWritesOf, IsCause, edited_files}
 use Rattle.shop_changes.specs.ImageBytes.{AreBytesOf, KeepsBytes}
 
--- The edit is done: all its writes stand on the device and nothing else has changed, the files are those of before after
--- the edit of their list, and the reply has the image under the device.
-pub record IsEditedReply (edit : EditView) (name : FileNameView) (files : FileMeaning) (rules : EditRules) (format : Meaning) (device : DeviceState) (reply : Reply) : Type 0 where
+-- The edit is done: all its writes stand on the device and nothing else has changed, the files are those of before
+-- after the edit of their list, and the reply has the image under the device.
+pub record IsEditedReply (edit : EditView) (name : FileNameView) (files : FileMeaning) (rules : EditRules)
+    (format : Meaning) (device : DeviceState) (reply : Reply) : Type 0 where
   pub writes : List Write
   pub are_writes : AreWritesOf edit name files rules format device.store writes
   pub changed : HasChanged format (edited_files edit name files rules) device.store (device_after writes device).store
@@ -27,8 +28,8 @@ pub record IsEditedReply (edit : EditView) (name : FileNameView) (files : FileMe
   pub made : AreBytesOf (device_after writes device) (made_of reply)
   pub kept : KeepsBytes device (made_of reply)
 
--- The reply to an edit: the image with the volume after it; a refusal with its cause; a failure where a unit can't be read
--- or written; or want of memory.
+-- The reply to an edit: the image with the volume after it; a refusal with its cause; a failure where a unit can't be
+-- read or written; or want of memory.
 abbrev pub IsEdited : EditView → FileNameView → FileMeaning → EditRules → Meaning → DeviceState → Reply → Type 0
 IsEdited edit name files rules format device reply =
     IsEditedReply edit name files rules format device reply

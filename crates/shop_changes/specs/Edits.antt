@@ -23,15 +23,18 @@ edited_files Delete name files rules = without_named files name
 edited_files (Rename new) name files rules = with_new_name files rules.name name new
 
 -- these writes are the edit
-abbrev pub AreWritesOf : EditView → FileNameView → FileMeaning → EditRules → Meaning → List (List ℕ) → List Write → Type 0
+abbrev pub AreWritesOf : EditView → FileNameView → FileMeaning → EditRules → Meaning → List (List ℕ) → List Write
+    → Type 0
 AreWritesOf Lock name files rules format store writes = IsLockEdit format files rules.lock store name true writes
 AreWritesOf Unlock name files rules format store writes = IsLockEdit format files rules.lock store name false writes
 AreWritesOf Delete name files rules format store writes = IsDeleteEdit format files rules.erase store name writes
-AreWritesOf (Rename new) name files rules format store writes = IsRenameEdit format files rules.name store name new writes
+AreWritesOf (Rename new) name files rules format store writes =
+    IsRenameEdit format files rules.name store name new writes
 
--- The same store, or one whose files are those of before after the edit of their list; of a deletion at worst the places
--- of its file are lost.
-abbrev pub IsOldOrEdited : EditView → FileNameView → FileMeaning → EditRules → Meaning → List (List ℕ) → List (List ℕ) → Type 0
+-- The same store, or one whose files are those of before after the edit of their list; of a deletion at worst the
+-- places of its file are lost.
+abbrev pub IsOldOrEdited : EditView → FileNameView → FileMeaning → EditRules → Meaning → List (List ℕ) → List (List ℕ)
+    → Type 0
 IsOldOrEdited Delete name files rules format old new = IsOldOrErased format files name old new
 IsOldOrEdited edit name files rules format old new = IsOldOrChanged format (edited_files edit name files rules) old new
 
@@ -41,8 +44,11 @@ IsOldOrEdited edit name files rules format old new = IsOldOrChanged format (edit
 abbrev pub IsCause : Refusal → EditView → FileNameView → FileMeaning → EditRules → Meaning → List (List ℕ) → Type 0
 IsCause refusals.Check edit name files rules format store = ¬ IsVolume format store
 IsCause refusals.NotFound edit name files rules format store = HasNoSuchFile format files store name
-IsCause refusals.Name (Rename new) name files rules format store = HasFirstUnnamed format files rules.name store name new
-IsCause refusals.Exists (Rename new) name files rules format store = HasFirstBeside format files rules.name store name new
-IsCause refusals.Locked (Rename new) name files rules format store = HasFirstLocked format files rules.name store name new
+IsCause refusals.Name (Rename new) name files rules format store =
+    HasFirstUnnamed format files rules.name store name new
+IsCause refusals.Exists (Rename new) name files rules format store =
+    HasFirstBeside format files rules.name store name new
+IsCause refusals.Locked (Rename new) name files rules format store =
+    HasFirstLocked format files rules.name store name new
 IsCause refusals.Locked Delete name files rules format store = HasFirstProtected format files rules.erase store name
 IsCause refusal edit name files rules format store = ⊥

@@ -14,7 +14,13 @@ pub record GivenView : Type 0 where
   pub bytes : List ℕ
 
 abbrev pub given_view : GivenFile → GivenView
-given_view given = record { kind = given.kind; aux = given.aux; date = given.date; head = given.head; bytes = given.bytes.now }
+given_view given = record {
+  kind = given.kind;
+  aux = given.aux;
+  date = given.date;
+  head = given.head;
+  bytes = given.bytes.now;
+}
 
 -- the most bytes of a file that is given
 abbrev pub most_input : ℕ

@@ -26,7 +26,8 @@ hex_value digit =
 
 -- the number that two hexadecimal digits write, the high one first
 abbrev pub hex_byte : List ℕ → Option ℕ
-hex_byte (high ∷ low ∷ []) = option_and_then (λ first. option_map (λ second. 16 * first + second) (hex_value low)) (hex_value high)
+hex_byte (high ∷ low ∷ []) = option_and_then
+    (λ first. option_map (λ second. 16 * first + second) (hex_value low)) (hex_value high)
 hex_byte _ = None
 
 -- the type that a word names, in a file system
@@ -53,7 +54,8 @@ abbrev pub kind_for : FileSystem → ℕ → Option ℕ
 kind_for Dos file_type = dos_kind_for file_type
 kind_for Prodos file_type = Some file_type
 
--- what DOS 3.3 puts before the bytes of a file of a type: of a BASIC program the length, of a binary file the address and the length
+-- what DOS 3.3 puts before the bytes of a file of a type: of a BASIC program the length, of a binary file the address
+-- and the length
 abbrev pub dos_head : ℕ → Head
 dos_head kind =
     if kind == 0x01 then heads.Length else

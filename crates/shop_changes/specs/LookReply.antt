@@ -14,8 +14,10 @@ abbrev pub sided : LookView → Reply → Reply
 sided (Compare other options) reply = of_image First reply
 sided look reply = reply
 
--- what the look tells of the volume in these bytes, with those of a file beside the image, or why there is no volume in them
-pub record IsImageLook (look : LookView) (extra : List ℕ) (volume : VolumeOptions) (reserve : Option Text) (image : List ℕ) (reply : Reply) : Type 0 where
+-- what the look tells of the volume in these bytes, with those of a file beside the image, or why there is no volume in
+-- them
+pub record IsImageLook (look : LookView) (extra : List ℕ) (volume : VolumeOptions) (reserve : Option Text)
+    (image : List ℕ) (reply : Reply) : Type 0 where
   pub plain : Reply
   pub is : IsVolumeReply volume reserve image (λ reserved. IsLookReply look extra (shown_by volume reserved)) plain
   pub told : reply ≡ sided look plain

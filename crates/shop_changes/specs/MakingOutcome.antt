@@ -12,10 +12,11 @@ use Rattle.file_edits.specs.Made.{IsMakingRefusal}
 use Rattle.shop_changes.specs.EditOutcome.{TellsEdit}
 use Rattle.shop_changes.specs.declared.outcome.Outcome.{Outcome}
 
--- It was tried, and the outcome tells what was answered. Done, all its writes stand and nothing else has changed, and the
--- directory is there. Stopped by a failure, one was met, a front of the writes stands, none was made after it, and the
--- directory is there or is not. Refused, the volume is not accepted, or has the cause that is told.
-pub record IsMakingOutcome (path : List ℕ) (date : ProDate) (directories : DirectoryMeaning) (format : Meaning) (old new : DeviceState) (outcome : Outcome) : Type 0 where
+-- It was tried, and the outcome tells what was answered. Done, all its writes stand and nothing else has changed, and
+-- the directory is there. Stopped by a failure, one was met, a front of the writes stands, none was made after it, and
+-- the directory is there or is not. Refused, the volume is not accepted, or has the cause that is told.
+pub record IsMakingOutcome (path : List ℕ) (date : ProDate) (directories : DirectoryMeaning) (format : Meaning)
+    (old new : DeviceState) (outcome : Outcome) : Type 0 where
   pub result : Result (Unit {0}) EditError
   pub told : TellsEdit result outcome
   pub edited : HasEdited (IsDirectoryEdit directories old.store path date) result old new

@@ -32,10 +32,12 @@ EndsAs error (Unfinished reply) = TellsError error reply
 -- The volume was optimized as the report says; or a step failed, and this stands; or the work was refused, as the reply
 -- tells. Where nothing of the device can fail, no step does, and no failure of it is the cause of a refusal.
 abbrev pub IsOptimizeOutcome : Bool → ℕ → Meaning → DeviceState → DeviceState → Outcome → Type 0
-IsOptimizeOutcome reclaim limit format old new (Optimized report) = IsReported format (record { reclaim = reclaim }) limit old new report
+IsOptimizeOutcome reclaim limit format old new (Optimized report) =
+    IsReported format (record { reclaim = reclaim }) limit old new report
 IsOptimizeOutcome reclaim limit format old new Changed = ⊥
 IsOptimizeOutcome reclaim limit format old new Stopped =
     (error : StepError) × IsStopped format (record { reclaim = reclaim }) limit old new error × (¬ CannotFail old)
 IsOptimizeOutcome reclaim limit format old new (Unfinished reply) =
-    (error : OptError Global) × IsRefused format (record { reclaim = reclaim }) limit old new error × TellsError error reply
+    (error : OptError Global) × IsRefused format (record { reclaim = reclaim }) limit old new error
+    × TellsError error reply
     × (CannotFail old → IsNoFailure error)

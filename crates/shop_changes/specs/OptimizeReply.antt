@@ -15,7 +15,8 @@ use Rattle.shop_changes.specs.Outcome.{report_text}
 use Rattle.shop_changes.specs.ImageBytes.{AreBytesOf, KeepsBytes}
 
 -- the volume was optimized, as the report says, and this is the image and the text
-pub record IsWorkedReply (reclaim : Bool) (limit : ℕ) (format : Meaning) (device : DeviceState) (reply : Reply) : Type 0 where
+pub record IsWorkedReply (reclaim : Bool) (limit : ℕ) (format : Meaning) (device : DeviceState)
+    (reply : Reply) : Type 0 where
   pub after : DeviceState
   pub report : Report Global
   pub reported : IsReported format (record { reclaim = reclaim }) limit device after report
@@ -25,7 +26,8 @@ pub record IsWorkedReply (reclaim : Bool) (limit : ℕ) (format : Meaning) (devi
   pub kept : KeepsBytes device (made_of reply)
 
 -- a step failed, and this is the image as it stands
-pub record IsStoppedReply (reclaim : Bool) (limit : ℕ) (format : Meaning) (device : DeviceState) (reply : Reply) : Type 0 where
+pub record IsStoppedReply (reclaim : Bool) (limit : ℕ) (format : Meaning) (device : DeviceState)
+    (reply : Reply) : Type 0 where
   pub after : DeviceState
   pub error : StepError
   pub stopped : IsStopped format (record { reclaim = reclaim }) limit device after error

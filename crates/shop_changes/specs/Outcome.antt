@@ -7,11 +7,13 @@ use Rattle.shop_replies.specs.Reply.{failure_line, status_of, text_of}
 use Rattle.shop_changes.specs.declared.outcome.Outcome.{Outcome}
 use Rattle.shop_changes.specs.declared.outcome.Outcome.TheVariants.{Optimized, Changed, Stopped, Unfinished}
 
--- how many moves were made, the rings and the misplaced parts that there were, the writes of the map, and whether all is
--- done
+-- how many moves were made, the rings and the misplaced parts that there were, the writes of the map, and whether all
+-- is done
 abbrev pub report_line : ℕ → ℕ → ℕ → ℕ → Bool → Text
-report_line moves rings misplaced map_writes finished = codes "moves " ++ (decimal moves ++ (codes " rings " ++ (decimal rings ++ (codes " misplaced " ++ (decimal misplaced
-    ++ (codes " map writes " ++ (decimal map_writes ++ (codes " " ++ (if finished then codes "finished" else codes "stopped")))))))))
+report_line moves rings misplaced map_writes finished =
+    codes "moves " ++ (decimal moves ++ (codes " rings " ++ (decimal rings ++ (codes " misplaced " ++ (decimal misplaced
+    ++ (codes " map writes " ++ (decimal map_writes
+    ++ (codes " " ++ (if finished then codes "finished" else codes "stopped")))))))))
 
 -- the line of a report with its end, and behind it the certificate
 abbrev pub line_of_report : {A : Type 0} → Report A → Text

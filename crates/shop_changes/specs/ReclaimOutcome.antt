@@ -10,9 +10,9 @@ use Rattle.file_edits.specs.Reclaimed.{HasReclaimed, IsOldOrReclaimed, IsReclaim
 use Rattle.shop_changes.specs.EditOutcome.{TellsEdit}
 use Rattle.shop_changes.specs.declared.outcome.Outcome.{Outcome}
 
--- It was tried, and the outcome tells what was answered. Done, all its writes stand and nothing else has changed, the files
--- stand where they stood, and no place is lost. Stopped by a failure, one was met, a front of the writes stands, none was made
--- after it, and some of the lost places are free. Refused, the volume is not accepted.
+-- It was tried, and the outcome tells what was answered. Done, all its writes stand and nothing else has changed, the
+-- files stand where they stood, and no place is lost. Stopped by a failure, one was met, a front of the writes stands,
+-- none was made after it, and some of the lost places are free. Refused, the volume is not accepted.
 pub record IsReclaimOutcome (format : Meaning) (old new : DeviceState) (outcome : Outcome) : Type 0 where
   pub result : Result (Unit {0}) EditError
   pub told : TellsEdit result outcome

@@ -13,8 +13,8 @@ use Rattle.shop_replies.specs.Reply.{IsMadeReply, failed, made_of, refused}
 use Rattle.shop_replies.specs.Volume.{LacksUnit}
 use Rattle.shop_changes.specs.ImageBytes.{AreBytesOf, KeepsBytes}
 
--- It is done: all its writes stand on the device and nothing else has changed, the files stand where they stood and no place
--- is lost, and the reply has the image under the device.
+-- It is done: all its writes stand on the device and nothing else has changed, the files stand where they stood and no
+-- place is lost, and the reply has the image under the device.
 pub record IsReclaimedReply (format : Meaning) (device : DeviceState) (reply : Reply) : Type 0 where
   pub writes : List Write
   pub are_writes : IsReclaimEdit format device.store writes
@@ -23,8 +23,8 @@ pub record IsReclaimedReply (format : Meaning) (device : DeviceState) (reply : R
   pub made : AreBytesOf (device_after writes device) (made_of reply)
   pub kept : KeepsBytes device (made_of reply)
 
--- The reply: the image with the volume after it; that the volume is not accepted; a failure where a unit can't be read or
--- written; or want of memory.
+-- The reply: the image with the volume after it; that the volume is not accepted; a failure where a unit can't be read
+-- or written; or want of memory.
 abbrev pub IsReclaimed : Meaning → DeviceState → Reply → Type 0
 IsReclaimed format device reply =
     IsReclaimedReply format device reply

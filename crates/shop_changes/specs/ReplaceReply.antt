@@ -38,9 +38,10 @@ pub record IsReopened (old new : DeviceState) : Type 0 where
   pub store : new.store ≡ old.store
   pub unreadable : new.unreadable ≡ old.unreadable
 
--- The file is saved on a device that no longer has the first file with its path, nor a call that is counted, where it is
--- given with what the old file leaves to it; and so it is told.
-pub record IsSavedOver (path : List ℕ) (said : SaidView) (files : FileMeaning) (rules : EditRules) (format : Meaning) (device : DeviceState) (reply : Reply) : Type 0 where
+-- The file is saved on a device that no longer has the first file with its path, nor a call that is counted, where it
+-- is given with what the old file leaves to it; and so it is told.
+pub record IsSavedOver (path : List ℕ) (said : SaidView) (files : FileMeaning) (rules : EditRules) (format : Meaning)
+    (device : DeviceState) (reply : Reply) : Type 0 where
   pub without : DeviceState
   pub given : GivenView
   pub way : IsMadeWay path said files rules format device without given
@@ -48,8 +49,9 @@ pub record IsSavedOver (path : List ℕ) (said : SaidView) (files : FileMeaning)
   pub same : IsReopened without reopened
   pub saved : IsSaved path given rules.save format reopened reply
 
--- the reply to a file that is given as it is: too long for the head of the type that is said; the volume is not accepted;
--- the old file is locked; a unit of it can't be read or written; want of memory; or what is told of the saving
+-- the reply to a file that is given as it is: too long for the head of the type that is said; the volume is not
+-- accepted; the old file is locked; a unit of it can't be read or written; want of memory; or what is told of the
+-- saving
 abbrev pub IsPlainReplaced : List ℕ → SaidView → FileMeaning → EditRules → Meaning → DeviceState → Reply → Type 0
 IsPlainReplaced path said files rules format device reply =
     ((reply ≡ refused refusals.TooLong) × IsTooLongAsSaid said)
@@ -59,8 +61,8 @@ IsPlainReplaced path said files rules format device reply =
     ⊎ (reply ≡ failed failures.Memory)
     ⊎ IsSavedOver path said files rules format device reply))
 
--- The reply to a file that takes the place of another one, as words and bytes say it: more bytes than are read of a file,
--- before that they give none, before the volume.
+-- The reply to a file that takes the place of another one, as words and bytes say it: more bytes than are read of a
+-- file, before that they give none, before the volume.
 abbrev pub IsReplaced : List ℕ → SaidView → ChangedMeaning → DeviceState → Reply → Type 0
 IsReplaced path said format device reply =
     ((reply ≡ refused refusals.InputTooLong) × (most_input < length said.bytes))

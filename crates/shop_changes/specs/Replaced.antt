@@ -75,30 +75,35 @@ IsAuxTaken form format directory store file entry (Some said) aux = aux ≡ said
 IsAuxTaken form format directory store file entry None aux = IsAuxOf form format directory store file entry aux
 
 -- The first file with a path of an accepted volume has this type; and this auxiliary type, where none is said.
-pub record IsReplacedFile (form : PlaceForm) (format : Meaning) (files : FileMeaning) (store : List (List ℕ)) (path : List ℕ)
+pub record IsReplacedFile (form : PlaceForm) (format : Meaning) (files : FileMeaning)
+    (store : List (List ℕ)) (path : List ℕ)
     (said : Option ℕ) (old : ReplacedFile) : Type 0 where
   pub directory : Directory
   pub accepted : IsAccepted format directory store
   pub file : ℕ
   pub first : IsFirstNamed files directory (GivenPath path) file
   pub kind : old.kind ≡ (files.shown {A = Global} (entry_of directory file)).kind
-  pub aux : IsAuxTaken form format directory store file (files.shown {A = Global} (entry_of directory file)) said old.aux
+  pub aux : IsAuxTaken form format directory store file
+      (files.shown {A = Global} (entry_of directory file)) said old.aux
 
 -- the file that a path names on an accepted volume, or that it names none
-abbrev pub IsReplaced : PlaceForm → Meaning → FileMeaning → List (List ℕ) → List ℕ → Option ℕ → Option ReplacedFile → Type 0
+abbrev pub IsReplaced : PlaceForm → Meaning → FileMeaning → List (List ℕ) → List ℕ → Option ℕ → Option ReplacedFile
+    → Type 0
 IsReplaced form format files store path said old =
-    MatchOption old (HasNoSuchFile format files store (GivenPath path)) (IsReplacedFile form format files store path said)
+    MatchOption old (HasNoSuchFile format files store (GivenPath path))
+    (IsReplacedFile form format files store path said)
 
 -- ---- what is saved
 
--- the file that is given in the place of another one: what the words leave out is that file's, or the usual where there is
--- none
+-- the file that is given in the place of another one: what the words leave out is that file's, or the usual where there
+-- is none
 abbrev pub given_over : SaidView → Option ReplacedFile → GivenView
 given_over said None = given_with said (unwrap_or said.kind (usual_kind said.file_system)) 0 said.bytes
 given_over said (Some old) = given_with said (unwrap_or said.kind old.kind) old.aux said.bytes
 
 -- the first file with a path is deleted, by the writes of that edit
-pub record IsWithout (path : List ℕ) (files : FileMeaning) (rules : EditRules) (format : Meaning) (old new : DeviceState) : Type 0 where
+pub record IsWithout (path : List ℕ) (files : FileMeaning) (rules : EditRules) (format : Meaning)
+    (old new : DeviceState) : Type 0 where
   pub writes : List Write
   pub are_writes : IsDeleteEdit format files rules.erase old.store (GivenPath path) writes
   pub changed : HasChanged format (without_named files (GivenPath path)) old.store new.store
@@ -110,7 +115,8 @@ IsCleared path files rules format old new =
     IsWithout path files rules format old new ⊎ (HasNoSuchFile format files old.store (GivenPath path) × (new ≡ old))
 
 -- what is saved then
-pub record IsMadeWay (path : List ℕ) (said : SaidView) (files : FileMeaning) (rules : EditRules) (format : Meaning) (old new : DeviceState)
+pub record IsMadeWay (path : List ℕ) (said : SaidView) (files : FileMeaning) (rules : EditRules) (format : Meaning)
+    (old new : DeviceState)
     (given : GivenView) : Type 0 where
   pub fits : ¬ IsTooLongAsSaid said
   pub replaced : Option ReplacedFile
@@ -118,14 +124,16 @@ pub record IsMadeWay (path : List ℕ) (said : SaidView) (files : FileMeaning) (
   pub is : given ≡ given_over said replaced
   pub cleared : IsCleared path files rules format old new
 
--- Why the file is not deleted: the volume is not accepted; the entry of the file does not let it be deleted; a read or a
--- write fails, and a front of the writes stands; or want of memory. Nothing else is told.
+-- Why the file is not deleted: the volume is not accepted; the entry of the file does not let it be deleted; a read or
+-- a write fails, and a front of the writes stands; or want of memory. Nothing else is told.
 abbrev pub IsNotCleared : EditError → List ℕ → FileMeaning → EditRules → Meaning → DeviceState → DeviceState → Type 0
 IsNotCleared Check path files rules format old new = (¬ IsVolume format old.store) × (new ≡ old)
-IsNotCleared Locked path files rules format old new = HasFirstProtected format files rules.erase old.store (GivenPath path) × (new ≡ old)
+IsNotCleared Locked path files rules format old new =
+    HasFirstProtected format files rules.erase old.store (GivenPath path) × (new ≡ old)
 IsNotCleared Device path files rules format old new =
     OnlyReads true old new
-    ⊎ ((writes : List Write) × IsDeleteEdit format files rules.erase old.store (GivenPath path) writes × StopsIn writes old new)
+    ⊎ ((writes : List Write) × IsDeleteEdit format files rules.erase old.store (GivenPath path) writes
+    × StopsIn writes old new)
 IsNotCleared Memory path files rules format old new = new ≡ old
 IsNotCleared error path files rules format old new = ⊥
 

@@ -22,7 +22,8 @@ use Rattle.shop_replies.specs.Reply.{IsTold, failed, refused, text_of}
 use Rattle.shop_replies.specs.Volume.{form_of}
 use Rattle.vol_format.specs.Meaning.{Meaning}
 
--- a new file: its type and its aux type, where they are said, its date, the form in which its bytes are given, and these
+-- a new file: its type and its aux type, where they are said, its date, the form in which its bytes are given, and
+-- these
 pub record SaidView : Type 0 where
   pub file_system : FileSystem
   pub kind : Option ℕ
@@ -77,7 +78,8 @@ bad_line_text line = codes "REFUSED Text " ++ decimal line ++ 10 ∷ []
 
 -- `Text` with the number of the line; or want of memory for that
 abbrev pub TellsBadLine : ℕ → Reply → Type 0
-TellsBadLine line reply = (IsTold Refused reply × (text_of reply ≡ bad_line_text line)) ⊎ (reply ≡ failed failures.Memory)
+TellsBadLine line reply = (IsTold Refused reply × (text_of reply ≡ bad_line_text line))
+    ⊎ (reply ≡ failed failures.Memory)
 
 -- what is given has a first line that can't be taken, and this is told of it
 pub record HasBadLine (said : SaidView) (form : GivenForm) (reply : Reply) : Type 0 where
@@ -97,8 +99,8 @@ pub record HasNoType (said : SaidView) (form : GivenForm) : Type 0 where
   pub taken : IsTakenFrom (form_of said.file_system) form said.bytes file
   pub kind : kind_of said file ≡ None
 
--- Why no file is given: a line that can't be taken, no AppleSingle file, one whose type the file system does not have; or
--- want of memory.
+-- Why no file is given: a line that can't be taken, no AppleSingle file, one whose type the file system does not have;
+-- or want of memory.
 abbrev pub IsNotGivenIn : SaidView → GivenForm → Reply → Type 0
 IsNotGivenIn said form reply =
     HasBadLine said form reply
@@ -116,10 +118,12 @@ GivesNone said reply = IsNotGivenBy said said.form reply
 
 -- ---- what becomes of the volume
 
--- More bytes than are read of a file, before that they give none, before the saving of the one that they give; until then
--- the device is as it was.
+-- More bytes than are read of a file, before that they give none, before the saving of the one that they give; until
+-- then the device is as it was.
 abbrev pub IsSaidOutcome : List ℕ → SaidView → SaveMeaning → Meaning → DeviceState → DeviceState → Outcome → Type 0
 IsSaidOutcome path said saves format old new outcome =
     ((outcome ≡ Unfinished (refused refusals.InputTooLong)) × (most_input < length said.bytes) × (new ≡ old))
-    ⊎ ((length said.bytes ≤ most_input) × ((reply : Reply) × (outcome ≡ Unfinished reply) × GivesNone said reply × (new ≡ old)))
-    ⊎ ((length said.bytes ≤ most_input) × ((given : GivenView) × Gives said given × IsSaveOutcome path given saves format old new outcome))
+    ⊎ ((length said.bytes ≤ most_input)
+    × ((reply : Reply) × (outcome ≡ Unfinished reply) × GivesNone said reply × (new ≡ old)))
+    ⊎ ((length said.bytes ≤ most_input)
+    × ((given : GivenView) × Gives said given × IsSaveOutcome path given saves format old new outcome))

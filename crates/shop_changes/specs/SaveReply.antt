@@ -18,7 +18,8 @@ use Rattle.shop_changes.specs.ImageBytes.{AreBytesOf, KeepsBytes}
 
 -- The file is saved: all its writes stand on the device and nothing else has changed, the files are those of before and
 -- this one, and the reply has the image under the device.
-pub record IsSavedReply (path : List ℕ) (given : GivenView) (saves : SaveMeaning) (format : Meaning) (device : DeviceState) (reply : Reply) : Type 0 where
+pub record IsSavedReply (path : List ℕ) (given : GivenView) (saves : SaveMeaning) (format : Meaning)
+    (device : DeviceState) (reply : Reply) : Type 0 where
   pub writes : List Write
   pub are_writes : AreSaveWrites path given saves format device.store writes
   pub saved : HasGivenSaved path given saves format device.store (device_after writes device).store
@@ -34,16 +35,16 @@ IsSaveTried path given saves format device reply =
     ⊎ ((reply ≡ failed failures.Device) × LacksUnit device)
     ⊎ (reply ≡ failed failures.Memory)
 
--- The reply to a saving: more bytes than are read of a file, before a file that is too long for its head, before what the
--- volume tells.
+-- The reply to a saving: more bytes than are read of a file, before a file that is too long for its head, before what
+-- the volume tells.
 abbrev pub IsSaved : List ℕ → GivenView → SaveMeaning → Meaning → DeviceState → Reply → Type 0
 IsSaved path given saves format device reply =
     ((reply ≡ refused refusals.InputTooLong) × (most_input < length given.bytes))
     ⊎ ((length given.bytes ≤ most_input) × (((reply ≡ refused refusals.TooLong) × IsTooLongForHead given)
     ⊎ (¬ IsTooLongForHead given × IsSaveTried path given saves format device reply)))
 
--- The reply to the saving of a file as words and bytes say it: more bytes than are read of a file, before that they give
--- none, before the saving of the one that they give.
+-- The reply to the saving of a file as words and bytes say it: more bytes than are read of a file, before that they
+-- give none, before the saving of the one that they give.
 abbrev pub IsSaidSaved : List ℕ → SaidView → SaveMeaning → Meaning → DeviceState → Reply → Type 0
 IsSaidSaved path said saves format device reply =
     ((reply ≡ refused refusals.InputTooLong) × (most_input < length said.bytes))

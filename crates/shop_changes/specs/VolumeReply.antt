@@ -15,18 +15,22 @@ use Rattle.shop_reads.specs.Reserving.{NamesPlaces, OfReserved, ReservesNamed}
 abbrev pub IsUntaken : VolumeOptions → Option Text → List ℕ → Reply → Type 0
 IsUntaken volume reserve image reply =
     ((reply ≡ refused refusals.Reserve) × ¬ NamesPlaces (form_of volume.file_system) reserve)
-    ⊎ ((reply ≡ refused refusals.Length) × NamesPlaces (form_of volume.file_system) reserve × ¬ TakesBytes volume.file_system volume.order (length image))
+    ⊎ ((reply ≡ refused refusals.Length) × NamesPlaces (form_of volume.file_system) reserve
+    × ¬ TakesBytes volume.file_system volume.order (length image))
     ⊎ (reply ≡ failed failures.Memory)
 
 -- these bytes are taken as an image of the volume, which has this device, and the words reserve these places
-pub record IsVolumeIn (volume : VolumeOptions) (reserve : Option Text) (image : List ℕ) (device : DeviceState) (reserved : List Bool) : Type 0 where
+pub record IsVolumeIn (volume : VolumeOptions) (reserve : Option Text) (image : List ℕ) (device : DeviceState)
+    (reserved : List Bool) : Type 0 where
   pub named : ReservesNamed (form_of volume.file_system) reserve reserved
   pub taken : OfVolume volume.file_system volume.order image (λ of_image. device ≡ of_image)
   pub units : HasUnitsOf volume.file_system device
 
--- there is no volume to work on; or this is what the job tells of the device of the image, where the words reserve these
--- places
-abbrev pub IsVolumeReply : VolumeOptions → Option Text → List ℕ → (List Bool → DeviceState → Reply → Type 0) → Reply → Type 0
+-- there is no volume to work on; or this is what the job tells of the device of the image, where the words reserve
+-- these places
+abbrev pub IsVolumeReply : VolumeOptions → Option Text → List ℕ → (List Bool → DeviceState → Reply → Type 0) → Reply
+    → Type 0
 IsVolumeReply volume reserve image Tells reply =
     IsUntaken volume reserve image reply
-    ⊎ OfReserved volume.file_system reserve (λ reserved. OfVolume volume.file_system volume.order image (λ device. Tells reserved device reply))
+    ⊎ OfReserved volume.file_system reserve
+    (λ reserved. OfVolume volume.file_system volume.order image (λ device. Tells reserved device reply))

@@ -8,8 +8,8 @@ use Rattle.shop_changes.specs.declared.work.Work.{Work}
 use Rattle.shop_changes.specs.declared.work.Work.TheVariants as works
 
 -- Work as contracts see it: of the order of a volume whether lost places are reclaimed, and by how many writes at most;
--- of a file its edit and its name; of a new file its path, and the file as it is said, and so of one that takes the place
--- of another; that lost places are marked free; or of a new directory its path and its date.
+-- of a file its edit and its name; of a new file its path, and the file as it is said, and so of one that takes the
+-- place of another; that lost places are marked free; or of a new directory its path and its date.
 pub data WorkView : Type 0 where
   Optimize : Bool → ℕ → WorkView
   EditOf : EditView → FileNameView → WorkView

@@ -1,6 +1,6 @@
 //! What becomes of a volume that is changed, on any device that has its units: its files are brought into order, a file
-//! of it is changed, a new one is saved to it, its lost places are marked free, or a directory is made in it. And what is
-//! answered to a job on the volume of an image in memory.
+//! of it is changed, a new one is saved to it, its lost places are marked free, or a directory is made in it. And what
+//! is answered to a job on the volume of an image in memory.
 //!
 //! `change_in_place` does `Work` and hands the device back with an `Outcome`, which `Outcome::tell` tells; the words
 //! may reserve places, and `change_volume` is told them.

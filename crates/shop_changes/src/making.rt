@@ -11,8 +11,8 @@ use file_edits::{Acceptance, DirectoryFormat};
 use pro_dir::ProDate;
 use std::alloc::Global;
 
-/// Makes a directory on a device's volume, and tells what became of it. Where it is known that the volume is accepted, it
-/// is not checked first.
+/// Makes a directory on a device's volume, and tells what became of it. Where it is known that the volume is accepted,
+/// it is not checked first.
 pub fn make_in_place<D: Device, F: DirectoryFormat>(
     alloc: Global,
     device: &mut D,

@@ -4,7 +4,7 @@ ghost use Rattle.a2_device.specs.Device.{OnlyReads};
 ghost use Rattle.edit_formats.specs.Refusal.{told_device};
 ghost use Rattle.edit_formats.specs.Renamed.{IsReadRefusal};
 ghost use Rattle.file_cmds.specs.Text.{OwnFault};
-ghost use Rattle.shop_changes.specs.Replaced.{IsAuxOf, IsAuxTaken, IsReplaced};
+ghost use Rattle.shop_changes.specs.Replaced.{IsAuxOf, IsReplaced};
 ghost use Rattle.vol_format.specs.Accepted.{IsVolume};
 ghost use Rattle.vol_format.specs.Directory.{entries};
 ghost use Rattle.vol_format.specs.Fits.{Fits};
@@ -57,34 +57,6 @@ fn aux_of<D: Device, F: SavableFormat>(
     }
 }
 
-// The auxiliary type that is said, or where none is that of the file.
-fn aux_taken<D: Device, F: SavableFormat>(
-    alloc: Global,
-    device: &mut D,
-    format: &F,
-    form: PlaceForm,
-    volume: &F::Volume,
-    file: u32,
-    entry: &ListEntry,
-    said: Option<u16>,
-) -> Result<u16, EditError>
-    requires fits { Fits (F.meaning format.now) (D.state device.old) }
-    requires places { (F.directory format.now volume.now).places ≡ (D.state device.old).places }
-    requires file { file < entries (F.directory format.now volume.now) }
-
-    ensures device { OnlyReads (told_device result) (D.state device.old) (D.state device.new) }
-    ensures refused { IfErr result IsReadRefusal }
-    ensures aux { IsTrue (D.state device.old).honest → IfOk result (λ aux. IsAuxTaken form (F.meaning format.now)
-        (F.directory format.now volume.now) (D.state device.old).store file entry.now said aux) }
-    ensures check { IsTrue (D.state device.old).honest → result ≡ Err EditError.Check
-        → OwnFault (F.meaning format.now) (F.directory format.now volume.now) (D.state device.old).store file }
-{
-    match said {
-        Some(aux) => Ok(aux),
-        None => aux_of(alloc, device, format, form, volume, file, entry),
-    }
-}
-
 /// What a new file takes over of the first file with its path; `None` where no file has it. The auxiliary type is the
 /// one that is said, if one is, and then the file's text is not read.
 ///
@@ -112,16 +84,10 @@ pub fn find_replaced<D: Device, F: SavableFormat>(
         return Ok(None);
     };
     let entry = format.list_entry(alloc, checked.volume(), file)?;
-    let aux = aux_taken(
-        alloc,
-        device,
-        format,
-        form,
-        checked.volume(),
-        file,
-        &entry,
-        said,
-    )?;
+    let aux = match said {
+        Some(aux) => aux,
+        None => aux_of(alloc, device, format, form, checked.volume(), file, &entry)?,
+    };
     Ok(Some(ReplacedFile {
         kind: entry.kind,
         aux,

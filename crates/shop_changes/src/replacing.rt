@@ -104,13 +104,13 @@ fn clear<'a, D: Device, F: SavableFormat>(
     Ok(given_over(said, replaced))
 }
 
-/// Deletes the first file with a path, if there is one, and answers what is to be saved in its place: the bytes that are
-/// said, with the type and the auxiliary type of the old file where the words leave them out. Until that is saved, the
-/// volume has neither, so it is done on a device in memory alone.
+/// Deletes the first file with a path, if there is one, and answers what is to be saved in its place: the bytes that
+/// are said, with the type and the auxiliary type of the old file where the words leave them out. Until that is saved,
+/// the volume has neither, so it is done on a device in memory alone.
 ///
 /// # Errors
-/// The reply `REFUSED TooLong` for a file that is too long for the head of the type that is said; then what the deletion
-/// tells.
+/// The reply `REFUSED TooLong` for a file that is too long for the head of the type that is said; then what the
+/// deletion tells.
 pub fn make_way<'a, D: Device, F: SavableFormat>(
     alloc: Global,
     device: &mut D,

@@ -13,8 +13,8 @@ pub enum Work<'a> {
     Edit { edit: &'a Edit, name: FileName<'a> },
     /// A new file is saved to it.
     Save { path: &'a [u8], said: SaidFile<'a> },
-    /// A new file takes the place of the one that has its path, if one does. A stop between the two would leave neither,
-    /// so this is done in memory alone.
+    /// A new file takes the place of the one that has its path, if one does. A stop between the two would leave
+    /// neither, so this is done in memory alone.
     Replace { path: &'a [u8], said: SaidFile<'a> },
     /// Its lost places are marked free.
     Reclaim,

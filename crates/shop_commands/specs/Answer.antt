@@ -55,7 +55,8 @@ kind_said file_system None = Some None
 kind_said file_system (Some word) = option_map Some (kind_named file_system word)
 
 -- such words and these bytes, given in this form, say the file, in a file system
-pub record IsSaid (file_system : FileSystem) (words : AttributesView) (form : Option GivenForm) (content : List ℕ) (said : SaidView) : Type 0 where
+pub record IsSaid (file_system : FileSystem) (words : AttributesView) (form : Option GivenForm) (content : List ℕ)
+    (said : SaidView) : Type 0 where
   pub system : said.file_system ≡ file_system
   pub kind : kind_said file_system words.kind ≡ Some said.kind
   pub aux : said.aux ≡ words.aux
@@ -63,7 +64,8 @@ pub record IsSaid (file_system : FileSystem) (words : AttributesView) (form : Op
   pub form_is : said.form ≡ form
   pub bytes : said.bytes ≡ content
 
--- such words say no file: `Type` for a type that the file system does not have, first, and `Date` for a date that is none
+-- such words say no file: `Type` for a type that the file system does not have, first, and `Date` for a date that is
+-- none
 abbrev pub RefusesAttributes : FileSystem → AttributesView → Refusal → Type 0
 RefusesAttributes file_system words refusals.Type = kind_said file_system words.kind ≡ None
 RefusesAttributes file_system words refusals.Date = IsSome (kind_said file_system words.kind) × ¬ NamesDate words.date
@@ -94,16 +96,17 @@ AsksFor volume (MakeDirectory path date) bytes work = IsMakingWork path date wor
 
 -- the words of a change are refused: those of a saving, and of a directory that is made those of its date
 abbrev pub RefusesWords : VolumeOptions → ChangeView → Refusal → Type 0
-RefusesWords volume (Save name attributes form from replace) refusal = RefusesAttributes volume.file_system attributes refusal
+RefusesWords volume (Save name attributes form from replace) refusal =
+    RefusesAttributes volume.file_system attributes refusal
 RefusesWords volume (MakeDirectory path date) refusal = RefusesDate date refusal
 RefusesWords volume change refusal = ⊥
 
 -- ---- what is told
 
--- What is told of each job on these bytes of an image, with these bytes of the file beside it: of a look what it tells of
--- the volume; of a new volume what is told of its words, with the other bytes as those of the image whose system is copied;
--- of an extraction, of files that are added and of a survey that there is no folder; of a change that its words are refused, or what the work that it
--- asks for tells of the volume.
+-- What is told of each job on these bytes of an image, with these bytes of the file beside it: of a look what it tells
+-- of the volume; of a new volume what is told of its words, with the other bytes as those of the image whose system is
+-- copied; of an extraction, of files that are added and of a survey that there is no folder; of a change that its words
+-- are refused, or what the work that it asks for tells of the volume.
 abbrev pub IsReplyToBytes : AskView → List ℕ → List ℕ → Reply → Type 0
 IsReplyToBytes Identify image extra reply = IsIdentifyReply image reply
 IsReplyToBytes (Convert words) image extra reply = IsConvertReply words.order words.to words.volume image reply
@@ -128,7 +131,8 @@ pub record Parts : Type 0 where
 abbrev pub parts_of : List ℕ → List ℕ → List ℕ → Parts
 parts_of front payload back = record { front = front; payload = payload; back = back }
 
--- the image that a change hands out stands where the payload stood; what another job hands out is no image of the container
+-- the image that a change hands out stands where the payload stood; what another job hands out is no image of the
+-- container
 abbrev pub IsHandedOut : AskView → Parts → Reply → Reply → Type 0
 IsHandedOut (ChangeOf volume reserve change target) parts told reply = IsInShell parts.front parts.back told reply
 IsHandedOut ask parts told reply = reply ≡ told
@@ -162,8 +166,8 @@ abbrev pub beside : Option Text → Option (List ℕ) → Option (List ℕ)
 beside None extra = Some []
 beside (Some path) extra = extra
 
--- the reply to a job: `InPlace` where the image is to be changed in its own file, which bytes are not; else what is told of
--- the bytes, where those of the file beside the image are known
+-- the reply to a job: `InPlace` where the image is to be changed in its own file, which bytes are not; else what is
+-- told of the bytes, where those of the file beside the image are known
 abbrev pub IsReplyTo : AskView → List ℕ → Option (List ℕ) → Reply → Type 0
 IsReplyTo ask image extra reply =
     ((is_in_place ask ≡ true) × (reply ≡ refused refusals.InPlace))
@@ -207,19 +211,23 @@ MakesImage (ExtractFrom volume options into) = ⊥
 MakesImage (AddTo volume reserve words out) = ⊥
 MakesImage (ChangeOf volume reserve change target) = is_in_place (ChangeOf volume reserve change target) ≡ false
 
--- the image of a job is handed out, once its text is told: `OK` for a conversion, a container that is made or unwrapped, a
--- new volume, a file that is read, an edit, a saving, lost places marked free or a directory that is made, else that of the
--- optimizer's reply
+-- the image of a job is handed out, once its text is told: `OK` for a conversion, a container that is made or
+-- unwrapped, a new volume, a file that is read, an edit, a saving, lost places marked free or a directory that is made,
+-- else that of the optimizer's reply
 abbrev pub HandsOutFor : AskView → ℕ → Option (List ℕ) → Option (List ℕ) → Type 0
 HandsOutFor (Convert words) status old new = Appends old new (codes "OK\n") × ((status ≡ 0) ⊎ (status ≡ 4))
 HandsOutFor (Wrap words out) status old new = Appends old new (codes "OK\n") × ((status ≡ 0) ⊎ (status ≡ 4))
 HandsOutFor (Unwrap out) status old new = Appends old new (codes "OK\n") × ((status ≡ 0) ⊎ (status ≡ 4))
 HandsOutFor (Create words boot out) status old new = Appends old new (codes "OK\n") × ((status ≡ 0) ⊎ (status ≡ 4))
 HandsOutFor (LookAt volume reserve look) status old new = Appends old new (codes "OK\n") × ((status ≡ 0) ⊎ (status ≡ 4))
-HandsOutFor (ChangeOf volume reserve (EditOf name edit) target) status old new = Appends old new (codes "OK\n") × ((status ≡ 0) ⊎ (status ≡ 4))
-HandsOutFor (ChangeOf volume reserve (Save name attributes form from replace) target) status old new = Appends old new (codes "OK\n") × ((status ≡ 0) ⊎ (status ≡ 4))
-HandsOutFor (ChangeOf volume reserve Reclaim target) status old new = Appends old new (codes "OK\n") × ((status ≡ 0) ⊎ (status ≡ 4))
-HandsOutFor (ChangeOf volume reserve (MakeDirectory path date) target) status old new = Appends old new (codes "OK\n") × ((status ≡ 0) ⊎ (status ≡ 4))
+HandsOutFor (ChangeOf volume reserve (EditOf name edit) target) status old new =
+    Appends old new (codes "OK\n") × ((status ≡ 0) ⊎ (status ≡ 4))
+HandsOutFor (ChangeOf volume reserve (Save name attributes form from replace) target) status old new =
+    Appends old new (codes "OK\n") × ((status ≡ 0) ⊎ (status ≡ 4))
+HandsOutFor (ChangeOf volume reserve Reclaim target) status old new =
+    Appends old new (codes "OK\n") × ((status ≡ 0) ⊎ (status ≡ 4))
+HandsOutFor (ChangeOf volume reserve (MakeDirectory path date) target) status old new =
+    Appends old new (codes "OK\n") × ((status ≡ 0) ⊎ (status ≡ 4))
 HandsOutFor ask status old new = HandsImage status old new
 
 -- what is told where bytes could not be read; a comparison says of which of its images
@@ -236,8 +244,8 @@ IsUnread ask reply =
     (ReadsImage ask ⊎ ReadsExtra ask)
     × ((failure : Failure) × (side : Side) × IsReadFailure failure × (reply ≡ unread_reply ask side failure))
 
--- a job was answered by one reply, told and handed out behind what the writers had: the reply to its bytes, or that they
--- could not be read
+-- a job was answered by one reply, told and handed out behind what the writers had: the reply to its bytes, or that
+-- they could not be read
 abbrev pub IsAnswer : AskView → List ℕ → Option (List ℕ) → ℕ → Held → Held → Type 0
 IsAnswer ask image extra status old new =
     (reply : Reply) × (IsReplyTo ask image extra reply ⊎ IsUnread ask reply) × IsDelivered reply status old new
@@ -246,11 +254,13 @@ IsAnswer ask image extra status old new =
 abbrev pub IsInPlaceAnswer : AskView → ℕ → Held → Held → Type 0
 IsInPlaceAnswer ask status old new = is_in_place ask ≡ true → IsDelivered (refused refusals.InPlace) status old new
 
--- A job that lists a DOS 3.3 disk has such a reply: no words of a listing reserve places. Of another job this says nothing.
+-- A job that lists a DOS 3.3 disk has such a reply: no words of a listing reserve places. Of another job this says
+-- nothing.
 abbrev pub IsDosCatalogAnswer : AskView → List ℕ → ℕ → Held → Held → Type 0
 IsDosCatalogAnswer (LookAt volume None Catalog) image status old new =
     volume.file_system ≡ systems.Dos
-    → (reply : Reply) × (IsDosCatalogReply volume.order image reply ⊎ ((failure : Failure) × IsReadFailure failure × (reply ≡ failed failure)))
+    → (reply : Reply) × (IsDosCatalogReply volume.order image reply
+    ⊎ ((failure : Failure) × IsReadFailure failure × (reply ≡ failed failure)))
     × IsDelivered reply status old new
 IsDosCatalogAnswer ask image status old new = Unit {0}
 
@@ -262,11 +272,12 @@ IsWordsAnswer (words.Help text) status old new = IsWritten 0 (string_bytes text)
 IsWordsAnswer (words.Refused text) status old new = IsWritten 2 (string_bytes text) status old new
 IsWordsAnswer words.Memory status old new = IsWritten 4 (failure_line failures.Memory) status old new
 
--- Words that are no job were told: with help, and only words that may ask for it; refused, and only mistaken words, which the workshop does not take; or for want of
--- memory. What is told is one text.
+-- Words that are no job were told: with help, and only words that may ask for it; refused, and only mistaken words,
+-- which the workshop does not take; or for want of memory. What is told is one text.
 abbrev pub TellsNoJob : List Text → ℕ → Option (List ℕ) → Option (List ℕ) → Type 0
 TellsNoJob list status old new =
-    (fault : WordsFault) × (IsTaken list → fault ≡ words.Memory) × IsFaultOf list fault × IsWordsAnswer fault status old new
+    (fault : WordsFault) × (IsTaken list → fault ≡ words.Memory) × IsFaultOf list fault
+    × IsWordsAnswer fault status old new
 
 -- so they were, and nothing is handed out
 abbrev pub AreToldNoJob : List Text → ℕ → Held → Held → Type 0

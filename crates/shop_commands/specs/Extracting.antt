@@ -38,7 +38,8 @@ options_of options = record { naming = options.naming; texts = options.texts; mo
 -- how a volume of a file system is extracted, on a data disk or another
 abbrev pub plan_in : FileSystem → Bool → ExtractOptions → Plan
 plan_in file_system data_disk options =
-    plan_of (form_of file_system) (options_of options) (files_of file_system) (meaning_of file_system data_disk []) (own_of file_system)
+    plan_of (form_of file_system) (options_of options) (files_of file_system)
+    (meaning_of file_system data_disk []) (own_of file_system)
 
 -- how one that is read so is extracted: no places are reserved
 abbrev pub plan_for : VolumeOptions → ExtractOptions → Plan
@@ -71,14 +72,17 @@ not_extracted (errors.Folder failure) = by_folder failure
 not_extracted errors.Memory = Refused (failed failures.Memory)
 
 -- Why nothing is extracted, and what was made then; or there was no memory before anything was made.
-abbrev pub RefusesBy : {O : Type 0} → (O → FolderState) → (O → FolderFailure → Type 0) → Plan → DeviceState → DeviceState → FolderState → FolderState → NotExtracted → Type 0
+abbrev pub RefusesBy : {O : Type 0} → (O → FolderState) → (O → FolderFailure → Type 0) → Plan → DeviceState
+    → DeviceState → FolderState → FolderState → NotExtracted → Type 0
 RefusesBy state may_fail plan device device_now folder folder_now error =
-    ((cause : ExtractError) × (error ≡ not_extracted cause) × IsRefused state may_fail plan device device_now folder folder_now cause)
+    ((cause : ExtractError) × (error ≡ not_extracted cause)
+    × IsRefused state may_fail plan device device_now folder folder_now cause)
     ⊎ ((error ≡ Refused (failed failures.Memory)) × NothingIsMade folder folder_now)
 
--- Why the files of a volume were not put into a folder and told. The files are refused, or something failed, and nothing was told;
--- or all of them are in the folder, and the text could not be written.
-abbrev pub IsNotExtractedBy : {O : Type 0} → (O → FolderState) → (O → FolderFailure → Type 0) → Plan → DeviceState → DeviceState → FolderState → FolderState → Option (List ℕ) → Option (List ℕ) → NotExtracted → Type 0
+-- Why the files of a volume were not put into a folder and told. The files are refused, or something failed, and
+-- nothing was told; or all of them are in the folder, and the text could not be written.
+abbrev pub IsNotExtractedBy : {O : Type 0} → (O → FolderState) → (O → FolderFailure → Type 0) → Plan → DeviceState
+    → DeviceState → FolderState → FolderState → Option (List ℕ) → Option (List ℕ) → NotExtracted → Type 0
 IsNotExtractedBy state may_fail plan device device_now folder folder_now old new Text =
     IsExtraction plan device device_now folder folder_now (IsExtractCut old new)
 IsNotExtractedBy state may_fail plan device device_now folder folder_now old new (Refused reply) =
@@ -95,7 +99,8 @@ IsExtracted (ExtractFrom volume options into) device device_now folder folder_no
 IsExtracted ask device device_now folder folder_now Tells = ⊥
 
 -- why they are not
-abbrev pub IsNotExtracted : {O : Type 0} → (O → FolderState) → (O → FolderFailure → Type 0) → AskView → DeviceState → DeviceState → FolderState → FolderState → Option (List ℕ) → Option (List ℕ) → NotExtracted → Type 0
+abbrev pub IsNotExtracted : {O : Type 0} → (O → FolderState) → (O → FolderFailure → Type 0) → AskView → DeviceState
+    → DeviceState → FolderState → FolderState → Option (List ℕ) → Option (List ℕ) → NotExtracted → Type 0
 IsNotExtracted state may_fail (ExtractFrom volume options into) device device_now folder folder_now old new error =
     IsNotExtractedBy state may_fail (plan_for volume options) device device_now folder folder_now old new error
 IsNotExtracted state may_fail ask device device_now folder folder_now old new error = ⊥

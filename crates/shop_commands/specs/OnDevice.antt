@@ -22,11 +22,12 @@ use Rattle.shop_commands.specs.Answer.{AsksFor, RefusesWords}
 abbrev pub HasUnitsFor : AskView → DeviceState → Type 0
 HasUnitsFor ask device = IfSome (volume_of ask) (λ (volume : VolumeOptions). HasUnitsOf volume.file_system device)
 
--- A job that only reads its volume was told of a device, with these bytes of a file beside it: what its own look tells, of
--- the volume and the reserved places of its words.
+-- A job that only reads its volume was told of a device, with these bytes of a file beside it: what its own look tells,
+-- of the volume and the reserved places of its words.
 abbrev pub IsToldOnDevice : AskView → List ℕ → DeviceState → Reply → Type 0
 IsToldOnDevice (LookAt volume reserve look) bytes device reply =
-    IsDeviceReply volume.file_system reserve (λ reserved. IsLookReply look bytes (shown_by volume reserved) device reply) reply
+    IsDeviceReply volume.file_system reserve
+    (λ reserved. IsLookReply look bytes (shown_by volume reserved) device reply) reply
 IsToldOnDevice ask bytes device reply = ⊥
 
 -- what its own look does to the device, and that nothing failed under it, or is not told so
@@ -38,11 +39,12 @@ abbrev pub HasNotFailedIn : AskView → Reply → DeviceState → DeviceState �
 HasNotFailedIn (LookAt volume reserve look) reply old new = HasNotFailed look reply old new
 HasNotFailedIn ask reply old new = ⊥
 
--- A job that changes its volume, with these bytes of a file beside it: its words are refused, and the device is as it was;
--- or the work that it asks for was done on the device, on the volume and with the reserved places of its words.
+-- A job that changes its volume, with these bytes of a file beside it: its words are refused, and the device is as it
+-- was; or the work that it asks for was done on the device, on the volume and with the reserved places of its words.
 abbrev pub IsJobOutcome : AskView → List ℕ → DeviceState → DeviceState → Outcome → Type 0
 IsJobOutcome (ChangeOf volume reserve change target) bytes old new outcome =
     ((refusal : Refusal) × RefusesWords volume change refusal × (outcome ≡ Unfinished (refused refusal)) × (new ≡ old))
     ⊎ ((work : WorkView) × AsksFor volume change bytes work
-    × IsChangeOutcome volume.file_system reserve (λ reserved. IsWorkOutcome work (changed_by volume reserved)) old new outcome)
+    × IsChangeOutcome volume.file_system reserve
+    (λ reserved. IsWorkOutcome work (changed_by volume reserved)) old new outcome)
 IsJobOutcome ask bytes old new outcome = ⊥

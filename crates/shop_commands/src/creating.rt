@@ -92,10 +92,10 @@ fn prodos_reply(
     volume_reply(alloc, options, volume, boot)
 }
 
-/// What is told of a volume that is made, with the bytes of an image whose system is copied, if there is one: `Made` with
-/// its image; `Refused` with `Date` or `Name` where the words say none, with `Length` where no image of the order has so
-/// many blocks or the other image has another length than one in its order, with `NoSector` where a sector of it that is
-/// copied can't be read; `Failed` for want of memory.
+/// What is told of a volume that is made, with the bytes of an image whose system is copied, if there is one: `Made`
+/// with its image; `Refused` with `Date` or `Name` where the words say none, with `Length` where no image of the order
+/// has so many blocks or the other image has another length than one in its order, with `NoSector` where a sector of it
+/// that is copied can't be read; `Failed` for want of memory.
 pub fn create_reply(alloc: Global, options: &CreateOptions, boot: Option<Vec<u8>>) -> Reply
     ensures { IsCreateReply (creation_view options.now) (option_map (λ v. v.items) boot) result }
 {

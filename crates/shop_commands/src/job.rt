@@ -102,8 +102,8 @@ pub fn extracts(job: &Job) -> bool
     matches!(&job.ask, Ask::Extract { .. })
 }
 
-/// Whether the container of a job's image says that it is not to be written, and the job writes it: it changes the image
-/// or adds files to it, or where its output file takes the place of the image's, writes another over it.
+/// Whether the container of a job's image says that it is not to be written, and the job writes it: it changes the
+/// image or adds files to it, or where its output file takes the place of the image's, writes another over it.
 pub fn is_protected(job: &Job, replaces: bool, container: Container) -> bool
     ensures { IsTrue result ↔ IsProtected (ask_view job.now.ask) replaces container }
 {

@@ -98,8 +98,8 @@ fn making_work<'a>(path: &'a str, said: Option<&str>) -> Result<Work<'a>, Refusa
 /// The work that a change asks of its volume, with the bytes of a file beside the image.
 ///
 /// # Errors
-/// Of a saving `Type` for a type that the file system does not have, then `Date` for a date that is none; of a directory
-/// that is made `Date` too. Of another change there is none.
+/// Of a saving `Type` for a type that the file system does not have, then `Date` for a date that is none; of a
+/// directory that is made `Date` too. Of another change there is none.
 pub fn change_work<'a>(
     volume: VolumeOptions,
     change: &'a Change,

@@ -50,11 +50,12 @@ IsToldEnding status told ending old new =
     ((ending.unwritten ≡ None) × IsWritten status told ending.status old new)
     ⊎ ((ending ≡ stopped Text) × AppendsFront old new told)
 
--- A job with output files has ended: as one without an image; or a file could not be put onto the disk, and its text was
--- not told; or its text was told, and then a file could not take its place.
+-- A job with output files has ended: as one without an image; or a file could not be put onto the disk, and its text
+-- was not told; or its text was told, and then a file could not take its place.
 abbrev pub IsEnding : ℕ → List ℕ → Ending → Option (List ℕ) → Option (List ℕ) → Type 0
 IsEnding status told ending old new =
-    IsToldEnding status told ending old new ⊎ IsUnflushedEnding ending old new ⊎ IsUnplacedEnding status told ending old new
+    IsToldEnding status told ending old new ⊎ IsUnflushedEnding ending old new
+    ⊎ IsUnplacedEnding status told ending old new
 
 -- A job that writes no image in its own file has ended, by its reply: as any with the reply's status and text; or there
 -- was no memory for that text, and no part of it was told.

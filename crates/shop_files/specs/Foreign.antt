@@ -1,5 +1,5 @@
--- Files of other kinds, by what they begin with: WOZ (the WOZ 2.0 reference), gzip (RFC 1952), zip (its local file header), ShrinkIt
--- (the NuFX documentation) and DiskCopy 4.2 (its header); or by the bytes of 65,536 blocks.
+-- Files of other kinds, by what they begin with: WOZ (the WOZ 2.0 reference), gzip (RFC 1952), zip (its local file
+-- header), ShrinkIt (the NuFX documentation) and DiskCopy 4.2 (its header); or by the bytes of 65,536 blocks.
 use Rattle.std.specs.Prelude.{ℕ, ◌==◌, ◌||◌, ◌&&◌, Bool, List, [], ◌∷◌, Option, Some, None, codes, if◌then◌else◌, length, nat_eq, nat_le, slice_index}
 use Rattle.std.specs.List.{starts_with}
 use Rattle.shop_files.specs.declared.foreign.Foreign.{Foreign}

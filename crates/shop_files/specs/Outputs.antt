@@ -13,8 +13,8 @@ use Rattle.shop_files.specs.declared.output.Output.TheVariants.{Nothing}
 use Rattle.shop_files.specs.declared.files.JobFiles.{JobFiles}
 use Rattle.shop_files.specs.declared.files.NamedFile.{NamedFile}
 
--- the file of a path that may be left out: none without a path, else a new one that goes to this target, of which it may
--- take such a place
+-- the file of a path that may be left out: none without a path, else a new one that goes to this target, of which it
+-- may take such a place
 abbrev pub IsOutputOf : Option (List ℕ) → Target Global → Placing → Output → Type 0
 IsOutputOf None target placing output = output ≡ Nothing
 IsOutputOf (Some path) target placing output = GoesTo path target placing output × IsUntouched output

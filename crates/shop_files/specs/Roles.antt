@@ -47,7 +47,8 @@ ShareSome one other = IsSome one × (one ≡ other)
 abbrev pub AreOneFile : IdentityView → IdentityView → Type 0
 AreOneFile one other = ShareSome one.path other.path ⊎ ShareSome one.node other.node
 
--- One file has these two roles, and one of them is written: the output file, the certificate, or the image that is changed in its own file.
+-- One file has these two roles, and one of them is written: the output file, the certificate, or the image that is
+-- changed in its own file.
 abbrev pub HasClash : RolesView → Clash → Type 0
 HasClash roles OutAndCertificate = AreOneFile roles.out roles.certificate
 HasClash roles InPlaceAndCertificate = IsTrue roles.in_place × AreOneFile roles.image roles.certificate

@@ -72,9 +72,9 @@ abbrev pub attributes_view : SaveAttributes → AttributesView
 attributes_view a = record { kind = option_map string_bytes a.kind; aux = a.aux; date = option_map string_bytes a.date }
 
 -- what is asked of a volume that is only read: of its entries how they are told; of a check whether the units of bodies
--- are read too; of a comparison the path of the other image's file, and how it is made; of a file its name, as what it is
--- read, and the path of the new file that it goes to, if there is one; of a plan whether it reclaims, and whether it is told
--- in words; of a certificate the path of its file, and whether it reclaims
+-- are read too; of a comparison the path of the other image's file, and how it is made; of a file its name, as what it
+-- is read, and the path of the new file that it goes to, if there is one; of a plan whether it reclaims, and whether it
+-- is told in words; of a certificate the path of its file, and whether it reclaims
 pub data LookView : Type 0 where
   Catalog : LookView
   Entries : ListOptions → LookView
@@ -96,9 +96,9 @@ look_view (looks.Plan reclaim in_words) = Plan reclaim in_words
 look_view (looks.Verify from reclaim) = Verify (string_bytes from) reclaim
 
 -- what is changed of a volume: of its order whether lost places are reclaimed, after how many writes to stop, and the
--- path of the certificate's file; of a file its name and its edit; of a new file its name, what is said of it, the form in
--- which it is given, the path of the file that gives it, and whether it takes the place of a file that has the name; or
--- that its lost places are marked free; of a new directory its path, and its date where one is said
+-- path of the certificate's file; of a file its name and its edit; of a new file its name, what is said of it, the form
+-- in which it is given, the path of the file that gives it, and whether it takes the place of a file that has the name;
+-- or that its lost places are marked free; of a new directory its path, and its date where one is said
 pub data ChangeView : Type 0 where
   Optimize : Bool → Option ℕ → Option Text → ChangeView
   EditOf : FileNameView → EditView → ChangeView
@@ -136,8 +136,8 @@ wrapping_view options = record {
   protect = options.protect;
 }
 
--- what is said of a new volume: of a DOS 3.3 disk whether it is a data disk; of a ProDOS volume its blocks, and its name
--- and its date where they are said
+-- what is said of a new volume: of a DOS 3.3 disk whether it is a data disk; of a ProDOS volume its blocks, and its
+-- name and its date where they are said
 pub data NewVolumeView : Type 0 where
   DosVolume : Bool → NewVolumeView
   ProdosVolume : ℕ → Option Text → Option Text → NewVolumeView
@@ -160,8 +160,8 @@ creation_view options = record {
   number = options.number;
 }
 
--- how the files of a folder are added: its path, the directory under which their paths begin, and their date, where they
--- are said
+-- how the files of a folder are added: its path, the directory under which their paths begin, and their date, where
+-- they are said
 pub record AdditionView : Type 0 where
   pub from : Text
   pub into : Option Text
@@ -174,9 +174,10 @@ addition_view options = record {
   date = option_map string_bytes options.date;
 }
 
--- what is asked: of an extraction how it is made, and the path of the folder; of a container that is made how, and of one
--- that is made or unwrapped the path of the new file; of a new volume how it is made, the path of the image whose system is
--- copied, and that of the new file; of files that are added how, and the path of the file that the image goes to
+-- what is asked: of an extraction how it is made, and the path of the folder; of a container that is made how, and of
+-- one that is made or unwrapped the path of the new file; of a new volume how it is made, the path of the image whose
+-- system is copied, and that of the new file; of files that are added how, and the path of the file that the image goes
+-- to
 pub data AskView : Type 0 where
   Identify : AskView
   Survey : SurveyForm → AskView
@@ -196,7 +197,8 @@ ask_view (asks.Convert order to out volume) =
     Convert (record { order = order; to = to; out = string_bytes out; volume = volume })
 ask_view (asks.Wrap options out) = Wrap (wrapping_view options) (string_bytes out)
 ask_view (asks.Unwrap out) = Unwrap (string_bytes out)
-ask_view (asks.Create options boot out) = Create (creation_view options) (option_map string_bytes boot) (string_bytes out)
+ask_view (asks.Create options boot out) =
+    Create (creation_view options) (option_map string_bytes boot) (string_bytes out)
 ask_view (asks.Look volume reserve look) = LookAt volume (option_map string_bytes reserve) (look_view look)
 ask_view (asks.Extract volume options into) = ExtractFrom volume options (string_bytes into)
 ask_view (asks.Add volume reserve options out) =

@@ -34,7 +34,8 @@ unread_line form files directory part = line (unread_text form part.place (path_
 -- a line for each of these parts, or want of memory
 abbrev pub TellsUnread : PlaceForm → FileMeaning → Directory → List Part → Reply → Type 0
 TellsUnread form files directory parts reply =
-    (IsTold Wrong reply × (text_of reply ≡ flat_map (unread_line form files directory) parts)) ⊎ (reply ≡ failed failures.Memory)
+    (IsTold Wrong reply × (text_of reply ≡ flat_map (unread_line form files directory) parts))
+    ⊎ (reply ≡ failed failures.Memory)
 
 -- what is told of an accepted volume, of whose parts these can't be read
 abbrev pub TellsBodies : PlaceForm → FileMeaning → Directory → Told → List Part → Reply → Type 0
@@ -42,7 +43,8 @@ TellsBodies form files directory told [] reply = TellsAccepted told reply
 TellsBodies form files directory told (part ∷ parts) reply = TellsUnread form files directory (part ∷ parts) reply
 
 -- The volume is accepted, and these are its files, their parts, the available places and the lost ones, by number.
-pub record IsBodiesReply (form : PlaceForm) (files : FileMeaning) (format : Meaning) (device : DeviceState) (reply : Reply) : Type 0 where
+pub record IsBodiesReply (form : PlaceForm) (files : FileMeaning) (format : Meaning) (device : DeviceState)
+    (reply : Reply) : Type 0 where
   pub directory : Directory
   pub accepted : IsAccepted format directory device.store
   pub told : Told
@@ -51,8 +53,8 @@ pub record IsBodiesReply (form : PlaceForm) (files : FileMeaning) (format : Mean
   pub lost : (place : ℕ) → Contains told.lost place ↔ IsLost format directory device.store place
   pub is : TellsBodies form files directory told (unread_parts device.unreadable told.parts) reply
 
--- The reply to a check with bodies: of an accepted volume a line for each part whose unit can't be read, or what a check
--- tells where there is none; or why no volume is accepted.
+-- The reply to a check with bodies: of an accepted volume a line for each part whose unit can't be read, or what a
+-- check tells where there is none; or why no volume is accepted.
 abbrev pub IsCheckedWhole : PlaceForm → FileMeaning → Meaning → DeviceState → Reply → Type 0
 IsCheckedWhole form files format device reply =
     IsBodiesReply form files format device reply ⊎ IsUnaccepted form format device reply

@@ -37,7 +37,8 @@ pub record IsListingReply (form : PlaceForm) (format : Meaning) (device : Device
   pub described : format.Describes device.store directory
   pub told : TellsListing Done Catalog form directory [] reply
 
--- The reply to `catalog`: the listing; `Check` where the header, the directory or the map's pointer has a fault; a failure where a unit can't be read; or want of memory.
+-- The reply to `catalog`: the listing; `Check` where the header, the directory or the map's pointer has a fault; a
+-- failure where a unit can't be read; or want of memory.
 abbrev pub IsListed : PlaceForm → Meaning → DeviceState → Reply → Type 0
 IsListed form format device reply =
     IsListingReply form format device reply

@@ -42,7 +42,8 @@ TellsAccepted told reply = (IsTold Done reply × (text_of reply ≡ told_line to
 
 -- the reply with the text of some faults, or for want of memory
 abbrev pub TellsFaults : PlaceForm → List Fault → Reply → Type 0
-TellsFaults form faults reply = (IsTold Wrong reply × (text_of reply ≡ flat_map (fault_line form) faults)) ⊎ (reply ≡ failed failures.Memory)
+TellsFaults form faults reply =
+    (IsTold Wrong reply × (text_of reply ≡ flat_map (fault_line form) faults)) ⊎ (reply ≡ failed failures.Memory)
 
 -- the reply to a check that did not accept
 abbrev pub TellsRefusal : {A : Type 0} → PlaceForm → CheckError A → Reply → Type 0
@@ -50,7 +51,8 @@ TellsRefusal form (checks.Faults list) reply = TellsFaults form list.faults repl
 TellsRefusal form checks.Device reply = reply ≡ failed failures.Device
 TellsRefusal form checks.Memory reply = reply ≡ failed failures.Memory
 
--- The reply to a check that accepts nothing: a line for each fault; a failure where a unit can't be read; or want of memory.
+-- The reply to a check that accepts nothing: a line for each fault; a failure where a unit can't be read; or want of
+-- memory.
 abbrev pub IsUnaccepted : PlaceForm → Meaning → DeviceState → Reply → Type 0
 IsUnaccepted form format device reply =
     (IsTold Wrong reply × IsFaultsText form format device.store (text_of reply))

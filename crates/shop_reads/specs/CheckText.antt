@@ -38,7 +38,8 @@ fault_line form fault = line (fault_text form fault)
 
 -- how many files and parts an accepted volume has, and how many of its places are available and how many lost
 abbrev pub accepted_text : ℕ → ℕ → ℕ → ℕ → Text
-accepted_text files parts available lost = codes "ACCEPTED files " ++ (decimal files ++ (codes " parts " ++ (decimal parts
+accepted_text files parts available lost =
+    codes "ACCEPTED files " ++ (decimal files ++ (codes " parts " ++ (decimal parts
     ++ (codes " available " ++ (decimal available ++ (codes " lost " ++ decimal lost))))))
 
 abbrev pub told_line : Told → Text

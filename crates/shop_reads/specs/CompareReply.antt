@@ -46,22 +46,25 @@ abbrev pub TellsComparison : Comparison → Reply → Type 0
 TellsComparison comparison reply =
     IsTold (comparison_status comparison.equal) reply × (reply.told ≡ tells.Text comparison.text)
 
--- Two volumes were compared, and their devices are now so: reads of them may have failed, for want of a unit alone; where no
--- failure is to come, each for want of the very unit that was to be read, as of the other image.
-pub record IsComparedWith (options : CompareOptions) (form : PlaceForm) (files : FileMeaning) (format : Meaning) (device other : DeviceState) (reply : Reply) : Type 0 where
+-- Two volumes were compared, and their devices are now so: reads of them may have failed, for want of a unit alone;
+-- where no failure is to come, each for want of the very unit that was to be read, as of the other image.
+pub record IsComparedWith (options : CompareOptions) (form : PlaceForm) (files : FileMeaning) (format : Meaning)
+    (device other : DeviceState) (reply : Reply) : Type 0 where
   pub now : DeviceState
   pub other_now : DeviceState
   pub lacks : FailedBetween device now → LacksUnit device
-  pub unreadable : device.read_failures ≡ Some 0 → (place : ℕ) → FailedAt place device now → Contains device.unreadable place
+  pub unreadable : device.read_failures ≡ Some 0 → (place : ℕ) → FailedAt place device now
+      → Contains device.unreadable place
   pub other_unreadable : (place : ℕ) → FailedAt place other other_now → Contains other.unreadable place
   pub told :
-      ((comparison : Comparison) × IsComparison options.all form files format options.most device now other other_now comparison
+      ((comparison : Comparison) × IsComparison options.all form files format options.most device now
+      other other_now comparison
       × TellsComparison comparison reply)
       ⊎ ((error : CompareError) × IsRefused form files format options.most device now other other_now error
       × (reply ≡ error_reply error))
 
--- The reply to `compare`, where another image has these bytes: why they are not taken as one; or what is told of the files of
--- the two volumes, or why these are not compared.
+-- The reply to `compare`, where another image has these bytes: why they are not taken as one; or what is told of the
+-- files of the two volumes, or why these are not compared.
 abbrev pub IsCompared : CompareOptions → List ℕ → PlaceForm → FileMeaning → Meaning → DeviceState → Reply → Type 0
 IsCompared options bytes form files format device reply =
     ((error : ImageError) × RefusesBytes (file_system_of form) options.other_order (length bytes) error

@@ -69,12 +69,14 @@ style_of options = style_in options.form options.digests
 
 abbrev pub wants_address : SeenVolume → ListOptions → ℕ → Bool
 wants_address volume options file =
-    not (is_names options.form) && is_binary volume.form (volume.files.shown {A = Global} (entry_of volume.directory file))
+    not (is_names options.form) && is_binary volume.form
+    (volume.files.shown {A = Global} (entry_of volume.directory file))
 
 -- the first two bytes of the whole text, where this can be read
 abbrev pub IsAddress : SeenVolume → (ℕ → Type 0) → ℕ → Option ℕ → Type 0
 IsAddress volume failed file (Some address) =
-    (text : List ℕ) × IsWholeTextOf volume.meaning volume.directory volume.store file text × (address ≡ number_at text 0)
+    (text : List ℕ) × IsWholeTextOf volume.meaning volume.directory volume.store file text
+    × (address ≡ number_at text 0)
 IsAddress volume failed file None = IsUnread volume failed file
 
 -- how many bytes the text has, and their SHA-256; a directory has none, nor what can't be read
@@ -87,7 +89,8 @@ IsDigest volume failed file Missing =
     (is_directory (entry_of volume.directory file) ≡ true) ⊎ IsUnread volume failed file
 IsDigest volume failed file Untold = ⊥
 
--- the parts of the file, in order; a directory has none, nor a file with a fault of its own, or of which a list or an index can't be read
+-- the parts of the file, in order; a directory has none, nor a file with a fault of its own, or of which a list or an
+-- index can't be read
 abbrev pub AreParts : SeenVolume → (ℕ → Type 0) → ℕ → FileParts → Type 0
 AreParts volume failed file (known.Of parts) =
     (is_directory (entry_of volume.directory file) ≡ false)
@@ -115,18 +118,21 @@ pub record WantsNothing (volume : SeenVolume) (options : ListOptions) (file : �
   pub places : wants_places options ≡ false
 
 -- what is told of the text of a file, where it is wanted
-pub record AreTextFacts (volume : SeenVolume) (options : ListOptions) (failed : ℕ → Type 0) (file : ℕ) (facts : Facts) : Type 0 where
+pub record AreTextFacts (volume : SeenVolume) (options : ListOptions) (failed : ℕ → Type 0) (file : ℕ)
+    (facts : Facts) : Type 0 where
   pub address : AddressIs (wants_address volume options file) volume failed file facts.address
   pub digest : DigestIs options.digests volume failed file facts.digest
 
 -- what is told of a file beside its entry, where it is wanted
-pub record AreFacts (volume : SeenVolume) (options : ListOptions) (failed : ℕ → Type 0) (file : ℕ) (facts : FileFacts) : Type 0 where
+pub record AreFacts (volume : SeenVolume) (options : ListOptions) (failed : ℕ → Type 0) (file : ℕ)
+    (facts : FileFacts) : Type 0 where
   pub address : AddressIs (wants_address volume options file) volume failed file facts.address
   pub digest : DigestIs options.digests volume failed file facts.digest
   pub parts : PartsAre (wants_places options) volume failed file facts.parts
 
 -- those of the files of the first entries
-pub record AreFactsUpTo (volume : SeenVolume) (options : ListOptions) (failed : ℕ → Type 0) (many : ℕ) (facts : List FileFacts) : Type 0 where
+pub record AreFactsUpTo (volume : SeenVolume) (options : ListOptions) (failed : ℕ → Type 0) (many : ℕ)
+    (facts : List FileFacts) : Type 0 where
   pub within : many ≤ entries volume.directory
   pub each : (file : ℕ) → file < many → AreFacts volume options failed file (slice_index_or facts file no_facts)
 
@@ -207,24 +213,29 @@ pub record LacksUnitOf (format : Meaning) (directory : Directory) (device : Devi
   pub unreadable : device.read_failures ≡ Some 0 → Contains device.unreadable part.place
 
 -- the entries of what the header, the directory and the map of the volume say, with what is known of each file
-pub record IsEntriesReply (options : ListOptions) (form : PlaceForm) (files : FileMeaning) (format : Meaning) (device : DeviceState) (reply : Reply) : Type 0 where
+pub record IsEntriesReply (options : ListOptions) (form : PlaceForm) (files : FileMeaning) (format : Meaning)
+    (device : DeviceState) (reply : Reply) : Type 0 where
   pub directory : Directory
   pub described : format.Describes device.store directory
   pub facts : List FileFacts
-  pub are : AreFactsUpTo (volume_in form files format directory device.store) options (LacksUnitOf format directory device) (entries directory) facts
+  pub are : AreFactsUpTo (volume_in form files format directory device.store) options
+      (LacksUnitOf format directory device) (entries directory) facts
   pub few : bytes_read format.unit_size facts ≤ options.most
   pub complete : Bool
   pub ended : IsCompleteUpTo directory facts (entries directory) complete
   pub told : TellsListing (list_status complete) (Entries (style_of options)) form directory facts reply
 
 -- the files of what they say have more bytes than they may
-pub record IsTooLarge (options : ListOptions) (form : PlaceForm) (files : FileMeaning) (format : Meaning) (device : DeviceState) : Type 0 where
+pub record IsTooLarge (options : ListOptions) (form : PlaceForm) (files : FileMeaning) (format : Meaning)
+    (device : DeviceState) : Type 0 where
   pub directory : Directory
   pub described : format.Describes device.store directory
-  pub read : ReadTooMuch (volume_in form files format directory device.store) options (LacksUnitOf format directory device)
+  pub read : ReadTooMuch (volume_in form files format directory device.store) options
+      (LacksUnitOf format directory device)
 
--- The reply to `list`: the entries; `Check` where the header, the directory or the map's pointer has a fault; `TooLarge`
--- where the files that are read have too many bytes; a failure where a unit of these can't be read; or want of memory.
+-- The reply to `list`: the entries; `Check` where the header, the directory or the map's pointer has a fault;
+-- `TooLarge` where the files that are read have too many bytes; a failure where a unit of these can't be read; or want
+-- of memory.
 abbrev pub IsEntriesTold : ListOptions → PlaceForm → FileMeaning → Meaning → DeviceState → Reply → Type 0
 IsEntriesTold options form files format device reply =
     IsEntriesReply options form files format device reply

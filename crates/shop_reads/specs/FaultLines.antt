@@ -46,7 +46,8 @@ abbrev pub file_lines : PlaceForm → FileMeaning → Directory → FaultList �
 file_lines form files directory list = flat_map (λ kind. file_line form files directory (first_of list kind)) kinds
 
 -- The faults that a reply tells are those of the volume, and the reply names the file of the first of each kind.
-pub record NamesFiles (form : PlaceForm) (files : FileMeaning) (format : Meaning) (store : List (List ℕ)) (reply : Reply) : Type 0 where
+pub record NamesFiles (form : PlaceForm) (files : FileMeaning) (format : Meaning) (store : List (List ℕ))
+    (reply : Reply) : Type 0 where
   pub directory : Directory
   pub list : FaultList
   pub are : AreFileFaults format directory store list
@@ -55,4 +56,5 @@ pub record NamesFiles (form : PlaceForm) (files : FileMeaning) (format : Meaning
 
 -- a reply names the files of faults so, or names none
 abbrev pub NamesFilesOrNone : PlaceForm → FileMeaning → Meaning → List (List ℕ) → Reply → Type 0
-NamesFilesOrNone form files format store reply = (fault_files_in reply.told ≡ None) ⊎ NamesFiles form files format store reply
+NamesFilesOrNone form files format store reply =
+    (fault_files_in reply.told ≡ None) ⊎ NamesFiles form files format store reply

@@ -17,14 +17,14 @@ use Rattle.shop_jobs.specs.declared.job.ReadForm.{ReadForm}
 use Rattle.shop_jobs.specs.declared.job.ReadForm.TheVariants as reads
 use Rattle.vol_format.specs.Directory.{Listed}
 
--- The name in an AppleSingle file: of DOS 3.3 the low seven bits of the bytes that count, of ProDOS what stands behind the
--- last slash of the path.
+-- The name in an AppleSingle file: of DOS 3.3 the low seven bits of the bytes that count, of ProDOS what stands behind
+-- the last slash of the path.
 abbrev pub real_name : PlaceForm → List ℕ → List ℕ
 real_name Sector path = map low (name_bytes Sector path)
 real_name Block path = drop (length path - suffix_len (λ byte. not (byte == 0x2f)) path) path
 
--- The access of ProDOS (ProDOS 8 Technical Reference Manual, chapter 4.4): the entry's; a file of DOS 3.3 may be destroyed,
--- renamed, written and read, or where it is locked read alone.
+-- The access of ProDOS (ProDOS 8 Technical Reference Manual, chapter 4.4): the entry's; a file of DOS 3.3 may be
+-- destroyed, renamed, written and read, or where it is locked read alone.
 abbrev pub access_in : {A : Type 0} → PlaceForm → ListEntry A → ℕ
 access_in Sector entry = if entry.locked then 0x01 else 0xc3
 access_in Block entry = entry.access
@@ -64,8 +64,10 @@ form_wanted reads.Shown file_type = form_of file_type
 
 -- the file is these bytes in the form that is wanted of it
 abbrev pub IsInWantedForm : ReadForm → FileView → List ℕ → Type 0
-IsInWantedForm wanted file bytes = (form : FileForm) × (form_wanted wanted file.info.file_type ≡ Some form) × IsInForm form file bytes
+IsInWantedForm wanted file bytes =
+    (form : FileForm) × (form_wanted wanted file.info.file_type ≡ Some form) × IsInForm form file bytes
 
 -- it has no such form
 abbrev pub LacksWantedForm : ReadForm → FileView → Type 0
-LacksWantedForm wanted file = (form : FileForm) → form_wanted wanted file.info.file_type ≡ Some form → ¬ HasForm form file
+LacksWantedForm wanted file = (form : FileForm) → form_wanted wanted file.info.file_type ≡ Some form
+    → ¬ HasForm form file

@@ -54,12 +54,16 @@ shown_by volume reserved = shown_in volume.file_system volume.data_disk reserved
 -- `compare`, or a certificate's, for `verify`
 abbrev pub IsLookReply : LookView → List ℕ → ShownMeaning → DeviceState → Reply → Type 0
 IsLookReply Catalog bytes format device reply = IsListed format.form format.units device reply
-IsLookReply (Entries options) bytes format device reply = IsEntriesTold options format.form format.files format.units device reply
+IsLookReply (Entries options) bytes format device reply =
+    IsEntriesTold options format.form format.files format.units device reply
 IsLookReply (Check false) bytes format device reply = IsChecked format.form format.units device reply
 IsLookReply (Check true) bytes format device reply = IsCheckedWhole format.form format.files format.units device reply
 IsLookReply Map bytes format device reply = IsMapped format.form format.units format.unreserved device reply
-IsLookReply (Compare other options) bytes format device reply = IsCompared options bytes format.form format.files format.units device reply
-IsLookReply (Read name form out) bytes format device reply = IsRead (named_by name) form out format.form format.files format.units device reply
+IsLookReply (Compare other options) bytes format device reply =
+    IsCompared options bytes format.form format.files format.units device reply
+IsLookReply (Read name form out) bytes format device reply =
+    IsRead (named_by name) form out format.form format.files format.units device reply
 IsLookReply (Plan reclaim false) bytes format device reply = IsPlanned reclaim format.units device reply
-IsLookReply (Plan reclaim true) bytes format device reply = IsPlannedInWords format.form format.files reclaim format.units device reply
+IsLookReply (Plan reclaim true) bytes format device reply =
+    IsPlannedInWords format.form format.files reclaim format.units device reply
 IsLookReply (Verify from reclaim) bytes format device reply = IsVerified reclaim bytes format.units device reply

@@ -17,7 +17,8 @@ use Rattle.shop_reads.specs.MapText.{map_text}
 use Rattle.shop_reads.specs.declared.place_state.PlaceState.{PlaceState}
 
 -- the text is the map of the volume
-pub record IsMapText (form : PlaceForm) (format unreserved : Meaning) (store : List (List ℕ)) (text : Text) : Type 0 where
+pub record IsMapText (form : PlaceForm) (format unreserved : Meaning) (store : List (List ℕ))
+    (text : Text) : Type 0 where
   pub parts : ℕ
   pub places : List PlaceState
   pub of_volume : IsMap format unreserved store parts places
@@ -25,13 +26,15 @@ pub record IsMapText (form : PlaceForm) (format unreserved : Meaning) (store : L
 
 -- the reply with the map of a volume that has so many parts and whose places are in these states, or for want of memory
 abbrev pub TellsMap : PlaceForm → ℕ → List PlaceState → Reply → Type 0
-TellsMap form parts places reply = (IsTold Done reply × (text_of reply ≡ map_text form parts places)) ⊎ (reply ≡ failed failures.Memory)
+TellsMap form parts places reply =
+    (IsTold Done reply × (text_of reply ≡ map_text form parts places)) ⊎ (reply ≡ failed failures.Memory)
 
 -- the checker tells faults of the volume
 abbrev pub HasFaults : Meaning → List (List ℕ) → Type 0
 HasFaults format store = (faults : List Fault) × AreFaults format store faults
 
--- The reply to `map`: the map of an accepted volume; `Check` where the checker tells faults; a failure where a unit can't be read; or want of memory.
+-- The reply to `map`: the map of an accepted volume; `Check` where the checker tells faults; a failure where a unit
+-- can't be read; or want of memory.
 abbrev pub IsMapped : PlaceForm → Meaning → Meaning → DeviceState → Reply → Type 0
 IsMapped form format unreserved device reply =
     (IsTold Done reply × IsMapText form format unreserved device.store (text_of reply))

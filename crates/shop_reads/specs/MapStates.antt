@@ -27,21 +27,28 @@ StandsAt parts k place = (k < length parts) × ((slice_index_or parts k no_part)
 
 -- A place is in a state. The target of part k is the available place of number k.
 abbrev pub IsInState : Meaning → List (List ℕ) → Mapped → ℕ → PlaceState → Type 0
-IsInState format store volume place states.System = (is_system volume.directory place ≡ true) × (is_system volume.own place ≡ true)
-IsInState format store volume place states.Reserved = (is_system volume.directory place ≡ true) × (is_system volume.own place ≡ false)
+IsInState format store volume place states.System =
+    (is_system volume.directory place ≡ true) × (is_system volume.own place ≡ true)
+IsInState format store volume place states.Reserved =
+    (is_system volume.directory place ≡ true) × (is_system volume.own place ≡ false)
 IsInState format store volume place states.InOrder =
     (k : ℕ) × StandsAt volume.parts k place × (slice_index (layout_in volume) k ≡ k)
-IsInState format store volume place states.Elsewhere = (k : ℕ) × StandsAt volume.parts k place × IsMisplaced (layout_in volume) k
+IsInState format store volume place states.Elsewhere =
+    (k : ℕ) × StandsAt volume.parts k place × IsMisplaced (layout_in volume) k
 IsInState format store volume place states.Lost = IsLost format volume.directory store place
-IsInState format store volume place states.Free = Contains volume.directory.available place × (is_free volume.directory place ≡ true)
+IsInState format store volume place states.Free =
+    Contains volume.directory.available place × (is_free volume.directory place ≡ true)
 
 -- the states of all places of a volume
-pub record AreStates (format : Meaning) (store : List (List ℕ)) (volume : Mapped) (places : List PlaceState) : Type 0 where
+pub record AreStates (format : Meaning) (store : List (List ℕ)) (volume : Mapped)
+    (places : List PlaceState) : Type 0 where
   pub all : length places ≡ volume.directory.places
-  pub each : (place : ℕ) → place < volume.directory.places → IsInState format store volume place (slice_index_or places place states.Free)
+  pub each : (place : ℕ) → place < volume.directory.places
+      → IsInState format store volume place (slice_index_or places place states.Free)
 
 -- the volume is accepted, and these are the states of its places, where it has so many parts
-pub record IsMap (format unreserved : Meaning) (store : List (List ℕ)) (parts : ℕ) (places : List PlaceState) : Type 0 where
+pub record IsMap (format unreserved : Meaning) (store : List (List ℕ)) (parts : ℕ)
+    (places : List PlaceState) : Type 0 where
   pub volume : Mapped
   pub accepted : IsAccepted format volume.directory store
   pub own : unreserved.Describes store volume.own

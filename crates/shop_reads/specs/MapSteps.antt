@@ -1,5 +1,5 @@
--- How the states of the places of a volume are found: first those at which no part stands, then the parts', and last what
--- is reserved.
+-- How the states of the places of a volume are found: first those at which no part stands, then the parts', and last
+-- what is reserved.
 use Rattle.std.specs.Prelude.{◌≡◌, ◌≢◌, ◌⊎◌, ◌<◌, ◌==◌, ℕ, Bool, false, List, length, map, nat_lt, slice_index, slice_index_or, if◌then◌else◌}
 use Rattle.std.specs.List.{range_with_len}
 use Rattle.a2_device.specs.declared.part.Part.{Part}
@@ -28,7 +28,8 @@ part_state k number = if number == k then states.InOrder else states.Elsewhere
 abbrev pub PutsAt : ℕ → List Part → List ℕ → List PlaceState → List PlaceState → ℕ → Type 0
 PutsAt many parts at old new place =
     (((k : ℕ) → k < many → (slice_index_or parts k no_part).place ≢ place) × (state_at new place ≡ state_at old place))
-    ⊎ ((k : ℕ) × (k < many) × ((slice_index_or parts k no_part).place ≡ place) × (state_at new place ≡ part_state k (slice_index at k)))
+    ⊎ ((k : ℕ) × (k < many) × ((slice_index_or parts k no_part).place ≡ place)
+    × (state_at new place ≡ part_state k (slice_index at k)))
 
 -- the first parts were put into a table
 pub record PutsParts (many : ℕ) (parts : List Part) (at : List ℕ) (old new : List PlaceState) : Type 0 where

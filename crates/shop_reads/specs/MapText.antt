@@ -37,7 +37,8 @@ sector_lines places = flat_map (λ below. sector_line places (15 - below)) (rang
 
 -- of ProDOS the number of the first of up to 64 blocks, and their characters
 abbrev pub block_line : List PlaceState → ℕ → Text
-block_line places number = line (right_in 5 (64 * number) ++ 32 ∷ map character_of (take 64 (drop (64 * number) places)))
+block_line places number = line
+    (right_in 5 (64 * number) ++ 32 ∷ map character_of (take 64 (drop (64 * number) places)))
 
 -- a line for each 64 blocks begun
 abbrev pub block_lines : List PlaceState → Text
@@ -53,8 +54,10 @@ how_many character places = length (filter (λ state. character_of state == char
 
 -- how many parts there are, and how many of them and of the other places the picture has
 abbrev pub counts_text : ℕ → ℕ → ℕ → ℕ → ℕ → Text
-counts_text parts in_order elsewhere lost free = codes "PARTS " ++ (decimal parts ++ (codes " IN ORDER " ++ (decimal in_order
-    ++ (codes " ELSEWHERE " ++ (decimal elsewhere ++ (codes " LOST " ++ (decimal lost ++ (codes " FREE " ++ decimal free))))))))
+counts_text parts in_order elsewhere lost free =
+    codes "PARTS " ++ (decimal parts ++ (codes " IN ORDER " ++ (decimal in_order
+    ++ (codes " ELSEWHERE " ++ (decimal elsewhere
+    ++ (codes " LOST " ++ (decimal lost ++ (codes " FREE " ++ decimal free))))))))
 
 -- the last line, where there are so many parts
 abbrev pub last_line : ℕ → List PlaceState → Text

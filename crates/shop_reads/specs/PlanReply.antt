@@ -22,8 +22,8 @@ use Rattle.shop_replies.specs.Reply.{IsTold, failed, refused, text_of}
 use Rattle.shop_replies.specs.declared.reply.Status.TheVariants.{Done, Refused}
 use Rattle.shop_replies.specs.Volume.{LacksUnit}
 
--- The volume is accepted, and these are its parts, their layout and the lost places, none of which is lost but where they are reclaimed; and it has a free
--- place or is in order.
+-- The volume is accepted, and these are its parts, their layout and the lost places, none of which is lost but where
+-- they are reclaimed; and it has a free place or is in order.
 pub record IsOpened (reclaim : Bool) (format : Meaning) (store : List (List ℕ)) (told : Told) : Type 0 where
   pub directory : Directory
   pub accepted : IsAccepted format directory store
@@ -34,20 +34,25 @@ pub record IsOpened (reclaim : Bool) (format : Meaning) (store : List (List ℕ)
 
 -- the text is the certificate of a plan of a layout
 abbrev pub certificate_by : {A : Type 0} → Placement → Plan A → List ℕ
-certificate_by layout plan = certificate_text (certificate_of layout plan.misplaced.items plan.rings.items plan.moves.items)
+certificate_by layout plan = certificate_text
+    (certificate_of layout plan.misplaced.items plan.rings.items plan.moves.items)
 
 abbrev pub TellsPlan : {A : Type 0} → Placement → Plan A → Reply → Type 0
-TellsPlan layout plan reply = (IsTold Done reply × (text_of reply ≡ certificate_by layout plan)) ⊎ (reply ≡ failed failures.Memory)
+TellsPlan layout plan reply = (IsTold Done reply × (text_of reply ≡ certificate_by layout plan))
+    ⊎ (reply ≡ failed failures.Memory)
 
 -- the reply to a volume that is not opened; how many places are lost is told
 abbrev pub TellsOpening : {A : Type 0} → OpenError A → Reply → Type 0
 TellsOpening (opens.Check faults) reply = reply ≡ refused refusals.Check
-TellsOpening (opens.Lost count) reply = (IsTold Refused reply × (text_of reply ≡ codes "REFUSED Lost " ++ decimal count ++ 10 ∷ [])) ⊎ (reply ≡ failed failures.Memory)
+TellsOpening (opens.Lost count) reply =
+    (IsTold Refused reply × (text_of reply ≡ codes "REFUSED Lost " ++ decimal count ++ 10 ∷ []))
+    ⊎ (reply ≡ failed failures.Memory)
 TellsOpening opens.NoFreePlace reply = reply ≡ refused refusals.NoFreePlace
 TellsOpening opens.Device reply = reply ≡ failed failures.Device
 TellsOpening opens.Memory reply = reply ≡ failed failures.Memory
 
--- the volume is not opened: it has faults, lost places that are not reclaimed, or no free place; or a unit can't be read
+-- the volume is not opened: it has faults, lost places that are not reclaimed, or no free place; or a unit can't be
+-- read
 pub record IsUnopenedReply (reclaim : Bool) (format : Meaning) (device : DeviceState) (reply : Reply) : Type 0 where
   pub error : OpenError Global
   pub refusal : IsRefusal format device.store (record { reclaim = reclaim }) error
@@ -63,4 +68,5 @@ pub record IsPlanReply (reclaim : Bool) (format : Meaning) (device : DeviceState
   pub told : TellsPlan volume.layout plan reply
 
 abbrev pub IsPlanned : Bool → Meaning → DeviceState → Reply → Type 0
-IsPlanned reclaim format device reply = IsPlanReply reclaim format device reply ⊎ IsUnopenedReply reclaim format device reply
+IsPlanned reclaim format device reply =
+    IsPlanReply reclaim format device reply ⊎ IsUnopenedReply reclaim format device reply

@@ -23,10 +23,12 @@ use Rattle.shop_reads.specs.Steps.{AreSteps}
 -- these steps are told, or memory is wanting
 abbrev pub TellsSteps : PlaceForm → FileMeaning → Directory → List Step → Reply → Type 0
 TellsSteps form files directory steps reply =
-    (IsTold Done reply × (text_of reply ≡ plan_words_text form files directory steps)) ⊎ (reply ≡ failed failures.Memory)
+    (IsTold Done reply × (text_of reply ≡ plan_words_text form files directory steps))
+    ⊎ (reply ≡ failed failures.Memory)
 
 -- the text tells the moves of a plan of a volume in words
-pub record IsPlanText (form : PlaceForm) (files : FileMeaning) (directory : Directory) (told : Told) (moves : List Move) (text : Text) : Type 0 where
+pub record IsPlanText (form : PlaceForm) (files : FileMeaning) (directory : Directory) (told : Told) (moves : List Move)
+    (text : Text) : Type 0 where
   pub steps : List Step
   pub are : AreSteps told.parts directory.available told.layout.at moves steps
   pub is : text ≡ plan_words_text form files directory steps
@@ -36,7 +38,8 @@ TellsWords form files directory told moves reply =
     (IsTold Done reply × IsPlanText form files directory told moves (text_of reply)) ⊎ (reply ≡ failed failures.Memory)
 
 -- a shortest plan of the volume's layout, and its moves in words
-pub record IsWordsReply (form : PlaceForm) (files : FileMeaning) (reclaim : Bool) (format : Meaning) (device : DeviceState) (reply : Reply) : Type 0 where
+pub record IsWordsReply (form : PlaceForm) (files : FileMeaning) (reclaim : Bool) (format : Meaning)
+    (device : DeviceState) (reply : Reply) : Type 0 where
   pub volume : Told
   pub opened : IsOpened reclaim format device.store volume
   pub plan : Plan Global

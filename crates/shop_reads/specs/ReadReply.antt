@@ -20,7 +20,8 @@ use Rattle.shop_replies.specs.Volume.{LacksUnit}
 use Rattle.shop_reads.specs.FileForms.{IsInWantedForm, LacksWantedForm, found_in}
 
 -- the first file with a name has no fault of its own, and this is said of it
-pub record OfFileAt (place : PlaceForm) (files : FileMeaning) (format : Meaning) (store : List (List ℕ)) (name : FileNameView) (Is : FileView → Type 0) : Type 0 where
+pub record OfFileAt (place : PlaceForm) (files : FileMeaning) (format : Meaning) (store : List (List ℕ))
+    (name : FileNameView) (Is : FileView → Type 0) : Type 0 where
   pub directory : Directory
   pub described : format.Describes store directory
   pub file : ℕ
@@ -33,7 +34,8 @@ pub record OfFileAt (place : PlaceForm) (files : FileMeaning) (format : Meaning)
 abbrev pub IsContentAt : PlaceForm → FileMeaning → Meaning → List (List ℕ) → FileNameView → ReadForm → List ℕ → Type 0
 IsContentAt place files format store name reads.Body bytes = IsTextAt format files store name false bytes
 IsContentAt place files format store name reads.Whole bytes = IsTextAt format files store name true bytes
-IsContentAt place files format store name form bytes = OfFileAt place files format store name (λ file. IsInWantedForm form file bytes)
+IsContentAt place files format store name form bytes =
+    OfFileAt place files format store name (λ file. IsInWantedForm form file bytes)
 
 -- it has no such form; each has its bytes
 abbrev pub LacksFormAt : PlaceForm → FileMeaning → Meaning → List (List ℕ) → FileNameView → ReadForm → Type 0
@@ -47,9 +49,10 @@ HandsContent None Is reply = IsTold Done reply × Is (text_of reply)
 HandsContent (Some path) Is reply = IsMadeReply reply × Is (made_of reply)
 
 -- The reply to `read`: the first file with this name, as it is wanted; `Form` where it has no such form; `Check` for a
--- directory or a file that can't be read; `NotFound` where no file has the name; a failure where a unit can't be read; or
--- want of memory.
-abbrev pub IsRead : FileNameView → ReadForm → Option (List ℕ) → PlaceForm → FileMeaning → Meaning → DeviceState → Reply → Type 0
+-- directory or a file that can't be read; `NotFound` where no file has the name; a failure where a unit can't be read;
+-- or want of memory.
+abbrev pub IsRead : FileNameView → ReadForm → Option (List ℕ) → PlaceForm → FileMeaning → Meaning → DeviceState → Reply
+    → Type 0
 IsRead name form out place files format device reply =
     HandsContent out (IsContentAt place files format device.store name form) reply
     ⊎ ((reply ≡ refused refusals.Form) × LacksFormAt place files format device.store name form)

@@ -29,10 +29,11 @@ reply_to_reserve reserves.Memory = failed failures.Memory
 
 -- this is said where the words reserve these places on a volume of a file system
 abbrev pub OfReserved : FileSystem → Option Text → (List Bool → Type 0) → Type 0
-OfReserved file_system reserve P = (reserved : List Bool) × ReservesNamed (form_of file_system) reserve reserved × P reserved
+OfReserved file_system reserve P =
+    (reserved : List Bool) × ReservesNamed (form_of file_system) reserve reserved × P reserved
 
--- The reply to work on a device: `Reserve` for a text that is no list of places; want of memory; or one of which this is
--- said, where the words reserve these places.
+-- The reply to work on a device: `Reserve` for a text that is no list of places; want of memory; or one of which this
+-- is said, where the words reserve these places.
 abbrev pub IsDeviceReply : FileSystem → Option Text → (List Bool → Type 0) → Reply → Type 0
 IsDeviceReply file_system reserve Tells reply =
     ((reply ≡ refused refusals.Reserve) × ¬ NamesPlaces (form_of file_system) reserve)

@@ -11,7 +11,8 @@ pub record IsStep (parts : List Part) (available layout : List ℕ) (move : Move
   pub part : step.part ≡ part_now parts available layout move.part
   pub to : step.to ≡ slice_index available move.to
 
--- the steps of moves that are made one after the other from a layout: each finds the parts where the moves before it left them
+-- the steps of moves that are made one after the other from a layout: each finds the parts where the moves before it
+-- left them
 abbrev pub AreSteps : List Part → List ℕ → List ℕ → List Move → List Step → Type 0
 AreSteps parts available layout [] steps = steps ≡ []
 AreSteps parts available layout (move ∷ moves) [] = ⊥

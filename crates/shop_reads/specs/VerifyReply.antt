@@ -37,10 +37,13 @@ fault_text faults.Memory = codes "Memory"
 -- the reply to a certificate with this fault, and to bytes that are no certificate's text
 abbrev pub TellsFault : CertFault → Reply → Type 0
 TellsFault fault reply =
-    ((fault ≢ faults.Memory) × IsTold Wrong reply × (text_of reply ≡ line (codes "REFUSED " ++ fault_text fault))) ⊎ (reply ≡ failed failures.Memory)
+    ((fault ≢ faults.Memory) × IsTold Wrong reply × (text_of reply ≡ line (codes "REFUSED " ++ fault_text fault)))
+    ⊎ (reply ≡ failed failures.Memory)
 
 abbrev pub TellsNoText : CertError → Reply → Type 0
-TellsNoText (texts.Syntax number) reply = (IsTold Wrong reply × (text_of reply ≡ line (codes "REFUSED Syntax " ++ decimal number))) ⊎ (reply ≡ failed failures.Memory)
+TellsNoText (texts.Syntax number) reply =
+    (IsTold Wrong reply × (text_of reply ≡ line (codes "REFUSED Syntax " ++ decimal number)))
+    ⊎ (reply ≡ failed failures.Memory)
 TellsNoText texts.Memory reply = reply ≡ failed failures.Memory
 
 -- the bytes are the text of a certificate that is good for the layout: no plan has fewer moves than its bound
@@ -70,10 +73,12 @@ pub record IsNoCertificate (bytes : List ℕ) (reply : Reply) : Type 0 where
 
 abbrev pub IsVerdict : Placement → List ℕ → Reply → Type 0
 IsVerdict layout bytes reply =
-    IsOptimal layout bytes reply ⊎ IsNotOptimal layout bytes reply ⊎ IsNoCertificate bytes reply ⊎ (reply ≡ failed failures.Memory)
+    IsOptimal layout bytes reply ⊎ IsNotOptimal layout bytes reply ⊎ IsNoCertificate bytes reply
+    ⊎ (reply ≡ failed failures.Memory)
 
 -- the verdict on the layout of the volume
-pub record IsVerdictReply (reclaim : Bool) (bytes : List ℕ) (format : Meaning) (device : DeviceState) (reply : Reply) : Type 0 where
+pub record IsVerdictReply (reclaim : Bool) (bytes : List ℕ) (format : Meaning) (device : DeviceState)
+    (reply : Reply) : Type 0 where
   pub volume : Told
   pub opened : IsOpened reclaim format device.store volume
   pub verdict : IsVerdict volume.layout bytes reply
@@ -81,4 +86,5 @@ pub record IsVerdictReply (reclaim : Bool) (bytes : List ℕ) (format : Meaning)
 abbrev pub IsVerified : Bool → List ℕ → Meaning → DeviceState → Reply → Type 0
 IsVerified reclaim bytes format device reply =
     ((reply ≡ refused refusals.InputTooLong) × (most_certificate < length bytes))
-    ⊎ ((length bytes ≤ most_certificate) × (IsVerdictReply reclaim bytes format device reply ⊎ IsUnopenedReply reclaim format device reply))
+    ⊎ ((length bytes ≤ most_certificate)
+    × (IsVerdictReply reclaim bytes format device reply ⊎ IsUnopenedReply reclaim format device reply))

@@ -19,8 +19,8 @@ TakesImage words bytes = CanBeWrapped words.order bytes (length words.comment)
 abbrev pub container_by : WrappingView → List ℕ → List ℕ
 container_by words image = wrapped_bytes words.order words.volume words.comment words.protect image
 
--- What `wrap` answers: the container; `Length` where no image of the order has so many bytes, or the comment is too long; or
--- want of memory.
+-- What `wrap` answers: the container; `Length` where no image of the order has so many bytes, or the comment is too
+-- long; or want of memory.
 abbrev pub IsWrapReply : WrappingView → List ℕ → Reply → Type 0
 IsWrapReply words image reply =
     (TakesImage words (length image) × IsMadeReply reply × (made_of reply ≡ container_by words image))
@@ -30,7 +30,8 @@ IsWrapReply words image reply =
 -- What `unwrap` answers: the payload of the container; or what is wrong with a file that is none.
 abbrev pub IsUnwrapReply : List ℕ → Reply → Type 0
 IsUnwrapReply file reply =
-    ((container : Container) × IsContainer file container × IsMadeReply reply × (made_of reply ≡ payload_in file container))
+    ((container : Container) × IsContainer file container × IsMadeReply reply
+    × (made_of reply ≡ payload_in file container))
     ⊎ ((fault : ContainerFault) × IsFault file fault × (reply ≡ refused (refusals.Container fault)))
 
 -- the same reply, and it hands out an image with this in front of it and that behind it
@@ -40,8 +41,8 @@ pub record IsAround (front back : List ℕ) (reply around : Reply) : Type 0 wher
   pub made : IsMade around
   pub image : made_of around ≡ front ++ made_of reply ++ back
 
--- A reply in a shell: the image that it hands out stands in it, or there was no memory for that; one without an image is the
--- same.
+-- A reply in a shell: the image that it hands out stands in it, or there was no memory for that; one without an image
+-- is the same.
 abbrev pub IsInShell : List ℕ → List ℕ → Reply → Reply → Type 0
 IsInShell front back reply around =
     ((reply.image ≡ None) × (around ≡ reply))

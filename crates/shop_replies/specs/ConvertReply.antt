@@ -13,8 +13,8 @@ use Rattle.shop_replies.specs.declared.reply.Reply.{Reply}
 use Rattle.shop_replies.specs.Reply.{IsMadeReply, failed, made_of, refused}
 use Rattle.shop_replies.specs.Disk.{HasEvery, IsDiskImage, LacksOne, OfDisk}
 
--- These bytes are an image in the wanted order with the same sectors, none of which is missing. In nibble order each track
--- is the one that is made of its sectors, with this volume number.
+-- These bytes are an image in the wanted order with the same sectors, none of which is missing. In nibble order each
+-- track is the one that is made of its sectors, with this volume number.
 pub record IsConverted (sectors : List (Option (List ℕ))) (to : Order) (volume : ℕ) (made : List ℕ) : Type 0 where
   pub every : HasEvery sectors
   pub long : IsDiskImage to made
@@ -28,8 +28,8 @@ RefusesConversion order image images.Memory = Unit {0}
 RefusesConversion order image images.Number = ⊥
 RefusesConversion order image images.NoSector = OfDisk order image LacksOne
 
--- The reply to `convert` on an image in this order: the image of the same sectors in the wanted order; `Length` for other
--- than a disk's number of bytes; `NoSector` where the disk lacks a sector; and want of memory.
+-- The reply to `convert` on an image in this order: the image of the same sectors in the wanted order; `Length` for
+-- other than a disk's number of bytes; `NoSector` where the disk lacks a sector; and want of memory.
 abbrev pub IsConvertReply : Order → Order → ℕ → List ℕ → Reply → Type 0
 IsConvertReply order to volume image reply =
     (IsMadeReply reply × OfDisk order image (λ sectors. IsConverted sectors to volume (made_of reply)))

@@ -12,8 +12,8 @@ use Rattle.shop_replies.specs.declared.refusal.Failure.TheVariants.{Input, Memor
 abbrev pub IsReadFailure : Failure → Type 0
 IsReadFailure failure = (failure ≡ Input) ⊎ (failure ≡ Memory)
 
--- the most bytes that are taken of the image: those of its order, or where none is named, as it may be a container, those of
--- one
+-- the most bytes that are taken of the image: those of its order, or where none is named, as it may be a container,
+-- those of one
 abbrev pub most_in_order : Option Order → ℕ
 most_in_order (Some order) = most_bytes order
 most_in_order None = most_around
@@ -21,8 +21,8 @@ most_in_order None = most_around
 abbrev pub most_of_image : AskView → ℕ
 most_of_image ask = most_in_order (named_order_of ask)
 
--- the most bytes that are taken of the file beside the image: of another image, and of one whose system is copied, those of
--- its order, of a certificate or of a file that is saved 16,777,216
+-- the most bytes that are taken of the file beside the image: of another image, and of one whose system is copied,
+-- those of its order, of a certificate or of a file that is saved 16,777,216
 abbrev pub most_of_look : LookView → ℕ
 most_of_look (Compare other options) = most_bytes options.other_order
 most_of_look look = 16777216

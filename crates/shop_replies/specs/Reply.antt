@@ -161,10 +161,12 @@ AppendsFront old new bytes = (n : ℕ) × Appends old new (take n bytes)
 
 -- bytes were written, and this is the status; or the writer failed behind a front of them, and it is 4
 abbrev pub IsWritten : ℕ → List ℕ → ℕ → Option (List ℕ) → Option (List ℕ) → Type 0
-IsWritten status bytes result old new = ((result ≡ status) × Appends old new bytes) ⊎ ((result ≡ 4) × AppendsFront old new bytes)
+IsWritten status bytes result old new =
+    ((result ≡ status) × Appends old new bytes) ⊎ ((result ≡ 4) × AppendsFront old new bytes)
 
--- A reply was told and its image handed out, behind what the writers had. Or a writer failed, and the status is 4: the text's, behind a front of the text, and nothing was
--- handed out; or the output file's, behind a front of the image, once all of the text was told.
+-- A reply was told and its image handed out, behind what the writers had. Or a writer failed, and the status is 4: the
+-- text's, behind a front of the text, and nothing was handed out; or the output file's, behind a front of the image,
+-- once all of the text was told.
 abbrev pub IsDelivered : Reply → ℕ → Held → Held → Type 0
 IsDelivered reply status old new =
     ((status ≡ status_of reply) × Appends old.text new.text (text_of reply) × Appends old.out new.out (made_of reply))

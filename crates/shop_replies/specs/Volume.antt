@@ -62,7 +62,8 @@ LacksUnit device = (place : ℕ) × Contains device.unreadable place
 -- an image in this order has these bytes, and of its units this is said
 abbrev pub OfVolume : FileSystem → Order → List ℕ → (DeviceState → Type 0) → Type 0
 OfVolume file_system order bytes P =
-    TakesBytes file_system order (length bytes) × (image : DiskImage) × IsImageOf order bytes image × P (device_of file_system image)
+    TakesBytes file_system order (length bytes) × (image : DiskImage) × IsImageOf order bytes image
+    × P (device_of file_system image)
 
 -- why these bytes are not taken as an image
 abbrev pub RefusesBytes : FileSystem → Order → ℕ → ImageError → Type 0

@@ -1,4 +1,5 @@
--- The words that stand for what an image says of itself, as the values of options, and the words with a value in their place.
+-- The words that stand for what an image says of itself, as the values of options, and the words with a value in their
+-- place.
 use Rattle.std.specs.Prelude.{Bool, ◌||◌, ◌&&◌, List, [], ◌∷◌, ◌++◌, codes, map, zip, if◌then◌else◌}
 use Rattle.std.specs.List.{list_any}
 use Rattle.std.specs.Str.{bytes_eq}
@@ -20,7 +21,8 @@ stand_in_word Container = codes "2img"
 
 -- the stand-in is a word of its own, right behind the option's
 abbrev pub is_behind : AutoOption → StandIn → Text → Text → Bool
-is_behind option stand_in previous word = bytes_eq previous (option_word option) && bytes_eq word (stand_in_word stand_in)
+is_behind option stand_in previous word =
+    bytes_eq previous (option_word option) && bytes_eq word (stand_in_word stand_in)
 
 -- it is one word with the option
 abbrev pub is_joined : AutoOption → StandIn → Text → Bool

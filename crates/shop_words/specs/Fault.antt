@@ -11,7 +11,8 @@ use Rattle.shop_words.specs.Table.{Text}
 use Rattle.shop_words.specs.declared.fault.WordsFault.{WordsFault}
 use Rattle.shop_words.specs.declared.fault.WordsFault.TheVariants as faults
 
--- what clap's reading of the words may end with in place of a job, by its first step that fails; nothing, where clap takes them
+-- what clap's reading of the words may end with in place of a job, by its first step that fails; nothing, where clap
+-- takes them
 unfoldable pub ends_of : List Text → Kinds
 ends_of words = fault_of shop words
 

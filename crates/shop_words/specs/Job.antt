@@ -265,7 +265,8 @@ read_of (Some name) (Some form) out = Some (Read name form out)
 read_of _ _ out = None
 
 abbrev pub read_by : Said → Option LookView
-read_by said = read_of (name_by said) (read_form_said (is_on (said (codes "whole"))) (said (codes "as"))) (said (codes "out"))
+read_by said = read_of (name_by said)
+    (read_form_said (is_on (said (codes "whole"))) (said (codes "as"))) (said (codes "out"))
 
 -- a plan is told as a certificate, or in words where a flag says so
 abbrev pub plan_by : Said → LookView
@@ -333,14 +334,16 @@ abbrev pub attributes_by : Option ℕ → Said → AttributesView
 attributes_by aux said = record { kind = said (codes "type"); aux = aux; date = said (codes "date") }
 
 -- a new file, where each part of it is there; it takes the place of another one or not
-abbrev pub save_of : Bool → Option Text → Option AttributesView → Option (Option GivenForm) → Option Text → Option ChangeView
+abbrev pub save_of : Bool → Option Text → Option AttributesView → Option (Option GivenForm) → Option Text
+    → Option ChangeView
 save_of replace (Some name) (Some attributes) (Some form) (Some from) =
     if is_loadable form attributes.aux then Some (Save name attributes form from replace) else None
 save_of replace _ _ _ _ = None
 
 abbrev pub save_by : Said → Option ChangeView
 save_by said = save_of (is_on (said (codes "replace"))) (said (codes "name"))
-    (option_map (λ aux. attributes_by aux said) (aux_named (said (codes "aux")))) (given_form_by said) (said (codes "from"))
+    (option_map (λ aux. attributes_by aux said) (aux_named (said (codes "aux")))) (given_form_by said)
+    (said (codes "from"))
 
 -- ---- what is asked, where each part of it is there
 
@@ -396,7 +399,8 @@ wrapping_of (Some order) (Some volume) (Some comment) protect =
 wrapping_of _ _ _ protect = None
 
 abbrev pub wrapping_by : Said → Option WrappingView
-wrapping_by said = wrapping_of (option_and_then order_named (said (codes "order"))) (told_volume (said (codes "volume")))
+wrapping_by said = wrapping_of (option_and_then order_named (said (codes "order")))
+    (told_volume (said (codes "volume")))
     (comment_said (said (codes "comment"))) (is_on (said (codes "protect")))
 
 abbrev pub wrap_of : Option WrappingView → Option Text → Option AskView

@@ -1,5 +1,5 @@
--- Of `--fs` and `--order`, what the words of a command leave out is `auto`: where they say `--auto`, and of some commands always. Where `--order` is `auto` or
--- `2img`, so is the `--other-order` that they leave out.
+-- Of `--fs` and `--order`, what the words of a command leave out is `auto`: where they say `--auto`, and of some
+-- commands always. Where `--order` is `auto` or `2img`, so is the `--other-order` that they leave out.
 use Rattle.std.specs.Prelude.{Bool, false, ◌||◌, ◌&&◌, not, List, [], ◌∷◌, ◌++◌, codes, filter, if◌then◌else◌}
 use Rattle.std.specs.Prelude.{nat_eq}
 use Rattle.std.specs.List.{insert, list_any, position_or_len, starts_with}
@@ -90,5 +90,6 @@ other_completed words =
 abbrev pub filled_in : List Text → List Text
 filled_in words =
     if asks_to_fill_in words
-    then other_completed (completed Order Auto (completed FileSystem Auto (filter (λ word. not (is_auto_word word)) words)))
+    then other_completed (completed Order Auto
+    (completed FileSystem Auto (filter (λ word. not (is_auto_word word)) words)))
     else words

@@ -117,17 +117,18 @@ WritesBytes names words = AllZip (λ name word. name ≡ name_of_file.name → I
 abbrev pub UsesJson : List Use → Type 0
 UsesJson uses = find (λ u. bytes_eq (use_name u) format.name) uses ≡ Some (valued format.name (codes "json"))
 
--- what is said of a new volume: the system is copied to no data disk, and of a DOS 3.3 disk no blocks, no name and no date
--- are said
+-- what is said of a new volume: the system is copied to no data disk, and of a DOS 3.3 disk no blocks, no name and no
+-- date are said
 pub record IsNewVolume (uses : List Use) : Type 0 where
   pub started : IsSome (value_of boot.name uses) → value_of data_disk.name uses ≡ None
   pub of_dos : value_of file_system.name uses ≡ Some (codes "dos")
       → (value_of blocks.name uses ≡ None) × (value_of volume_name.name uses ≡ None) × (value_of date.name uses ≡ None)
 
--- the positional words and uses are those of a plain list of the form; where the image may be changed in place, exactly one of `--out` and `--in-place` is used;
--- with `--stored` the name of the file is in hexadecimal digits, and with `--places` the form is JSON; `--as` and `--whole` do not go together,
--- `--high` goes with `--as text` alone, and with `--as applesoft` the auxiliary type is $0801; of the command that makes a
--- volume what is said is said of one; files are added to a directory of ProDOS alone
+-- the positional words and uses are those of a plain list of the form; where the image may be changed in place, exactly
+-- one of `--out` and `--in-place` is used; with `--stored` the name of the file is in hexadecimal digits, and with
+-- `--places` the form is JSON; `--as` and `--whole` do not go together, `--high` goes with `--as text` alone, and with
+-- `--as applesoft` the auxiliary type is $0801; of the command that makes a volume what is said is said of one; files
+-- are added to a directory of ProDOS alone
 pub record IsPlainLine (f : FormView) (positionals : List Text) (uses : List Use) : Type 0 where
   pub as_many : length positionals ≡ length (positional_names f)
   pub plain : AllPass is_plain_word positionals
@@ -140,7 +141,8 @@ pub record IsPlainLine (f : FormView) (positionals : List Text) (uses : List Use
   pub placed : Contains (map use_name uses) places.name → UsesJson uses
   pub formed : IsSome (value_of whole.name uses) → value_of read_as.name uses ≡ None
   pub high_of_text : IsSome (value_of high.name uses) → value_of save_as.name uses ≡ Some (codes "text")
-  pub loaded : value_of save_as.name uses ≡ Some (codes "applesoft") → (word : Text) → value_of aux.name uses ≡ Some word
+  pub loaded : value_of save_as.name uses ≡ Some (codes "applesoft") → (word : Text)
+      → value_of aux.name uses ≡ Some word
       → address_named word ≡ Some 0x0801
   pub created : Contains f.parameters boot → IsNewVolume uses
   pub added : Contains f.parameters directory → IsSome (value_of directory.name uses)

@@ -233,7 +233,8 @@ plan_form = record {
 abbrev pub optimize_form : FormView
 optimize_form = record {
   name = codes "optimize";
-  parameters = image ∷ file_system ∷ order ∷ out_file ∷ in_place ∷ data_disk ∷ reserve ∷ reclaim ∷ stop_after ∷ cert ∷ [];
+  parameters = image ∷ file_system ∷ order ∷ out_file ∷ in_place ∷ data_disk ∷ reserve ∷ reclaim ∷ stop_after ∷ cert
+      ∷ [];
 }
 
 -- a command that changes a file
@@ -255,7 +256,8 @@ delete_form = edit_form (codes "delete")
 abbrev pub rename_form : FormView
 rename_form = record {
   name = codes "rename";
-  parameters = image ∷ name_of_file ∷ new_name ∷ file_system ∷ order ∷ out_file ∷ in_place ∷ data_disk ∷ reserve ∷ stored ∷ [];
+  parameters = image ∷ name_of_file ∷ new_name ∷ file_system ∷ order ∷ out_file ∷ in_place ∷ data_disk ∷ reserve
+      ∷ stored ∷ [];
 }
 
 -- `--type T`, `--aux N` and `--date D`
@@ -282,7 +284,8 @@ replace = parameter (codes "replace") flag
 abbrev pub save_form : FormView
 save_form = record {
   name = codes "save";
-  parameters = image ∷ name_of_file ∷ file_system ∷ order ∷ from ∷ save_as ∷ high ∷ out_file ∷ in_place ∷ type_of_file ∷ aux ∷ date
+  parameters = image ∷ name_of_file ∷ file_system ∷ order ∷ from ∷ save_as ∷ high ∷ out_file ∷ in_place ∷ type_of_file
+      ∷ aux ∷ date
       ∷ data_disk ∷ reserve ∷ replace ∷ [];
 }
 
@@ -388,4 +391,6 @@ mkdir_form = record {
 
 -- the forms of all commands
 abbrev pub forms : List FormView
-forms = catalog_form ∷ list_form ∷ compare_form ∷ map_form ∷ check_form ∷ read_form ∷ extract_form ∷ convert_form ∷ plan_form ∷ optimize_form ∷ lock_form ∷ unlock_form ∷ delete_form ∷ rename_form ∷ save_form ∷ verify_form ∷ identify_form ∷ wrap_form ∷ unwrap_form ∷ survey_form ∷ create_form ∷ reclaim_form ∷ add_form ∷ mkdir_form ∷ []
+forms = catalog_form ∷ list_form ∷ compare_form ∷ map_form ∷ check_form ∷ read_form ∷ extract_form ∷ convert_form
+    ∷ plan_form ∷ optimize_form ∷ lock_form ∷ unlock_form ∷ delete_form ∷ rename_form ∷ save_form ∷ verify_form
+    ∷ identify_form ∷ wrap_form ∷ unwrap_form ∷ survey_form ∷ create_form ∷ reclaim_form ∷ add_form ∷ mkdir_form ∷ []

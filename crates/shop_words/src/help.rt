@@ -77,8 +77,8 @@ impl Help {
             Help::FileSystem =>
                 "File system of the volume, auto for the one that identify names: auto, dos or prodos",
             Help::Order =>
-                "Order of the sectors in the image, auto for the one that identify names, 2img for that of a 2IMG file: \
-                    auto, 2img, dos, prodos or nibble",
+                "Order of the sectors in the image, auto for the one that identify names, 2img for that of a 2IMG \
+                    file: auto, 2img, dos, prodos or nibble",
             Help::ImageOrder =>
                 "Order of the sectors in the image, auto for the one that identify names: auto, dos, prodos or nibble",
             Help::To => "Order of the sectors in the image that is written: dos, prodos or nibble",
@@ -121,8 +121,8 @@ impl Help {
             Help::MostWritten =>
                 "How many bytes the files that are written may have in all; 1073741824 if left out",
             Help::ReadAs =>
-                "Form in which the file is printed: text, applesoft or integer for the listing of a program, single for an \
-                    AppleSingle file, shown for text or a listing by the file's type",
+                "Form in which the file is printed: text, applesoft or integer for the listing of a program, single \
+                    for an AppleSingle file, shown for text or a listing by the file's type",
             Help::NewFile => "New file that they are written to, whole or not at all",
             Help::SaveAs =>
                 "Form that the file of --from has: text, applesoft for the listing of a program, single for an \
@@ -137,7 +137,8 @@ impl Help {
             Help::Protect => "Let the header say that the image is not to be written",
             Help::Payload => "New file that the image is written to",
             Help::Path =>
-                "File, or folder of which all files are looked at; '-' is a list of paths on standard input, one a line",
+                "File, or folder of which all files are looked at; '-' is a list of paths on standard input, one a \
+                    line",
             Help::SurveyFormat => "What a line is: lines of words, or json; lines if left out",
             Help::NewFileSystem => "File system of the volume: dos or prodos",
             Help::NewOrder =>
@@ -155,7 +156,8 @@ impl Help {
                 "Image, in the same order, whose system is copied: tracks 0 to 2 of a DOS 3.3 disk, blocks 0 and 1 of \
                     a ProDOS volume",
             Help::HostFolder =>
-                "Folder whose files are saved, each under the name and with the type that its name says, as extract writes it",
+                "Folder whose files are saved, each under the name and with the type that its name says, as extract \
+                    writes it",
             Help::Directory =>
                 "Directory of a ProDOS volume under which the paths of the files begin; the volume's own if left out",
             Help::FilesDate =>
@@ -172,8 +174,8 @@ impl Help {
                 "The name is the stored one in hexadecimal digits, two a byte, as list tells it in JSON; for DOS 3.3 \
                     without the spaces behind it or with them",
             Help::Replace =>
-                "A file that has the name is deleted first, and gives the type and the aux type that the words leave out; \
-                    with --out alone",
+                "A file that has the name is deleted first, and gives the type and the aux type that the words leave \
+                    out; with --out alone",
         }
     }
 }

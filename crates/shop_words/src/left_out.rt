@@ -195,8 +195,8 @@ fn complete(
     Ok(())
 }
 
-// Puts `--other-order` behind the last option, where the words leave it out and the order of the image is a stand-in: it
-// is that one too.
+// Puts `--other-order` behind the last option, where the words leave it out and the order of the image is a stand-in:
+// it is that one too.
 fn complete_other(alloc: Global, words: &mut Vec<String>) -> Result<(), AllocError>
     ensures { OnOk result (map string_bytes words.new.items
         ≡ other_completed (map string_bytes words.old.items)) }
@@ -299,7 +299,8 @@ fn without_auto(mut words: Vec<String>) -> Vec<String>
 
 /// The words without `--auto`, with `auto` for the file system and the order that they leave out,
 /// where they ask for that: by `--auto` beside the words of a command that takes it, or as those of a
-/// command that may leave both out. Where the order is `auto` or `2img`, so is that of another image that they leave out.
+/// command that may leave both out. Where the order is `auto` or `2img`, so is that of another image that they leave
+/// out.
 ///
 /// # Errors
 /// Want of memory.

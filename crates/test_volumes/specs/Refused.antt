@@ -1,4 +1,5 @@
--- Which blocks a handle refuses, by their numbers from 0 in the order in which they are asked, and which allocator has the others.
+-- Which blocks a handle refuses, by their numbers from 0 in the order in which they are asked, and which allocator has
+-- the others.
 use Rattle.std.specs.Prelude.{ℕ, ◌<◌, ◌≤◌}
 use Rattle.test_volumes.specs.declared.refusing.Refusing.{Refusing}
 

@@ -16,7 +16,8 @@ pub record FaultList : Type 0 where
   pub files : List ℕ
 
 -- a part of this file that stands at this place
-pub record StandsAt (format : Meaning) (directory : Directory) (store : List (List ℕ)) (file place : ℕ) (part : Part) : Type 0 where
+pub record StandsAt (format : Meaning) (directory : Directory) (store : List (List ℕ)) (file place : ℕ)
+    (part : Part) : Type 0 where
   pub reached : Reach format directory store part
   pub in_file : part.file ≡ file
   pub stands : part.place ≡ place
@@ -27,17 +28,20 @@ FileFaultAt format directory store file (StorageType place) =
     (file < entries directory) × ((entry_of directory file).place ≡ place) × (root_of directory file ≡ OtherType)
 FileFaultAt format directory store file (OutOfRange place) =
     ((file < entries directory) × ((entry_of directory file).place ≡ place) × (root_of directory file ≡ Wild))
-    ⊎ ((part : Part) × StandsAt format directory store file place part × ((pointer : ℕ) × (link_from format store part pointer ≡ Wild)))
+    ⊎ ((part : Part) × StandsAt format directory store file place part
+    × ((pointer : ℕ) × (link_from format store part pointer ≡ Wild)))
 FileFaultAt format directory store file (InSystem place) =
     (part : Part) × StandsAt format directory store file place part × (is_system directory place ≡ true)
 FileFaultAt format directory store file (Shared place) =
-    (part : Part) × (other : Part) × StandsAt format directory store file place part × Reach format directory store other × (other.place ≡ place) × (part ≢ other)
+    (part : Part) × (other : Part) × StandsAt format directory store file place part
+    × Reach format directory store other × (other.place ≡ place) × (part ≢ other)
 FileFaultAt format directory store file (MarkedFree place) =
     (part : Part) × StandsAt format directory store file place part × (is_free directory place ≡ true)
 FileFaultAt format directory store file fault = ⊥
 
 -- a walk over a file has told these faults beside those before, and each is the file's
-pub record TellsOf (format : Meaning) (directory : Directory) (store : List (List ℕ)) (file : ℕ) (before after : List Fault) : Type 0 where
+pub record TellsOf (format : Meaning) (directory : Directory) (store : List (List ℕ)) (file : ℕ)
+    (before after : List Fault) : Type 0 where
   pub told : List Fault
   pub behind : after ≡ before ++ told
   pub of_file : (fault : Fault) → Contains told fault → FileFaultAt format directory store file fault
@@ -46,4 +50,5 @@ pub record TellsOf (format : Meaning) (directory : Directory) (store : List (Lis
 abbrev pub AreOfFiles : Meaning → List (List ℕ) → FaultList → Type 0
 AreOfFiles format store list =
     ((list.files ≡ []) × ((fault : Fault) → Contains list.faults fault → format.HeaderFaultAt store fault))
-    ⊎ ((directory : Directory) × format.Describes store directory × AllZip (FileFaultAt format directory store) list.files list.faults)
+    ⊎ ((directory : Directory) × format.Describes store directory
+    × AllZip (FileFaultAt format directory store) list.files list.faults)

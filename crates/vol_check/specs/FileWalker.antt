@@ -29,6 +29,7 @@ pub record HasTables {A : Type 0} (device : DeviceState) (walker : FileWalker A)
   pub unit : length walker.unit.items ≡ device.unit_size
 
 -- the volume is accepted, and these are its parts
-pub record IsFaultlessFile (format : Meaning) (directory : Directory) (store : List (List ℕ)) (parts : List Part) : Type 0 where
+pub record IsFaultlessFile (format : Meaning) (directory : Directory) (store : List (List ℕ))
+    (parts : List Part) : Type 0 where
   pub accepted : IsAccepted format directory store
   pub are_parts : IsPartsOf format directory store parts

@@ -25,7 +25,8 @@ IfRefused P (Accepted checked) = Unit {0}
 IfRefused P (Refused volume faults) = P faults
 
 -- faults that are there, each with the file that it is of
-pub record AreFileFaults (format : Meaning) (directory : Directory) (store : List (List ℕ)) (list : FaultList) : Type 0 where
+pub record AreFileFaults (format : Meaning) (directory : Directory) (store : List (List ℕ))
+    (list : FaultList) : Type 0 where
   pub described : format.Describes store directory
   pub are : AreFaults format store list.faults
   pub of_files : AllZip (FileFaultAt format directory store) list.files list.faults

@@ -41,4 +41,5 @@ abbrev pub is_known : List Known → Fault → Bool
 is_known known fault = has_fault (slice_index_or known (place_of fault) none_known) fault
 
 abbrev pub knowing : List Known → Fault → List Known
-knowing known fault = slice_set known (place_of fault) (with_fault (slice_index_or known (place_of fault) none_known) fault)
+knowing known fault = slice_set known (place_of fault)
+    (with_fault (slice_index_or known (place_of fault) none_known) fault)

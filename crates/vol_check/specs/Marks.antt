@@ -9,11 +9,13 @@ use Rattle.vol_check.specs.declared.known.Known.{Known}
 -- each entry of a table is as it was when nothing was met, or one of these items stands at its place
 abbrev pub IsMarkedBy : {T X : Type 0} → T → (X → ℕ) → List X → List T → Type 0
 IsMarkedBy {T} {X} nothing place_of items table =
-    (place : ℕ) → (slice_index_or table place nothing ≡ nothing) ⊎ ((item : X) × Contains items item × (place_of item ≡ place))
+    (place : ℕ) → (slice_index_or table place nothing ≡ nothing)
+    ⊎ ((item : X) × Contains items item × (place_of item ≡ place))
 
--- The tables have an entry for each place. A place is marked as met for a part that was taken up, and a fault is noted for one
--- that was told: nothing else is marked.
-pub record AreOwnMarks (places : ℕ) (parts : List Part) (faults : List Fault) (visited : List Bool) (known : List Known) : Type 0 where
+-- The tables have an entry for each place. A place is marked as met for a part that was taken up, and a fault is noted
+-- for one that was told: nothing else is marked.
+pub record AreOwnMarks (places : ℕ) (parts : List Part) (faults : List Fault) (visited : List Bool)
+    (known : List Known) : Type 0 where
   pub visited_size : length visited ≡ places
   pub known_size : length known ≡ places
   pub met : IsMarkedBy false (λ (part : Part). part.place) parts visited

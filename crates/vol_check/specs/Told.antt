@@ -14,12 +14,18 @@ pub record Told : Type 0 where
   pub lost : List ℕ
 
 abbrev pub told_of : {V A : Type 0} → Checked V A → Told
-told_of checked = record { files = checked.files; parts = checked.parts.items; layout = checked.layout; lost = checked.lost.items }
+told_of checked = record {
+  files = checked.files;
+  parts = checked.parts.items;
+  layout = checked.layout;
+  lost = checked.lost.items;
+}
 
 abbrev pub volume_of : {V A : Type 0} → Checked V A → V
 volume_of checked = checked.volume
 
--- All of it follows from the directory and the parts. The parts stand apart, in the volume, and are those of its entries.
+-- All of it follows from the directory and the parts. The parts stand apart, in the volume, and are those of its
+-- entries.
 pub record IsToldOf (directory : Directory) (told : Told) : Type 0 where
   pub files : told.files ≡ length (files directory)
   pub layout : told.layout ≡ record { at = layout_of directory told.parts; places = length directory.available }

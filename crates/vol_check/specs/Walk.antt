@@ -14,7 +14,8 @@ use Rattle.vol_check.specs.declared.walk.Pending.{Pending}
 use Rattle.vol_check.specs.declared.walk.Pending.TheVariants.{Visit, Tell}
 use Rattle.vol_check.specs.declared.walk.Walk.{Walk}
 
--- the parts so far, what is to do next with the first of it last, the faults so far, which places were met, and which faults of them are known
+-- the parts so far, what is to do next with the first of it last, the faults so far, which places were met, and which
+-- faults of them are known
 pub record Lists : Type 0 where
   pub parts : List Part
   pub pending : List Pending
@@ -23,11 +24,23 @@ pub record Lists : Type 0 where
   pub known : List Known
 
 abbrev pub lists : {A : Type 0} → Walk A → Lists
-lists walk = record { parts = walk.parts.items; pending = walk.pending.items; faults = walk.faults.items; visited = walk.visited.items; known = walk.known.items }
+lists walk = record {
+  parts = walk.parts.items;
+  pending = walk.pending.items;
+  faults = walk.faults.items;
+  visited = walk.visited.items;
+  known = walk.known.items;
+}
 
 -- a walk that has seen nothing
 abbrev pub unseen : ℕ → Lists
-unseen places = record { parts = []; pending = []; faults = []; visited = replicate places false; known = replicate places none_known }
+unseen places = record {
+  parts = [];
+  pending = [];
+  faults = [];
+  visited = replicate places false;
+  known = replicate places none_known;
+}
 
 -- whether a place was met
 abbrev pub is_visited : Lists → ℕ → Bool
@@ -64,8 +77,8 @@ admitted directory part walk =
     else (if is_visited walk part.place then told (Shared part.place) walk
     else taken_up directory part walk)
 
--- What holds of a walk whatever the device tells: each part that was taken up has used a place up, stands there alone, and not on one of the
--- system's; and the parts that wait stand in the volume.
+-- What holds of a walk whatever the device tells: each part that was taken up has used a place up, stands there alone,
+-- and not on one of the system's; and the parts that wait stand in the volume.
 pub record IsSound (format : Meaning) (directory : Directory) (walk : Lists) : Type 0 where
   pub size : length walk.visited ≡ directory.places
   pub used : length walk.parts + count_by not walk.visited ≡ directory.places
@@ -73,7 +86,8 @@ pub record IsSound (format : Meaning) (directory : Directory) (walk : Lists) : T
   pub part_file : (part : Part) → Contains walk.parts part → part.file < entries directory
   pub outside_system : (part : Part) → Contains walk.parts part → is_system directory part.place ≡ false
   pub met : (part : Part) → Contains walk.parts part → is_visited walk part.place ≡ true
-  pub by_part : (place : ℕ) → is_visited walk place ≡ true → (part : Part) × Contains walk.parts part × (part.place ≡ place)
+  pub by_part : (place : ℕ) → is_visited walk place ≡ true
+      → (part : Part) × Contains walk.parts part × (part.place ≡ place)
   pub apart : AllPairs (λ part later. part.place ≢ later.place) walk.parts
   pub waiting_place : (part : Part) → Contains walk.pending (Visit part) → part.place < directory.places
   pub waiting_depth : (part : Part) → Contains walk.pending (Visit part) → format.depth part ≤ length walk.parts
@@ -100,7 +114,8 @@ followed links holder (suc pointer) walk = followed links holder pointer (noted 
 abbrev pub after_visit : Meaning → Directory → Part → List ℕ → Lists → Lists
 after_visit format directory part unit walk =
     if is_admitted directory part walk
-    then followed (format.child directory.places part unit) part.place (format.pointers part) (admitted directory part walk)
+    then followed (format.child directory.places part unit) part.place (format.pointers part)
+    (admitted directory part walk)
     else admitted directory part walk
 
 -- what is next is done

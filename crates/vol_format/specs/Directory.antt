@@ -3,7 +3,8 @@ use Rattle.std.specs.Prelude.{◌≡◌, ℕ, ◌/◌, Bool, true, false, not, L
 use Rattle.vol_format.specs.declared.link.Link.{Link}
 use Rattle.vol_format.specs.declared.link.Link.TheVariants.{Null, Directory as ToDirectory, To}
 
--- An entry in use: the unit that has it and its slot there, the path of its file, its bytes without those of its pointer, and what it points to.
+-- An entry in use: the unit that has it and its slot there, the path of its file, its bytes without those of its
+-- pointer, and what it points to.
 pub record Listed : Type 0 where
   pub place : ℕ
   pub slot : ℕ
@@ -11,9 +12,9 @@ pub record Listed : Type 0 where
   pub bytes : List ℕ
   pub root : Link
 
--- How many places the volume has; its name, for DOS 3.3 the one byte of its number; its entries in use, in directory order; for each place whether it is one of the system's and
--- whether it is marked free; the available places, in their order; the places of the map's units, and how many
--- places each unit of the map has.
+-- How many places the volume has; its name, for DOS 3.3 the one byte of its number; its entries in use, in directory
+-- order; for each place whether it is one of the system's and whether it is marked free; the available places, in their
+-- order; the places of the map's units, and how many places each unit of the map has.
 pub record Directory : Type 0 where
   pub places : ℕ
   pub name : List ℕ
@@ -68,7 +69,10 @@ unplaced link = link
 
 -- a directory without the places that its entries point to and without what is marked free
 abbrev pub frame_of : Directory → Directory
-frame_of directory = record directory { listed = map (λ (entry : Listed). record entry { root = unplaced entry.root }) directory.listed; free = [] }
+frame_of directory = record directory {
+  listed = map (λ (entry : Listed). record entry { root = unplaced entry.root }) directory.listed;
+  free = [];
+}
 
 -- two directories that differ in these alone
 abbrev pub IsSameFrame : Directory → Directory → Type 0
@@ -76,7 +80,9 @@ IsSameFrame before after = frame_of after ≡ frame_of before
 
 -- a directory with one entry pointing to something else
 abbrev pub turned : Directory → ℕ → Link → Directory
-turned directory file root = record directory { listed = slice_set directory.listed file (record (entry_of directory file) { root = root }) }
+turned directory file root = record directory {
+  listed = slice_set directory.listed file (record (entry_of directory file) { root = root });
+}
 
 -- a directory with one place marked free or used
 abbrev pub remapped : Directory → ℕ → Bool → Directory

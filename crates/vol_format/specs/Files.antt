@@ -14,15 +14,16 @@ pub record Stored : Type 0 where
   pub number : ℕ
   pub unit : List ℕ
 
--- A file: its path, the bytes of its entry without those of its pointer, and its body, as the units that are stored of it. Units that are not stored, as the holes of
--- a sparse file, are not in the list.
+-- A file: its path, the bytes of its entry without those of its pointer, and its body, as the units that are stored of
+-- it. Units that are not stored, as the holes of a sparse file, are not in the list.
 pub record File : Type 0 where
   pub path : List ℕ
   pub bytes : List ℕ
   pub body : List Stored
 
 -- the file of an entry has a part of its body of this number, and this unit stands there
-pub record IsStored (format : Meaning) (directory : Directory) (store : List (List ℕ)) (entry : ℕ) (stored : Stored) : Type 0 where
+pub record IsStored (format : Meaning) (directory : Directory) (store : List (List ℕ)) (entry : ℕ)
+    (stored : Stored) : Type 0 where
   pub part : Part
   pub reached : Reach format directory store part
   pub in_file : part.file ≡ entry
@@ -31,15 +32,18 @@ pub record IsStored (format : Meaning) (directory : Directory) (store : List (Li
   pub stands : unit_at store part.place ≡ stored.unit
 
 -- the file of an entry; the units of its body stand in rising order of their numbers
-pub record IsFile (format : Meaning) (directory : Directory) (store : List (List ℕ)) (entry : ℕ) (file : File) : Type 0 where
+pub record IsFile (format : Meaning) (directory : Directory) (store : List (List ℕ)) (entry : ℕ)
+    (file : File) : Type 0 where
   pub path : file.path ≡ (entry_of directory entry).path
   pub bytes : file.bytes ≡ (entry_of directory entry).bytes
   pub members : (stored : Stored) → Contains file.body stored ↔ IsStored format directory store entry stored
   pub rising : AllPairs (λ (stored later : Stored). stored.number < later.number) file.body
 
--- The numbers of the entries that are files', in directory order. Entries are counted with those of directories among them.
+-- The numbers of the entries that are files', in directory order. Entries are counted with those of directories among
+-- them.
 abbrev pub file_numbers : Directory → List ℕ
-file_numbers directory = filter (λ entry. not (is_directory (entry_of directory entry))) (range_with_len 0 (entries directory))
+file_numbers directory = filter (λ entry. not (is_directory (entry_of directory entry)))
+    (range_with_len 0 (entries directory))
 
 -- the files of the entries that are files', one for each and in directory order
 abbrev pub IsFiles : Meaning → Directory → List (List ℕ) → List File → Type 0
@@ -51,8 +55,8 @@ pub record HasFiles (format : Meaning) (store : List (List ℕ)) (files : List F
   pub accepted : IsAccepted format directory store
   pub are : IsFiles format directory store files
 
--- The files of two stores have the same parts with the same contents, and what the directories say differs at most in where entries point to and in what is
--- marked free.
+-- The files of two stores have the same parts with the same contents, and what the directories say differs at most in
+-- where entries point to and in what is marked free.
 abbrev pub KeepsFiles : Meaning → List (List ℕ) → List (List ℕ) → Type 0
 KeepsFiles format old new =
     (before after : Directory) → format.Describes old before → format.Describes new after

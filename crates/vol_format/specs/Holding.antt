@@ -16,7 +16,8 @@ pub record IsHeldByEntry (directory : Directory) (part : Part) (holder : Holder)
   pub slot : holder.slot ≡ (entry_of directory part.file).slot
 
 -- a pointer in the unit of a part names the part, and stands there
-pub record IsHeldByUnit (format : Meaning) (directory : Directory) (store : List (List ℕ)) (part : Part) (holder : Holder) : Type 0 where
+pub record IsHeldByUnit (format : Meaning) (directory : Directory) (store : List (List ℕ)) (part : Part)
+    (holder : Holder) : Type 0 where
   pub parent : Part
   pub entry : holder.entry ≡ false
   pub reached : Reach format directory store parent
@@ -24,8 +25,10 @@ pub record IsHeldByUnit (format : Meaning) (directory : Directory) (store : List
   pub place : holder.place ≡ parent.place
 
 abbrev pub IsHolder : Meaning → Directory → List (List ℕ) → Part → Holder → Type 0
-IsHolder format directory store part holder = IsHeldByEntry directory part holder ⊎ IsHeldByUnit format directory store part holder
+IsHolder format directory store part holder =
+    IsHeldByEntry directory part holder ⊎ IsHeldByUnit format directory store part holder
 
 -- the unit with the pointer there naming a place
 abbrev pub with_slot : Meaning → List ℕ → Holder → ℕ → List ℕ
-with_slot format unit holder place = if holder.entry then format.with_root unit holder.slot place else format.with_pointer unit holder.slot place
+with_slot format unit holder place =
+    if holder.entry then format.with_root unit holder.slot place else format.with_pointer unit holder.slot place

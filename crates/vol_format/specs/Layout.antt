@@ -8,11 +8,13 @@ use Rattle.vol_format.specs.Reach.{Reach, IsPartsOf}
 use Rattle.vol_format.specs.Standing.{layout_of}
 
 -- the parts of the file of an entry, in order
-pub record IsPartsOfFile (format : Meaning) (directory : Directory) (store : List (List ℕ)) (entry : ℕ) (parts : List Part) : Type 0 where
+pub record IsPartsOfFile (format : Meaning) (directory : Directory) (store : List (List ℕ)) (entry : ℕ)
+    (parts : List Part) : Type 0 where
   pub members : (part : Part) → Contains parts part ↔ (Reach format directory store part × (part.file ≡ entry))
   pub ordered : AllPairs (λ part later. format.rank part < format.rank later) parts
 
--- A store is a volume, and this is its layout: for each part of its files, in order, the number of its place among the available ones.
+-- A store is a volume, and this is its layout: for each part of its files, in order, the number of its place among the
+-- available ones.
 pub record HasLayout (format : Meaning) (store : List (List ℕ)) (at : List ℕ) : Type 0 where
   pub directory : Directory
   pub accepted : IsAccepted format directory store

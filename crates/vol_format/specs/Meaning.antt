@@ -9,17 +9,17 @@ use Rattle.vol_format.specs.Directory.{Directory}
 -- The size of a unit; which numbers of places it takes; what the header, the directory and the map of a store
 -- say, and what is wrong with one of which they say nothing.
 --
--- `pointers part` is how many pointers the unit of a part has, and `child places part unit i` what pointer i of that unit names on a
--- volume of so many places. `rank` is a part's place in the order of its file's parts, `Ends part r` that the part and all below it have ranks less than r, and
--- `depth` how many units of the part's kind lead to it.
+-- `pointers part` is how many pointers the unit of a part has, and `child places part unit i` what pointer i of that
+-- unit names on a volume of so many places. `rank` is a part's place in the order of its file's parts, `Ends part r`
+-- that the part and all below it have ranks less than r, and `depth` how many units of the part's kind lead to it.
 --
 -- `CanName places place`: a pointer can name the place. `HasSlot entry slot`: a directory unit has an entry of that
--- number, or the unit of a part a pointer. `with_pointer unit i place` is the unit of a part with pointer i naming the place,
--- `with_root unit slot place` a directory unit with the entry of a slot pointing to it, `with_free unit place free` a unit of the
--- map with the place marked free or used.
+-- number, or the unit of a part a pointer. `with_pointer unit i place` is the unit of a part with pointer i naming the
+-- place, `with_root unit slot place` a directory unit with the entry of a slot pointing to it, `with_free unit place
+-- free` a unit of the map with the place marked free or used.
 --
--- `content part unit` is the unit of a part with its pointers to parts put to 0, and `system_content directory place unit` a unit of the system with the
--- entries' pointers to parts and the marks of available places put to 0.
+-- `content part unit` is the unit of a part with its pointers to parts put to 0, and `system_content directory place
+-- unit` a unit of the system with the entries' pointers to parts and the marks of available places put to 0.
 pub record Meaning : Type 1 where
   pub unit_size : ℕ
   pub Takes : ℕ → Type 0

@@ -16,15 +16,18 @@ pub data Reach (format : Meaning) (directory : Directory) (store : List (List �
 
 -- the order of parts: files in directory order, within a file by rank
 abbrev pub Before : Meaning → Part → Part → Type 0
-Before format part later = (part.file < later.file) ⊎ ((part.file ≡ later.file) × (format.rank part < format.rank later))
+Before format part later = (part.file < later.file)
+    ⊎ ((part.file ≡ later.file) × (format.rank part < format.rank later))
 
 -- the parts of the files, in order
-pub record IsPartsOf (format : Meaning) (directory : Directory) (store : List (List ℕ)) (parts : List Part) : Type 0 where
+pub record IsPartsOf (format : Meaning) (directory : Directory) (store : List (List ℕ))
+    (parts : List Part) : Type 0 where
   pub members : (part : Part) → Contains parts part ↔ Reach format directory store part
   pub ordered : AllPairs (Before format) parts
 
 -- a file has a part of this kind and number, and its unit has this content
-pub record HasContent (format : Meaning) (directory : Directory) (store : List (List ℕ)) (file : ℕ) (kind : PartKind) (number : ℕ) (content : List ℕ) : Type 0 where
+pub record HasContent (format : Meaning) (directory : Directory) (store : List (List ℕ)) (file : ℕ) (kind : PartKind)
+    (number : ℕ) (content : List ℕ) : Type 0 where
   pub part : Part
   pub reached : Reach format directory store part
   pub in_file : part.file ≡ file
@@ -35,4 +38,5 @@ pub record HasContent (format : Meaning) (directory : Directory) (store : List (
 -- the files have the same parts with the same contents
 abbrev pub SameContents : Meaning → Directory → Directory → List (List ℕ) → List (List ℕ) → Type 0
 SameContents format before after old new =
-    (file : ℕ) (kind : PartKind) (number : ℕ) (content : List ℕ) → HasContent format before old file kind number content ↔ HasContent format after new file kind number content
+    (file : ℕ) (kind : PartKind) (number : ℕ) (content : List ℕ) → HasContent format before old file kind number content
+    ↔ HasContent format after new file kind number content

@@ -24,7 +24,8 @@ layout_of directory parts = map (λ (part : Part). index_in directory.available 
 -- the available places that are marked used and at which none of these parts stands, in their order
 abbrev pub lost_places : Directory → List Part → List ℕ
 lost_places directory parts =
-    filter (λ place. not (is_free directory place) && not (list_any (λ (part : Part). part.place == place) parts)) directory.available
+    filter (λ place. not (is_free directory place) && not (list_any (λ (part : Part). part.place == place) parts))
+    directory.available
 
 -- a place that is available, marked used and no part's
 pub record IsLost (format : Meaning) (directory : Directory) (store : List (List ℕ)) (place : ℕ) : Type 0 where
@@ -37,12 +38,15 @@ no_part = record { file = 0; kind = Body; number = 0; place = 0 }
 
 -- part k of these where it stands in a layout over the available places
 abbrev pub part_now : List Part → List ℕ → List ℕ → ℕ → Part
-part_now parts available layout k = at_place (slice_index_or parts k no_part) (slice_index available (slice_index layout k))
+part_now parts available layout k =
+    at_place (slice_index_or parts k no_part) (slice_index available (slice_index layout k))
 
 -- the volume has these parts, in order, each where the layout says
-pub record Stands (format : Meaning) (directory : Directory) (store : List (List ℕ)) (parts : List Part) (layout : List ℕ) : Type 0 where
+pub record Stands (format : Meaning) (directory : Directory) (store : List (List ℕ)) (parts : List Part)
+    (layout : List ℕ) : Type 0 where
   pub ordered : AllPairs (Before format) parts
   pub size : length layout ≡ length parts
   pub is_layout : IsLayout layout (length directory.available)
   pub reached : (k : ℕ) → k < length parts → Reach format directory store (part_now parts directory.available layout k)
-  pub all : (part : Part) → Reach format directory store part → (k : ℕ) × (k < length parts) × (part ≡ part_now parts directory.available layout k)
+  pub all : (part : Part) → Reach format directory store part
+      → (k : ℕ) × (k < length parts) × (part ≡ part_now parts directory.available layout k)

@@ -42,14 +42,17 @@ built_link format places planned k i = format.child places (part_of planned k) (
 abbrev pub IsPlanned : List Planned → Part → Type 0
 IsPlanned planned part = (k : ℕ) × (k < length planned) × (part ≡ part_of planned k)
 
--- No two parts of the plan have one place. The entry names a part of the plan, at its place there, or nothing, and so does each pointer of each unit built; each part is named by the entry or by a unit before it.
+-- No two parts of the plan have one place. The entry names a part of the plan, at its place there, or nothing, and so
+-- does each pointer of each unit built; each part is named by the entry or by a unit before it.
 pub record IsBuilt (format : Meaning) (places : ℕ) (planned : List Planned) (root : Link) : Type 0 where
   pub once : (j k : ℕ) → j < k → k < length planned → place_of planned j ≢ place_of planned k
   pub entry : (root ≡ Null) ⊎ ((k : ℕ) × (k < length planned) × (root ≡ To (part_of planned k)))
   pub closed : (k i : ℕ) → k < length planned → i < format.pointers (part_of planned k)
-      → (built_link format places planned k i ≡ Null) ⊎ ((m : ℕ) × (m < length planned) × (built_link format places planned k i ≡ To (part_of planned m)))
+      → (built_link format places planned k i ≡ Null)
+      ⊎ ((m : ℕ) × (m < length planned) × (built_link format places planned k i ≡ To (part_of planned m)))
   pub led : (k : ℕ) → k < length planned
-      → (root ≡ To (part_of planned k)) ⊎ ((j i : ℕ) × (j < k) × (built_link format places planned j i ≡ To (part_of planned k)))
+      → (root ≡ To (part_of planned k))
+      ⊎ ((j i : ℕ) × (j < k) × (built_link format places planned j i ≡ To (part_of planned k)))
 
 -- the store has each unit of the plan at its part's place
 abbrev pub AreHeld : List (List ℕ) → List Planned → Type 0
@@ -57,7 +60,8 @@ AreHeld store planned = (k : ℕ) → k < length planned → unit_at store (plac
 
 -- the places of a plan are lost
 abbrev pub AreLost : Meaning → Directory → List (List ℕ) → List Planned → Type 0
-AreLost format directory store planned = (k : ℕ) → k < length planned → IsLost format directory store (place_of planned k)
+AreLost format directory store planned =
+    (k : ℕ) → k < length planned → IsLost format directory store (place_of planned k)
 
 -- what the entry leads to is the plan, each part at its place, and nothing else
 abbrev pub ArePlanned : Meaning → List (List ℕ) → List Planned → Link → Type 0
@@ -66,7 +70,8 @@ ArePlanned format store planned root = (part : Part) → PartOf format store roo
 -- a unit of the body, of a plan
 abbrev pub HasPlannedUnit : List Planned → Stored → Type 0
 HasPlannedUnit planned stored =
-    (k : ℕ) × (k < length planned) × (part_of planned k).kind ≡ Body × ((part_of planned k).number ≡ stored.number) × (unit_of planned k ≡ stored.unit)
+    (k : ℕ) × (k < length planned) × (part_of planned k).kind ≡ Body × ((part_of planned k).number ≡ stored.number)
+    × (unit_of planned k ≡ stored.unit)
 
 -- the units of a plan's body, in rising order of their numbers
 pub record IsBodyOf (planned : List Planned) (body : List Stored) : Type 0 where
@@ -86,7 +91,8 @@ body_of planned = map stored_of (filter (λ (plan : Planned). is_body_kind plan.
 
 -- the numbers of the body rise in a plan
 abbrev pub IsRisingPlan : List Planned → Type 0
-IsRisingPlan planned = (j k : ℕ) → j < k → k < length planned → (part_of planned j).kind ≡ Body → (part_of planned k).kind ≡ Body
+IsRisingPlan planned = (j k : ℕ) → j < k → k < length planned → (part_of planned j).kind ≡ Body
+    → (part_of planned k).kind ≡ Body
     → (part_of planned j).number < (part_of planned k).number
 
 -- no two parts of a plan have one place
@@ -104,7 +110,8 @@ plan_in_file planned file = map (planned_in file) planned
 pub record HasPlanWritten (planned : List Planned) (old new : List (List ℕ)) : Type 0 where
   pub size : length new ≡ length old
   pub held : AreHeld new planned
-  pub others : (place : ℕ) → ((k : ℕ) → k < length planned → place ≢ place_of planned k) → unit_at new place ≡ unit_at old place
+  pub others : (place : ℕ) → ((k : ℕ) → k < length planned → place ≢ place_of planned k)
+      → unit_at new place ≡ unit_at old place
 
 -- a store with the units of a plan written, the last of the plan first
 abbrev pub written : List (List ℕ) → List Planned → List (List ℕ)
@@ -112,7 +119,8 @@ written store [] = store
 written store (plan ∷ planned) = slice_set (written store planned) plan.part.place plan.unit
 
 -- The units of a plan stand at lost places, the entry leads to them, and this is the file of the entry.
-pub record IsPlannedFile (format : Meaning) (directory : Directory) (store : List (List ℕ)) (planned : List Planned) (entry : Listed) (file : File) : Type 0 where
+pub record IsPlannedFile (format : Meaning) (directory : Directory) (store : List (List ℕ)) (planned : List Planned)
+    (entry : Listed) (file : File) : Type 0 where
   pub lost : AreLost format directory store planned
   pub held : AreHeld store planned
   pub built : IsBuilt format (length store) planned entry.root

@@ -1,5 +1,5 @@
--- The writes that delete a file: its entry is erased, then its places are marked free (Beneath Apple DOS, chapter 4; ProDOS 8 Technical Reference Manual,
--- chapter 4 and appendix B).
+-- The writes that delete a file: its entry is erased, then its places are marked free (Beneath Apple DOS, chapter 4;
+-- ProDOS 8 Technical Reference Manual, chapter 4 and appendix B).
 use Rattle.std.specs.Prelude.{◌≡◌, ◌≢◌, ◌<◌, ◌≤◌, ℕ, true, List, ◌++◌, length, map, take, All, Contains}
 use Rattle.a2_device.specs.declared.part.Part.{Part}
 use Rattle.vol_format.specs.Directory.{Directory, entries, entry_of, root_of, map_place}
@@ -20,15 +20,18 @@ abbrev pub release_write : Meaning → List (List ℕ) → Marking → Write
 release_write format = marking_write format true
 
 -- The mark of a place of the file that a link leads to stands in this unit of the map.
-pub record IsOwnPlace (format : Meaning) (directory few : Directory) (file : ℕ) (store : List (List ℕ)) (at place : ℕ) : Type 0 where
+pub record IsOwnPlace (format : Meaning) (directory few : Directory) (file : ℕ) (store : List (List ℕ))
+    (at place : ℕ) : Type 0 where
   pub inside : place < few.places
   pub here : map_place few place ≡ at
   pub own : IsTaken format store (root_of directory file) place
 
--- The writes that delete the file of an entry. Those to the directory come first: from the first of them on the store has the directory without
--- that entry, `few`, and no unit outside the system is written. Then come the units of the map, in rising order and each once, none of them a unit that was written
--- before, and none without a place, in which the places of the file are marked free: these places alone, all of them.
-pub record IsDeletion (format : Meaning) (directory : Directory) (file : ℕ) (store : List (List ℕ)) (writes : List Write) : Type 0 where
+-- The writes that delete the file of an entry. Those to the directory come first: from the first of them on the store
+-- has the directory without that entry, `few`, and no unit outside the system is written. Then come the units of the
+-- map, in rising order and each once, none of them a unit that was written before, and none without a place, in which
+-- the places of the file are marked free: these places alone, all of them.
+pub record IsDeletion (format : Meaning) (directory : Directory) (file : ℕ) (store : List (List ℕ))
+    (writes : List Write) : Type 0 where
   pub few : Directory
   pub takes : format.Takes few.places
   pub within : file ≤ entries few

@@ -1,4 +1,5 @@
--- What a format must meet for its files to be numbered anew: what a unit means does not depend on the number of its file.
+-- What a format must meet for its files to be numbered anew: what a unit means does not depend on the number of its
+-- file.
 use Rattle.std.specs.Prelude.{◌≡◌, ℕ, List}
 use Rattle.a2_device.specs.declared.part.Part.{Part}
 use Rattle.vol_format.specs.Meaning.{Meaning}

@@ -17,7 +17,8 @@ pub record HasUnit (format : Meaning) (store : List (List ℕ)) (root : Link) (s
   pub numbered : part.number ≡ stored.number
   pub stands : unit_at store part.place ≡ stored.unit
 
--- The file of an entry, from what the entry says and what it points to: the number of the entry is not asked for. It is the file that `vol_format` has by that number.
+-- The file of an entry, from what the entry says and what it points to: the number of the entry is not asked for. It is
+-- the file that `vol_format` has by that number.
 pub record IsFileOf (format : Meaning) (store : List (List ℕ)) (entry : Listed) (file : File) : Type 0 where
   pub path : file.path ≡ entry.path
   pub bytes : file.bytes ≡ entry.bytes

@@ -1,4 +1,5 @@
--- A directory with one entry more, after which the files from there on have numbers one higher; or with one entry rewritten.
+-- A directory with one entry more, after which the files from there on have numbers one higher; or with one entry
+-- rewritten.
 use Rattle.std.specs.Prelude.{ℕ, ◌+◌, ◌==◌, not, length, suc, zero, nat_lt, if◌then◌else◌, List, [], ◌∷◌, map, filter, take, slice_set}
 use Rattle.a2_device.specs.declared.part.Part.{Part}
 use Rattle.vol_format.specs.declared.link.Link.{Link}
@@ -46,7 +47,9 @@ inserted directory at entry = record directory { listed = insert_at at entry (ma
 -- a directory with one entry under this path and with these bytes, pointing to what it pointed to
 abbrev pub rewritten : Directory → ℕ → List ℕ → List ℕ → Directory
 rewritten directory file path bytes =
-    record directory { listed = slice_set directory.listed file (record (entry_of directory file) { path = path; bytes = bytes }) }
+    record directory {
+      listed = slice_set directory.listed file (record (entry_of directory file) { path = path; bytes = bytes });
+    }
 
 -- how many of the entries before an index are files'
 abbrev pub files_before : Directory → ℕ → ℕ

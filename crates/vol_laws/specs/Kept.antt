@@ -11,8 +11,8 @@ use Rattle.vol_format.specs.Reach.{Reach, SameContents}
 abbrev pub IsUnreached : Meaning → Directory → List (List ℕ) → ℕ → Type 0
 IsUnreached format directory store place = (part : Part) → Reach format directory store part → part.place ≢ place
 
--- The volume is accepted; its files have the same parts at the same places, with the same units and so the same contents; and the
--- directories differ at most in the marks and in the places that entries point to.
+-- The volume is accepted; its files have the same parts at the same places, with the same units and so the same
+-- contents; and the directories differ at most in the marks and in the places that entries point to.
 pub record IsKept (format : Meaning) (before after : Directory) (old new : List (List ℕ)) : Type 0 where
   pub frame : IsSameFrame before after
   pub accepted : IsAccepted format after new

@@ -6,7 +6,8 @@ use Rattle.vol_laws.specs.Kept.{IsUnreached}
 use Rattle.vol_laws.specs.declared.mark.Mark.{Mark}
 
 -- The unit of the map at `at` has the mark of the place, and no part stands there if it is to be marked free.
-pub record CanMark (format : Meaning) (directory : Directory) (store : List (List ℕ)) (at : ℕ) (mark : Mark) : Type 0 where
+pub record CanMark (format : Meaning) (directory : Directory) (store : List (List ℕ)) (at : ℕ)
+    (mark : Mark) : Type 0 where
   pub inside : mark.place < directory.places
   pub here : map_place directory mark.place ≡ at
   pub unreached : mark.free ≡ true → IsUnreached format directory store mark.place

@@ -1,4 +1,5 @@
--- The writes of the map: places of one of its units that are marked alike, in one write (Beneath Apple DOS, chapter 4; ProDOS 8 Technical Reference Manual, appendix B).
+-- The writes of the map: places of one of its units that are marked alike, in one write (Beneath Apple DOS, chapter 4;
+-- ProDOS 8 Technical Reference Manual, appendix B).
 use Rattle.std.specs.Prelude.{ℕ, Bool, List, [], ◌∷◌, ◌++◌, map, slice_index_or}
 use Rattle.a2_device.specs.Device.{unit_at}
 use Rattle.vol_format.specs.Meaning.{Meaning}

@@ -18,7 +18,8 @@ moved part place other = if other.place == part.place then at_place other place 
 
 -- A part can move by one write: the pointer to it stands at the holder, in a whole unit of the volume, and the place is
 -- available, marked used and no part's, and has a copy of the part's unit.
-pub record IsReady (format : Meaning) (directory : Directory) (store : List (List ℕ)) (part : Part) (holder : Holder) (place : ℕ) : Type 0 where
+pub record IsReady (format : Meaning) (directory : Directory) (store : List (List ℕ)) (part : Part) (holder : Holder)
+    (place : ℕ) : Type 0 where
   pub held : IsHolder format directory store part holder
   pub inside : holder.place < length store
   pub whole : length (unit_at store holder.place) ≡ format.unit_size
@@ -29,17 +30,21 @@ pub record IsReady (format : Meaning) (directory : Directory) (store : List (Lis
 
 -- the store with the pointer there naming the place, and its directory: another where the pointer is an entry's
 abbrev pub pointed_store : Meaning → List (List ℕ) → Holder → ℕ → List (List ℕ)
-pointed_store format store holder place = slice_set store holder.place (with_slot format (unit_at store holder.place) holder place)
+pointed_store format store holder place =
+    slice_set store holder.place (with_slot format (unit_at store holder.place) holder place)
 
 abbrev pub pointed : Directory → Part → Holder → ℕ → Directory
-pointed directory part holder place = if holder.entry then turned directory part.file (To (at_place part place)) else directory
+pointed directory part holder place =
+    if holder.entry then turned directory part.file (To (at_place part place)) else directory
 
--- The volume is accepted; its files have the same parts with the same contents, each where it stood but for the one that has
--- moved; and the marks are the same.
-pub record HasMoved (format : Meaning) (before after : Directory) (part : Part) (place : ℕ) (old new : List (List ℕ)) : Type 0 where
+-- The volume is accepted; its files have the same parts with the same contents, each where it stood but for the one
+-- that has moved; and the marks are the same.
+pub record HasMoved (format : Meaning) (before after : Directory) (part : Part) (place : ℕ)
+    (old new : List (List ℕ)) : Type 0 where
   pub frame : IsSameFrame before after
   pub free : after.free ≡ before.free
   pub accepted : IsAccepted format after new
   pub keeps : (other : Part) → Reach format before old other → Reach format after new (moved part place other)
-  pub adds_none : (now : Part) → Reach format after new now → (other : Part) × Reach format before old other × (now ≡ moved part place other)
+  pub adds_none : (now : Part) → Reach format after new now
+      → (other : Part) × Reach format before old other × (now ≡ moved part place other)
   pub contents : SameContents format before after old new

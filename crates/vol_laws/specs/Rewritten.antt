@@ -8,7 +8,8 @@ use Rattle.vol_format.specs.Meaning.{Meaning}
 use Rattle.vol_format.specs.Reach.{Reach, SameContents}
 use Rattle.vol_format.specs.Standing.{IsLost}
 
--- The volume is accepted; its files have the same parts at the same places, with the same units and so the same contents; and the same places are lost.
+-- The volume is accepted; its files have the same parts at the same places, with the same units and so the same
+-- contents; and the same places are lost.
 pub record HasRewritten (format : Meaning) (before after : Directory) (old new : List (List ℕ)) : Type 0 where
   pub accepted : IsAccepted format after new
   pub parts : (part : Part) → Reach format before old part ↔ Reach format after new part

@@ -1,5 +1,5 @@
--- The writes that save a file: its units to free places, then the marks of these places, then its entry (Beneath Apple DOS, chapter 4; ProDOS 8 Technical
--- Reference Manual, chapter 4 and appendix B).
+-- The writes that save a file: its units to free places, then the marks of these places, then its entry (Beneath Apple
+-- DOS, chapter 4; ProDOS 8 Technical Reference Manual, chapter 4 and appendix B).
 use Rattle.std.specs.Prelude.{◌≡◌, ◌<◌, ◌≤◌, ℕ, true, false, List, ◌++◌, length, map, take, All, Contains}
 use Rattle.vol_format.specs.Directory.{Directory, Listed, entries, is_free, map_place}
 use Rattle.vol_format.specs.Meaning.{Meaning}
@@ -34,21 +34,27 @@ abbrev pub with_units : List (List ℕ) → List Planned → List (List ℕ)
 with_units store planned = store_after (map unit_write planned) store
 
 abbrev pub with_places : Meaning → List (List ℕ) → List Planned → List Marking → List (List ℕ)
-with_places format store planned markings = store_after (map (marking_write format false store) markings) (with_units store planned)
+with_places format store planned markings =
+    store_after (map (marking_write format false store) markings) (with_units store planned)
 
--- What the units of a plan and the marks of its places need. The places are new. The units of the map come in rising order, each once and none without a place, and the places of the
--- plan are marked in them: these places alone, and all of them.
+-- What the units of a plan and the marks of its places need. The places are new. The units of the map come in rising
+-- order, each once and none without a place, and the places of the plan are marked in them: these places alone, and all
+-- of them.
 pub record IsPlacing (few : Directory) (planned : List Planned) (markings : List Marking) : Type 0 where
   pub new : (k : ℕ) → k < length planned → IsNewPlace few (place_of planned k)
   pub rising : (j k : ℕ) → j < k → k < length markings → (marking_of markings j).at < (marking_of markings k).at
-  pub own : (k : ℕ) → k < length markings → All (IsPlannedPlace few planned (marking_of markings k).at) (marking_of markings k).places
+  pub own : (k : ℕ) → k < length markings
+      → All (IsPlannedPlace few planned (marking_of markings k).at) (marking_of markings k).places
   pub some : (k : ℕ) → k < length markings → 0 < length (marking_of markings k).places
-  pub each : (j : ℕ) → j < length planned → (k : ℕ) × (k < length markings) × Contains (marking_of markings k).places (place_of planned j)
+  pub each : (j : ℕ) → j < length planned
+      → (k : ℕ) × (k < length markings) × Contains (marking_of markings k).places (place_of planned j)
 
--- The writes that save a file as entry number `at` of a directory. The units of the plan come first, each to its place, then the units of the map in which these places are marked
--- used. Then come those to the directory: from the first of them on the store has the directory with the entry, which leads to the plan, and no unit outside the
--- system is written.
-pub record IsSaving (format : Meaning) (few : Directory) (at : ℕ) (entry : Listed) (planned : List Planned) (store : List (List ℕ)) (writes : List Write) : Type 0 where
+-- The writes that save a file as entry number `at` of a directory. The units of the plan come first, each to its place,
+-- then the units of the map in which these places are marked used. Then come those to the directory: from the first of
+-- them on the store has the directory with the entry, which leads to the plan, and no unit outside the system is
+-- written.
+pub record IsSaving (format : Meaning) (few : Directory) (at : ℕ) (entry : Listed) (planned : List Planned)
+    (store : List (List ℕ)) (writes : List Write) : Type 0 where
   pub within : at ≤ entries few
   pub built : IsBuilt format (length store) planned entry.root
   pub markings : List Marking
@@ -57,6 +63,8 @@ pub record IsSaving (format : Meaning) (few : Directory) (at : ℕ) (entry : Lis
   pub are : writes ≡ map unit_write planned ++ (map (marking_write format false store) markings ++ system)
   pub enters : 0 < length system
   pub described : (n : ℕ) → 0 < n → n ≤ length system
-      → format.Describes (store_after (take n system) (with_places format store planned markings)) (inserted (marked few (all_marks false markings)) at entry)
+      → format.Describes (store_after (take n system) (with_places format store planned markings))
+      (inserted (marked few (all_marks false markings)) at entry)
   pub rest : (n : ℕ) → 0 < n → n ≤ length system
-      → HasSameRest few (with_places format store planned markings) (store_after (take n system) (with_places format store planned markings))
+      → HasSameRest few (with_places format store planned markings)
+      (store_after (take n system) (with_places format store planned markings))

@@ -1,5 +1,6 @@
 -- Layouts of parts over places, and the parts that do not stand where they belong.
--- The parts of a layout c have the numbers 0, 1, .., and c has the place of each. A part belongs at the place of its own number.
+-- The parts of a layout c have the numbers 0, 1, .., and c has the place of each. A part belongs at the place of its
+-- own number.
 use Rattle.std.specs.Prelude.{◌≡◌, ◌≢◌, ℕ, ◌<◌, ◌≤◌, ◌==◌, not, List, length, slice_index, All, AllPairs}
 use Rattle.std.specs.List.{filter, list_any, range_with_len}
 

@@ -30,12 +30,15 @@ abbrev pub IsPlan : List ℕ → ℕ → List Move → Type 0
 IsPlan c places [] = Unit {0}
 IsPlan c places (move ∷ moves) = IsLegal c places move × IsPlan (moved c move) places moves
 
--- how many of these moves go elsewhere than into the place that the move before them left, where the move before the first left `left`
+-- how many of these moves go elsewhere than into the place that the move before them left, where the move before the
+-- first left `left`
 abbrev pub starts_after : ℕ → List ℕ → List Move → ℕ
 starts_after left c [] = 0
-starts_after left c (move ∷ moves) = (if move.to == left then 0 else 1) + starts_after (slice_index c move.part) (moved c move) moves
+starts_after left c (move ∷ moves) =
+    (if move.to == left then 0 else 1) + starts_after (slice_index c move.part) (moved c move) moves
 
--- how many moves do not follow on: the first, and each that goes elsewhere than into the place that the move before it left
+-- how many moves do not follow on: the first, and each that goes elsewhere than into the place that the move before it
+-- left
 abbrev pub starts : List ℕ → List Move → ℕ
 starts c [] = 0
 starts c (move ∷ moves) = 1 + starts_after (slice_index c move.part) (moved c move) moves

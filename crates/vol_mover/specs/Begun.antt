@@ -13,13 +13,17 @@ use Rattle.vol_mover.specs.Tasks.{Course, at_first, moves_of}
 use Rattle.vol_mover.specs.Writes.{writes_of}
 use Rattle.vol_mover.specs.Present.{Present, IsSession}
 
--- How many writes bring the parts of a layout home and mark the lost places free. Where some part is misplaced: two a move, one before each hole run, or before the
--- rings where there is no hole, and one at the end; where the map has several units, at most two for one there, and for the first at most one a unit. Where none is: at most
--- one a unit of the map, and none where no place is lost.
+-- How many writes bring the parts of a layout home and mark the lost places free. Where some part is misplaced: two a
+-- move, one before each hole run, or before the rings where there is no hole, and one at the end; where the map has
+-- several units, at most two for one there, and for the first at most one a unit. Where none is: at most one a unit of
+-- the map, and none where no place is lost.
 pub record TakesWrites (units : ℕ) (at lost : List ℕ) (writes : ℕ) : Type 0 where
-  pub one_unit : units ≡ 1 → misplaced at ≢ [] → (deficit : ℕ) → IsDeficit at deficit → writes ≡ 2 * deficit + max (length (holes at)) 1 + 1
-  pub least : misplaced at ≢ [] → (deficit : ℕ) → IsDeficit at deficit → 2 * deficit + max (length (holes at)) 1 + 1 ≤ writes
-  pub most : 2 ≤ units → misplaced at ≢ [] → (deficit : ℕ) → IsDeficit at deficit → writes + 1 ≤ 2 * deficit + 2 * max (length (holes at)) 1 + units
+  pub one_unit : units ≡ 1 → misplaced at ≢ [] → (deficit : ℕ) → IsDeficit at deficit
+      → writes ≡ 2 * deficit + max (length (holes at)) 1 + 1
+  pub least : misplaced at ≢ [] → (deficit : ℕ) → IsDeficit at deficit
+      → 2 * deficit + max (length (holes at)) 1 + 1 ≤ writes
+  pub most : 2 ≤ units → misplaced at ≢ [] → (deficit : ℕ) → IsDeficit at deficit
+      → writes + 1 ≤ 2 * deficit + 2 * max (length (holes at)) 1 + units
   pub in_place : misplaced at ≡ [] → writes ≤ units
   pub some_lost : misplaced at ≡ [] → lost ≢ [] → 1 ≤ writes
   pub none_lost : misplaced at ≡ [] → lost ≡ [] → writes ≡ 0
@@ -32,8 +36,9 @@ first_lost present = lost_places present.opening present.parts
 abbrev pub start_of : Present → Course
 start_of present = at_first present.at (first_lost present)
 
--- Of every device: nothing was written, and the session stands at the start of its work, which is the list of the writes of its plan, which the owner has allowed and for
--- which there is a free place. Of an honest one: its directory and its parts are those of the store, which is accepted.
+-- Of every device: nothing was written, and the session stands at the start of its work, which is the list of the
+-- writes of its plan, which the owner has allowed and for which there is a free place. Of an honest one: its directory
+-- and its parts are those of the store, which is accepted.
 pub record IsBegun (format : Meaning) (options : Options) (device : DeviceState) (present : Present) : Type 0 where
   pub reads : OnlyReads false device present.device
   pub session : IsSession format present (start_of present)

@@ -12,7 +12,10 @@ pub record Drafted : Type 0 where
 
 -- the marks from `first` on are those of the next write of the map
 abbrev pub drafted : {A : Type 0} → Inside A → Drafted
-drafted draft = record { tasks = tasks_of draft.marks.items draft.entries.items; marks = drop draft.first draft.marks.items }
+drafted draft = record {
+  tasks = tasks_of draft.marks.items draft.entries.items;
+  marks = drop draft.first draft.marks.items;
+}
 
 -- each entry has its marks
 pub record IsDraft {A : Type 0} (draft : Inside A) : Type 0 where
@@ -22,4 +25,7 @@ pub record IsDraft {A : Type 0} (draft : Inside A) : Type 0 where
 -- an agenda whose next write of the map is of one unit, if of any, before a mark in the unit at a place
 abbrev pub turned_to : Option ℕ → ℕ → Drafted → Drafted
 turned_to None at draft = draft
-turned_to (Some unit) at draft = if unit == at then draft else record { tasks = draft.tasks ++ Map unit draft.marks ∷ []; marks = [] }
+turned_to (Some unit) at draft = if unit == at then draft else record {
+  tasks = draft.tasks ++ Map unit draft.marks ∷ [];
+  marks = [];
+}

@@ -21,7 +21,8 @@ two_units = record {
 abbrev go : ℕ → ℕ → Move
 go part to = record { part = part; to = to }
 
--- The parts at 5000 and 5001 move to 8 and 9. Before the second move a place of one unit is marked used, then one of the other free.
+-- The parts at 5000 and 5001 move to 8 and 9. Before the second move a place of one unit is marked used, then one of
+-- the other free.
 pub two_moves :
     writes_of two_units (3 ∷ 4 ∷ []) [] (go 0 0 ∷ go 1 1 ∷ [])
     ≡ Map 6 (used 8 ∷ [])
@@ -38,9 +39,11 @@ two_moves = refl
 -- The first move goes to a place that is lost, as are two more.
 pub to_a_lost_place :
     writes_of two_units (3 ∷ []) (8 ∷ 10 ∷ 5002 ∷ []) (go 0 0 ∷ [])
-    ≡ Map 6 (used 8 ∷ freed 10 ∷ []) ∷ Map 7 (freed 5002 ∷ []) ∷ Copy (go 0 0) ∷ Pointer (go 0 0) ∷ Map 7 (freed 5000 ∷ []) ∷ []
+    ≡ Map 6 (used 8 ∷ freed 10 ∷ []) ∷ Map 7 (freed 5002 ∷ []) ∷ Copy (go 0 0) ∷ Pointer (go 0 0)
+    ∷ Map 7 (freed 5000 ∷ []) ∷ []
 to_a_lost_place = refl
 
 -- Without moves, lost places are marked free.
-pub no_moves : writes_of two_units (0 ∷ []) (9 ∷ 10 ∷ 5002 ∷ []) [] ≡ Map 6 (freed 9 ∷ freed 10 ∷ []) ∷ Map 7 (freed 5002 ∷ []) ∷ []
+pub no_moves : writes_of two_units (0 ∷ []) (9 ∷ 10 ∷ 5002 ∷ []) []
+    ≡ Map 6 (freed 9 ∷ freed 10 ∷ []) ∷ Map 7 (freed 5002 ∷ []) ∷ []
 no_moves = refl

@@ -14,8 +14,8 @@ abbrev pub fewer : Option ℕ → ℕ → Option ℕ
 fewer None n = None
 fewer (Some most) n = Some (most - n)
 
--- Reads that all came, and so many writes that all stand. Of every device: no refusal was counted. Of an honest one: each of these writes was counted and stands, no
--- other was, and each failure that was to come is still to come.
+-- Reads that all came, and so many writes that all stand. Of every device: no refusal was counted. Of an honest one:
+-- each of these writes was counted and stands, no other was, and each failure that was to come is still to come.
 pub record WorksOn (old new : DeviceState) (writes : ℕ) : Type 0 where
   pub device : IsSameDevice old new
   pub faults : new.faults ≡ old.faults
@@ -30,16 +30,20 @@ pub record FailsNextWrite (format : Meaning) (first : Present) (course : Course)
   pub task : Task
   pub place : ℕ
   pub unit : List ℕ
-  pub next : IsOpen format first.opening (slice_set old.store place unit) first.parts (course_after first.opening course task)
+  pub next : IsOpen format first.opening (slice_set old.store place unit) first.parts
+      (course_after first.opening course task)
   pub refused : RefusesWrite place unit old new
 
--- How a step failed: a read did, and nothing was written in it; or the write did. One refusal was counted, and no other call was made after it.
+-- How a step failed: a read did, and nothing was written in it; or the write did. One refusal was counted, and no other
+-- call was made after it.
 abbrev pub FailsStep : Meaning → Present → Course → StepError → DeviceState → DeviceState → Type 0
 FailsStep format first course Read old new = OnlyReads true old new
-FailsStep format first course Write old new = (new.faults ≡ counted old.faults) × (IsTrue old.honest → FailsNextWrite format first course old new)
+FailsStep format first course Write old new =
+    (new.faults ≡ counted old.faults) × (IsTrue old.honest → FailsNextWrite format first course old new)
 FailsStep format first course Closed old new = ⊥
 
--- A device of which nothing can fail: each place can be read, no failure is to come, each write is passed on, and the count of writes is far from its last value.
+-- A device of which nothing can fail: each place can be read, no failure is to come, each write is passed on, and the
+-- count of writes is far from its last value.
 pub record CannotFail (device : DeviceState) : Type 0 where
   pub honest : IsTrue device.honest
   pub readable : device.unreadable ≡ []

@@ -9,9 +9,11 @@ use Rattle.vol_format.specs.Meaning.{Meaning}
 use Rattle.vol_format.specs.Standing.{Stands, IsLost}
 use Rattle.vol_mover.specs.Tasks.{Course, place_of}
 
--- The volume is accepted; its directory is that of the opening but for where entries point to and what is marked free; its parts are those of the opening, each where
--- the course says; the course's lost places are the lost ones; and a unit that is copied stands at both places.
-pub record IsOpen (format : Meaning) (opening : Directory) (store : List (List ℕ)) (parts : List Part) (course : Course) : Type 0 where
+-- The volume is accepted; its directory is that of the opening but for where entries point to and what is marked free;
+-- its parts are those of the opening, each where the course says; the course's lost places are the lost ones; and a
+-- unit that is copied stands at both places.
+pub record IsOpen (format : Meaning) (opening : Directory) (store : List (List ℕ)) (parts : List Part)
+    (course : Course) : Type 0 where
   pub directory : Directory
   pub frame : IsSameFrame opening directory
   pub accepted : IsAccepted format directory store

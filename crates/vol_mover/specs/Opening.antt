@@ -18,13 +18,19 @@ pub record Tells {V A : Type 0} (told : Told) (opening : Opening V A) : Type 0 w
 
 -- what a checker would tell
 abbrev pub told_in : {V A : Type 0} → Directory → Opening V A → Told
-told_in directory opening = record { files = length (files directory); parts = opening.parts.items; layout = opening.layout; lost = opening.lost.items }
+told_in directory opening = record {
+  files = length (files directory);
+  parts = opening.parts.items;
+  layout = opening.layout;
+  lost = opening.lost.items;
+}
 
 abbrev pub IsToldIn : {V A : Type 0} → Directory → Opening V A → Type 0
 IsToldIn directory opening = IsToldOf directory (told_in directory opening)
 
--- A shortest plan for a layout: its moves lead to the target, as many as the deficit, and as few as there are holes, or one, go elsewhere than into the place that
--- the move before them left; and the misplaced parts and the rings of the layout.
+-- A shortest plan for a layout: its moves lead to the target, as many as the deficit, and as few as there are holes, or
+-- one, go elsewhere than into the place that the move before them left; and the misplaced parts and the rings of the
+-- layout.
 pub record IsPlanOf {A : Type 0} (layout : Placement) (plan : Plan A) : Type 0 where
   pub legal : IsPlan layout.at layout.places plan.moves.items
   pub target : IsTarget (after layout.at plan.moves.items)

@@ -16,7 +16,8 @@ use Rattle.vol_mover.specs.declared.report.OptError.TheVariants.{Open, Step, Mem
 use Rattle.vol_mover.specs.declared.report.Report.{Report}
 
 -- a session was run up to so many writes, and what is reported is what it shows
-pub record HasWorked {A : Type 0} (format : Meaning) (limit : ℕ) (first : Present) (plan : Plan A) (text : List ℕ) (now : DeviceState) (report : Report A) : Type 0 where
+pub record HasWorked {A : Type 0} (format : Meaning) (limit : ℕ) (first : Present) (plan : Plan A) (text : List ℕ)
+    (now : DeviceState) (report : Report A) : Type 0 where
   pub last : Present
   pub made : List Task
   pub run : IsRun format first last made
@@ -33,7 +34,8 @@ pub record HasWorked {A : Type 0} (format : Meaning) (limit : ℕ) (first : Pres
 -- a session was run until a step answered an error
 abbrev pub StopsWork : {A : Type 0} → Meaning → ℕ → Present → DeviceState → OptError A → Type 0
 StopsWork format limit first device (Step error) =
-    (made : List Task) × (mid : Present) × (last : Present) × IsRun format first mid made × (length made < limit) × IsStep format mid last (Err error)
+    (made : List Task) × (mid : Present) × (last : Present) × IsRun format first mid made × (length made < limit)
+    × IsStep format mid last (Err error)
     × (device ≡ last.device)
 StopsWork format limit first device error = ⊥
 
@@ -43,9 +45,12 @@ IsNoFailure (Open error) = is_device_error {T = Unit {0}} (Err error) ≡ false
 IsNoFailure (Step error) = ⊥
 IsNoFailure Memory = Unit {0}
 
--- The volume was not opened; or there was no room for the certificate, and the volume was opened, but nothing written; or a step failed.
+-- The volume was not opened; or there was no room for the certificate, and the volume was opened, but nothing written;
+-- or a step failed.
 abbrev pub IsRefused : {A : Type 0} → Meaning → Options → ℕ → DeviceState → DeviceState → OptError A → Type 0
 IsRefused format options limit old new (Open error) =
-    OnlyReads (is_device_error {T = Unit {0}} (Err error)) old new × (IsTrue old.honest → IsRefusal format old.store options error)
+    OnlyReads (is_device_error {T = Unit {0}} (Err error)) old new
+    × (IsTrue old.honest → IsRefusal format old.store options error)
 IsRefused format options limit old new (Step error) = IsStopped format options limit old new error
-IsRefused format options limit old new Memory = (first : Present) × IsBegun format options old first × (new ≡ first.device)
+IsRefused format options limit old new Memory =
+    (first : Present) × IsBegun format options old first × (new ≡ first.device)

@@ -11,9 +11,9 @@ use Rattle.vol_format.specs.Meaning.{Meaning}
 use Rattle.vol_mover.specs.Tasks.{Course, Task, IsAgenda, moves_of}
 use Rattle.vol_mover.specs.Open.{IsOpen}
 
--- A session: its device; the directory and the parts that were read when it was opened; the layout and over how many places; the writes still to be made; how many
--- writes of the map and how many moves were made; how many places were lost at first; whether a write has failed; and the bytes of a unit, of no meaning between
--- two steps.
+-- A session: its device; the directory and the parts that were read when it was opened; the layout and over how many
+-- places; the writes still to be made; how many writes of the map and how many moves were made; how many places were
+-- lost at first; whether a write has failed; and the bytes of a unit, of no meaning between two steps.
 pub record Present : Type 0 where
   pub device : DeviceState
   pub opening : Directory
@@ -39,8 +39,9 @@ pub record IsShortest (at : List ℕ) (places : ℕ) (moves : List Move) : Type 
   pub target : IsTarget (after at moves)
   pub deficit : IsDeficit at (length moves)
 
--- A session whose work has come as far as the course. Of every device: the sizes agree, the course is the session's, the writes left fit it and finish the work, and their
--- moves are a shortest plan. Of an honest one, unless a write has failed: what stands is what the course says.
+-- A session whose work has come as far as the course. Of every device: the sizes agree, the course is the session's,
+-- the writes left fit it and finish the work, and their moves are a shortest plan. Of an honest one, unless a write has
+-- failed: what stands is what the course says.
 pub record IsSession (format : Meaning) (present : Present) (course : Course) : Type 0 where
   pub takes : format.Takes present.opening.places
   pub places : present.device.places ≡ present.opening.places
@@ -55,7 +56,8 @@ pub record IsSession (format : Meaning) (present : Present) (course : Course) : 
   pub counted : present.map_writes + present.moves + length present.tasks < 4294967296
   pub agenda : IsAgenda present.opening present.lost_at_first course present.tasks
   pub plan : IsShortest present.at present.places (moves_of present.tasks)
-  pub is_open : IsTrue present.device.honest → present.closed ≡ false → IsOpen format present.opening present.device.store present.parts course
+  pub is_open : IsTrue present.device.honest → present.closed ≡ false
+      → IsOpen format present.opening present.device.store present.parts course
 
 -- of some course this is a session
 abbrev pub HasCourse : Meaning → Present → Type 0

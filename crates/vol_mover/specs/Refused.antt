@@ -29,8 +29,8 @@ abbrev pub is_device_error : {T A : Type 0} → Result T (OpenError A) → Bool
 is_device_error (Err Device) = true
 is_device_error result = false
 
--- Of an accepted volume: `Lost` tells how many places are lost, where there are some and they are not reclaimed; `NoFreePlace` is told where none is, or they are
--- reclaimed, and some part is misplaced and each place has one.
+-- Of an accepted volume: `Lost` tells how many places are lost, where there are some and they are not reclaimed;
+-- `NoFreePlace` is told where none is, or they are reclaimed, and some part is misplaced and each place has one.
 abbrev pub RefusesTold : {A : Type 0} → Options → Told → OpenError A → Type 0
 RefusesTold options told (Check faults) = ⊥
 RefusesTold options told (Lost count) = (options.reclaim ≡ false) × (count ≡ length told.lost) × (0 < count)
@@ -39,7 +39,8 @@ RefusesTold options told Device = ⊥
 RefusesTold options told Memory = Unit {0}
 
 -- the store has an accepted volume of which a checker tells this, and the opening is refused for it
-pub record RefusesAccepted {A : Type 0} (format : Meaning) (store : List (List ℕ)) (options : Options) (error : OpenError A) : Type 0 where
+pub record RefusesAccepted {A : Type 0} (format : Meaning) (store : List (List ℕ)) (options : Options)
+    (error : OpenError A) : Type 0 where
   pub directory : Directory
   pub told : Told
   pub accepted : IsAccepted format directory store

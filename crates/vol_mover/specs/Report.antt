@@ -28,11 +28,13 @@ course_of first made = course_after_all first.opening (start_of first) made
 
 -- The lost places are two at most; or each is one of those that were lost at first, but for one more.
 abbrev pub AreFewLost : List ℕ → List ℕ → Type 0
-AreFewLost first lost = (length lost ≤ 2) ⊎ ((more : ℕ) × ((place : ℕ) → Contains lost place → (place ≡ more) ⊎ Contains first place))
+AreFewLost first lost = (length lost ≤ 2)
+    ⊎ ((more : ℕ) × ((place : ℕ) → Contains lost place → (place ≡ more) ⊎ Contains first place))
 
--- The volume was opened, and of the writes of its work these stand. Of an honest device: what stands is what the course says, and the volume is the same. Few places are
--- lost, and the parts have made the moves whose pointers were written.
-pub record IsWorked (format : Meaning) (options : Options) (old new : DeviceState) (first : Present) (made left : List Task) : Type 0 where
+-- The volume was opened, and of the writes of its work these stand. Of an honest device: what stands is what the course
+-- says, and the volume is the same. Few places are lost, and the parts have made the moves whose pointers were written.
+pub record IsWorked (format : Meaning) (options : Options) (old new : DeviceState) (first : Present)
+    (made left : List Task) : Type 0 where
   pub begun : IsBegun format options old first
   pub tasks : first.tasks ≡ made ++ left
   pub device : IsSameDevice old new
@@ -42,9 +44,11 @@ pub record IsWorked (format : Meaning) (options : Options) (old new : DeviceStat
   pub lost : AreFewLost (first_lost first) (course_of first made).lost
   pub layout : (course_of first made).at ≡ after first.at (moves_of made)
 
--- The report of the work up to so many writes, of which each stands, and under which nothing has failed: the certificate of a shortest plan for the layout at first, which
--- is good, the numbers of its rings and misplaced parts, the moves and the writes of the map that were made, and whether all is done.
-pub record IsReported {A : Type 0} (format : Meaning) (options : Options) (limit : ℕ) (old new : DeviceState) (report : Report A) : Type 0 where
+-- The report of the work up to so many writes, of which each stands, and under which nothing has failed: the
+-- certificate of a shortest plan for the layout at first, which is good, the numbers of its rings and misplaced parts,
+-- the moves and the writes of the map that were made, and whether all is done.
+pub record IsReported {A : Type 0} (format : Meaning) (options : Options) (limit : ℕ) (old new : DeviceState)
+    (report : Report A) : Type 0 where
   pub first : Present
   pub made : List Task
   pub left : List Task
@@ -53,9 +57,13 @@ pub record IsReported {A : Type 0} (format : Meaning) (options : Options) (limit
   pub planned : IsPlanOf (record { at = first.at; places = first.places }) plan
   pub plan_moves : moves_of first.tasks ≡ plan.moves.items
   pub cert : report.cert.items
-      ≡ certificate_text (certificate_of (record { at = first.at; places = first.places }) plan.misplaced.items plan.rings.items plan.moves.items)
-  pub good : IsGood (record { at = first.at; places = first.places }) (certificate_of (record { at = first.at; places = first.places }) plan.misplaced.items plan.rings.items plan.moves.items)
-  pub shortest : (other : List Move) → IsPlan first.at first.places other → IsTarget (after first.at other) → length plan.moves.items ≤ length other
+      ≡ certificate_text (certificate_of (record { at = first.at; places = first.places }) plan.misplaced.items
+      plan.rings.items plan.moves.items)
+  pub good : IsGood (record { at = first.at; places = first.places })
+      (certificate_of (record { at = first.at; places = first.places }) plan.misplaced.items
+      plan.rings.items plan.moves.items)
+  pub shortest : (other : List Move) → IsPlan first.at first.places other → IsTarget (after first.at other)
+      → length plan.moves.items ≤ length other
   pub rings : report.rings ≡ length plan.rings.items
   pub misplaced : report.misplaced ≡ length plan.misplaced.items
   pub count : length made ≡ min limit (length first.tasks)
@@ -66,9 +74,11 @@ pub record IsReported {A : Type 0} (format : Meaning) (options : Options) (limit
   pub finished : IsTrue report.finished ↔ (length first.tasks ≤ limit)
   pub done : IsTrue report.finished → IsDone (course_of first made) × IsDeficit first.at report.moves
 
--- The work that one failure of the device has stopped. Some writes were made, fewer than the limit, and nothing has failed under them; then a step failed, and it was the
--- last call. The writes that stand are these, and one more where a write failed whose unit stands.
-pub record IsStopped (format : Meaning) (options : Options) (limit : ℕ) (old new : DeviceState) (error : StepError) : Type 0 where
+-- The work that one failure of the device has stopped. Some writes were made, fewer than the limit, and nothing has
+-- failed under them; then a step failed, and it was the last call. The writes that stand are these, and one more where
+-- a write failed whose unit stands.
+pub record IsStopped (format : Meaning) (options : Options) (limit : ℕ) (old new : DeviceState)
+    (error : StepError) : Type 0 where
   pub first : Present
   pub before : List Task
   pub mid : DeviceState

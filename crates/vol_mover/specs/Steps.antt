@@ -16,12 +16,14 @@ use Rattle.vol_mover.specs.declared.progress.Wrote.TheVariants.{Map, Copy, Point
 use Rattle.vol_mover.specs.declared.progress.StepError.{StepError}
 use Rattle.vol_mover.specs.declared.progress.StepError.TheVariants.{Closed, Read, Write}
 
--- This unit, written at this place, makes the first of the writes left: what then stands is what the next course says, and the volume is the same.
+-- This unit, written at this place, makes the first of the writes left: what then stands is what the next course says,
+-- and the volume is the same.
 pub record IsNextWrite (format : Meaning) (old : Present) (course : Course) (place : ℕ) (unit : List ℕ) : Type 0 where
   pub task : Task
   pub rest : List Task
   pub first : old.tasks ≡ task ∷ rest
-  pub is_open : IsOpen format old.opening (slice_set old.device.store place unit) old.parts (course_after old.opening course task)
+  pub is_open : IsOpen format old.opening (slice_set old.device.store place unit) old.parts
+      (course_after old.opening course task)
   pub same : SameVolume format old.device.store (slice_set old.device.store place unit)
 
 -- which kind of write a task is
@@ -36,7 +38,8 @@ advanced old (MapTask at marks) rest = record old { tasks = rest; map_writes = o
 advanced old (CopyTask move) rest = record old { tasks = rest }
 advanced old (PointerTask move) rest = record old { tasks = rest; at = moved old.at move; moves = old.moves + 1 }
 
--- What a session is after a step, by what the step answers: one write further, on the next course; closed; or as far as before.
+-- What a session is after a step, by what the step answers: one write further, on the next course; closed; or as far as
+-- before.
 abbrev pub StepsTo : Meaning → Result Progress StepError → Present → Present → Course → Type 0
 StepsTo format (Ok (HasWritten kind)) old new course =
     (task : Task) × (rest : List Task) × (old.tasks ≡ task ∷ rest) × (kind ≡ kind_of task)
@@ -44,7 +47,8 @@ StepsTo format (Ok (HasWritten kind)) old new course =
     × IsSession format new (course_after old.opening course task)
 StepsTo format (Err Write) old new course =
     (new ≡ record old { device = new.device; unit = new.unit; closed = true }) × IsSession format new course
-StepsTo format result old new course = (new ≡ record old { device = new.device; unit = new.unit }) × IsSession format new course
+StepsTo format result old new course =
+    (new ≡ record old { device = new.device; unit = new.unit }) × IsSession format new course
 
 -- one part has moved, by a legal move, which lowers the deficit by one
 pub record MovesOne (places : ℕ) (before now : List ℕ) : Type 0 where
@@ -60,12 +64,13 @@ abbrev pub StepsLayout : Result Progress StepError → ℕ → List ℕ → List
 StepsLayout (Ok (HasWritten Pointer)) places before now = MovesOne places before now
 StepsLayout result places before now = now ≡ before
 
--- What a store is after a step, whatever the step answers: it stands as the course says, or as the next one does; it has the same volume; few places are lost; and
--- one part has moved at most.
+-- What a store is after a step, whatever the step answers: it stands as the course says, or as the next one does; it
+-- has the same volume; few places are lost; and one part has moved at most.
 pub record Leaves (format : Meaning) (old : Present) (course : Course) (store : List (List ℕ)) : Type 0 where
   pub now : Course
   pub tasks : List Task
-  pub reached : ((now ≡ course) × (tasks ≡ old.tasks)) ⊎ ((task : Task) × (old.tasks ≡ task ∷ tasks) × (now ≡ course_after old.opening course task))
+  pub reached : ((now ≡ course) × (tasks ≡ old.tasks))
+      ⊎ ((task : Task) × (old.tasks ≡ task ∷ tasks) × (now ≡ course_after old.opening course task))
   pub is_open : IsOpen format old.opening store old.parts now
   pub same : SameVolume format old.device.store store
   pub few : IsFewLost (length old.opening.map_units) old.lost_at_first now tasks
@@ -77,7 +82,8 @@ StepsWrites (Ok (HasWritten kind)) old new = new ≡ old + 1
 StepsWrites (Err Write) old new = new ≤ old + 1
 StepsWrites result old new = new ≡ old
 
--- a write that was refused: the count of writes stands at its last value, or the write failed, and the old unit or the new one stands
+-- a write that was refused: the count of writes stands at its last value, or the write failed, and the old unit or the
+-- new one stands
 abbrev pub RefusesWrite : ℕ → List ℕ → DeviceState → DeviceState → Type 0
 RefusesWrite place unit old new =
     ((old.writes ≡ last_count) × (new ≡ record old { faults = counted old.faults })) ⊎ FailsWrite place unit old new
@@ -115,9 +121,13 @@ pub record IsStep (format : Meaning) (old new : Present) (result : Result Progre
   pub goes_on : (course : Course) → IsSession format old course → StepsTo format result old new course
   pub layout : StepsLayout result old.places old.at new.at
   -- an honest device
-  pub wrote : IsTrue old.device.honest → (kind : Wrote) → result ≡ Ok (HasWritten kind) → (course : Course) → IsSession format old course
-      → (place : ℕ) × (unit : List ℕ) × IsNextWrite format old course place unit × (new.device ≡ written place unit old.device)
+  pub wrote : IsTrue old.device.honest → (kind : Wrote) → result ≡ Ok (HasWritten kind) → (course : Course)
+      → IsSession format old course
+      → (place : ℕ) × (unit : List ℕ) × IsNextWrite format old course place unit
+      × (new.device ≡ written place unit old.device)
   pub refused : IsTrue old.device.honest → result ≡ Err Write → (course : Course) → IsSession format old course
-      → (place : ℕ) × (unit : List ℕ) × IsNextWrite format old course place unit × RefusesWrite place unit old.device new.device
-  pub leaves : IsTrue old.device.honest → old.closed ≡ false → (course : Course) → IsSession format old course → Leaves format old course new.device.store
+      → (place : ℕ) × (unit : List ℕ) × IsNextWrite format old course place unit
+      × RefusesWrite place unit old.device new.device
+  pub leaves : IsTrue old.device.honest → old.closed ≡ false → (course : Course) → IsSession format old course
+      → Leaves format old course new.device.store
   pub writes : IsTrue old.device.honest → StepsWrites result old.device.writes new.device.writes

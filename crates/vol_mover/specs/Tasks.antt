@@ -6,15 +6,15 @@ use Rattle.vol_layout.specs.declared.moves.Move.{Move}
 use Rattle.vol_format.specs.Directory.{Directory, map_place}
 use Rattle.vol_laws.specs.declared.mark.Mark.{Mark}
 
--- One write: the map's unit at a place, with these marks made in turn; the unit of a part, to the place to which it goes; or the pointer to a part, to
--- name that place.
+-- One write: the map's unit at a place, with these marks made in turn; the unit of a part, to the place to which it
+-- goes; or the pointer to a part, to name that place.
 pub data Task : Type 0 where
   Map : ℕ → List Mark → Task
   Copy : Move → Task
   Pointer : Move → Task
 
--- How far the work has come: where each part stands, which places are lost, the move whose unit is copied and whose pointer is still to be
--- written, and how many writes and how many moves were made.
+-- How far the work has come: where each part stands, which places are lost, the move whose unit is copied and whose
+-- pointer is still to be written, and how many writes and how many moves were made.
 pub record Course : Type 0 where
   pub at : List ℕ
   pub lost : List ℕ
@@ -32,11 +32,15 @@ without places place = filter (λ other. not (other == place)) places
 
 abbrev pub lost_after : List ℕ → List Mark → List ℕ
 lost_after lost [] = lost
-lost_after lost (mark ∷ marks) = lost_after (if mark.free then without lost mark.place else (mark.place ∷ without lost mark.place)) marks
+lost_after lost (mark ∷ marks) =
+    lost_after (if mark.free then without lost mark.place else (mark.place ∷ without lost mark.place)) marks
 
 -- After a pointer is written, the place is lost that the part has left.
 abbrev pub course_after : Directory → Course → Task → Course
-course_after directory course (Map at marks) = record course { lost = lost_after course.lost marks; writes = course.writes + 1 }
+course_after directory course (Map at marks) = record course {
+  lost = lost_after course.lost marks;
+  writes = course.writes + 1;
+}
 course_after directory course (Copy move) = record course { copied = Some move; writes = course.writes + 1 }
 course_after directory course (Pointer move) = record {
   at = moved course.at move;
@@ -46,7 +50,8 @@ course_after directory course (Pointer move) = record {
   moves = course.moves + 1;
 }
 
--- A mark in the map's unit at `at`: an available place at which no part stands, and it is lost if it is to be marked free.
+-- A mark in the map's unit at `at`: an available place at which no part stands, and it is lost if it is to be marked
+-- free.
 pub record FitsMark (directory : Directory) (course : Course) (at : ℕ) (mark : Mark) : Type 0 where
   pub available : Contains directory.available mark.place
   pub here : map_place directory mark.place ≡ at
@@ -55,18 +60,21 @@ pub record FitsMark (directory : Directory) (course : Course) (at : ℕ) (mark :
 
 -- A unit is copied only to the one place that is lost, and once it is copied the pointer comes next.
 abbrev pub Fits : Directory → Course → Task → Type 0
-Fits directory course (Map at marks) = (course.copied ≡ None) × (at < directory.places) × All (FitsMark directory course at) marks
+Fits directory course (Map at marks) =
+    (course.copied ≡ None) × (at < directory.places) × All (FitsMark directory course at) marks
 Fits directory course (Copy move) =
-    (course.copied ≡ None) × IsLegal course.at (length directory.available) move × (course.lost ≡ place_of directory move.to ∷ [])
+    (course.copied ≡ None) × IsLegal course.at (length directory.available) move
+    × (course.lost ≡ place_of directory move.to ∷ [])
 Fits directory course (Pointer move) =
-    (course.copied ≡ Some move) × IsLegal course.at (length directory.available) move × (course.lost ≡ place_of directory move.to ∷ [])
+    (course.copied ≡ Some move) × IsLegal course.at (length directory.available) move
+    × (course.lost ≡ place_of directory move.to ∷ [])
 
 abbrev pub ChangesMap : List Task → Type 0
 ChangesMap (Map at marks ∷ tasks) = Unit {0}
 ChangesMap tasks = ⊥
 
--- One place is lost at most, or two where the map has several units; before the first write, those that were lost at first; and where the
--- map has several units, one more until the first change of the map is whole.
+-- One place is lost at most, or two where the map has several units; before the first write, those that were lost at
+-- first; and where the map has several units, one more until the first change of the map is whole.
 abbrev pub IsFewLost : ℕ → ℕ → Course → List Task → Type 0
 IsFewLost units first course tasks =
     (length course.lost ≤ 1)
@@ -84,7 +92,8 @@ pub record IsDone (course : Course) : Type 0 where
 abbrev pub IsAgenda : Directory → ℕ → Course → List Task → Type 0
 IsAgenda directory first course [] = IsDone course
 IsAgenda directory first course (task ∷ tasks) =
-    Fits directory course task × IsFewLost (length directory.map_units) first course (task ∷ tasks) × IsAgenda directory first (course_after directory course task) tasks
+    Fits directory course task × IsFewLost (length directory.map_units) first course (task ∷ tasks)
+    × IsAgenda directory first (course_after directory course task) tasks
 
 -- the start of the work
 abbrev pub at_first : List ℕ → List ℕ → Course

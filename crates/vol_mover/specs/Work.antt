@@ -19,8 +19,9 @@ pub record AreSpare (directory : Directory) (at places : List ℕ) : Type 0 wher
   pub by_unit : AllPairs (λ place later. place / directory.map_size ≤ later / directory.map_size) places
   pub no_part : (k : ℕ) → k < length at → ¬ Contains places (place_of directory (slice_index at k))
 
--- Each move is a copy and a pointer. The map is changed before each move that does not follow on, and once more at the end: by one write where the map has
--- one unit, else by at most two, but the first change by at most one for each unit. Without moves, what is lost is marked free.
+-- Each move is a copy and a pointer. The map is changed before each move that does not follow on, and once more at the
+-- end: by one write where the map has one unit, else by at most two, but the first change by at most one for each unit.
+-- Without moves, what is lost is marked free.
 pub record IsWork (units : ℕ) (at lost : List ℕ) (moves : List Move) (writes : ℕ) : Type 0 where
   pub one_unit : units ≡ 1 → moves ≢ [] → writes ≡ 2 * length moves + starts at moves + 1
   pub least : moves ≢ [] → 2 * length moves + starts at moves + 1 ≤ writes

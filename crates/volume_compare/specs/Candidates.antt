@@ -32,8 +32,10 @@ pub record AreKeysUpTo (paths : List (Option (List ℕ))) (many : ℕ) (keys : L
 
 -- Keys stand in rising order, those of one hash in the order of their files.
 pub record AreRising (keys : List Key) : Type 0 where
-  pub hashes : (place later : ℕ) → place ≤ later → later < length keys → (key_at keys place).hash ≤ (key_at keys later).hash
-  pub files : (place later : ℕ) → place ≤ later → later < length keys → (key_at keys place).hash ≡ (key_at keys later).hash
+  pub hashes : (place later : ℕ) → place ≤ later → later < length keys
+      → (key_at keys place).hash ≤ (key_at keys later).hash
+  pub files : (place later : ℕ) → place ≤ later → later < length keys
+      → (key_at keys place).hash ≡ (key_at keys later).hash
       → (key_at keys place).file ≤ (key_at keys later).file
 
 -- Of each key it is known of how many keys from it on the files are taken.
@@ -43,7 +45,8 @@ pub record AreFronts (keys : List Key) (fronts : List ℕ) (taken : List Bool) :
       → (place + behind < length keys) × (taken_at taken (key_at keys (place + behind)).file ≡ true)
 
 -- the keys of all files, in rising order, and what is known of how many are taken
-pub record AreCandidates (paths : List (Option (List ℕ))) (keys : List Key) (fronts : List ℕ) (taken : List Bool) : Type 0 where
+pub record AreCandidates (paths : List (Option (List ℕ))) (keys : List Key) (fronts : List ℕ)
+    (taken : List Bool) : Type 0 where
   pub few : length paths < 2 ^ 32
   pub long : length taken ≡ length paths
   pub are_keys : AreKeysUpTo paths (length paths) keys
@@ -79,14 +82,16 @@ NoneFreeIn paths taken path keys many = (place : ℕ) → place < many
     → path_at paths (key_at keys place).file ≡ Some path → taken_at taken (key_at keys place).file ≡ true
 
 -- the first key that is that of a free file with a path
-pub record IsFreeAt (paths : List (Option (List ℕ))) (taken : List Bool) (path : List ℕ) (keys : List Key) (place : ℕ) : Type 0 where
+pub record IsFreeAt (paths : List (Option (List ℕ))) (taken : List Bool) (path : List ℕ) (keys : List Key)
+    (place : ℕ) : Type 0 where
   pub inside : place < length keys
   pub of_path : path_at paths (key_at keys place).file ≡ Some path
   pub free : taken_at taken (key_at keys place).file ≡ false
   pub first : NoneFreeIn paths taken path keys place
 
 -- the key of the first free file with a path, in the run of its hash
-pub record IsFirstFreeIn (paths : List (Option (List ℕ))) (taken : List Bool) (path : List ℕ) (keys : List Key) (start place : ℕ) : Type 0 where
+pub record IsFirstFreeIn (paths : List (Option (List ℕ))) (taken : List Bool) (path : List ℕ) (keys : List Key)
+    (start place : ℕ) : Type 0 where
   pub start_inside : start < length keys
   pub inside : place < length keys
   pub is_first : IsFirstFree paths taken path (key_at keys place).file

@@ -15,9 +15,10 @@ use Rattle.volume_compare.specs.declared.error.CompareError.TheVariants.{Check, 
 use Rattle.volume_compare.specs.declared.finding.Side.TheVariants.{First, Second}
 use Rattle.volume_compare.specs.declared.report.Comparison.{Comparison}
 
--- Of the files of two volumes that were read it is told what they are, in the order of the first, and behind them those of the
--- second that have no partner, in its order; and whether nothing but that files are the same.
-pub record TellsAll (all : Bool) (form : PlaceForm) (compared : Compared) (most : ℕ) (comparison : Comparison) : Type 0 where
+-- Of the files of two volumes that were read it is told what they are, in the order of the first, and behind them those
+-- of the second that have no partner, in its order; and whether nothing but that files are the same.
+pub record TellsAll (all : Bool) (form : PlaceForm) (compared : Compared) (most : ℕ)
+    (comparison : Comparison) : Type 0 where
   pub told : List (Option Told)
   pub others : List (Option Told)
   pub are_told : AreToldUpTo compared (entries compared.first.directory) told
@@ -28,15 +29,18 @@ pub record TellsAll (all : Bool) (form : PlaceForm) (compared : Compared) (most 
   pub equal : comparison.equal ≡ are_equal (told ++ others)
 
 -- so of what the headers, the directories and the maps of two stores say
-pub record IsComparison (all : Bool) (form : PlaceForm) (files : FileMeaning) (format : Meaning) (most : ℕ) (device device_now other other_now : DeviceState) (comparison : Comparison) : Type 0 where
+pub record IsComparison (all : Bool) (form : PlaceForm) (files : FileMeaning) (format : Meaning) (most : ℕ)
+    (device device_now other other_now : DeviceState) (comparison : Comparison) : Type 0 where
   pub first : Directory
   pub second : Directory
   pub described : format.Describes device.store first
   pub other_described : format.Describes other.store second
-  pub tells : TellsAll all form (compared_in form files format first second device device_now other other_now) most comparison
+  pub tells : TellsAll all form (compared_in form files format first second device device_now other other_now) most
+      comparison
 
 -- their files have too many bytes
-pub record IsTooLargeIn (form : PlaceForm) (files : FileMeaning) (format : Meaning) (most : ℕ) (device device_now other other_now : DeviceState) (error : CompareError) : Type 0 where
+pub record IsTooLargeIn (form : PlaceForm) (files : FileMeaning) (format : Meaning) (most : ℕ)
+    (device device_now other other_now : DeviceState) (error : CompareError) : Type 0 where
   pub first : Directory
   pub second : Directory
   pub described : format.Describes device.store first
@@ -44,7 +48,8 @@ pub record IsTooLargeIn (form : PlaceForm) (files : FileMeaning) (format : Meani
   pub large : IsTooLarge (compared_in form files format first second device device_now other other_now) most error
 
 -- Why two volumes are not compared. The second is looked at where the first can be read.
-abbrev pub IsRefused : PlaceForm → FileMeaning → Meaning → ℕ → DeviceState → DeviceState → DeviceState → DeviceState → CompareError → Type 0
+abbrev pub IsRefused : PlaceForm → FileMeaning → Meaning → ℕ → DeviceState → DeviceState → DeviceState → DeviceState
+    → CompareError → Type 0
 IsRefused form files format most device device_now other other_now (Check First) = HasHeaderFault format device.store
 IsRefused form files format most device device_now other other_now (Device First) = FailedBetween device device_now
 IsRefused form files format most device device_now other other_now (Check Second) =

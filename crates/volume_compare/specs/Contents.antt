@@ -47,7 +47,8 @@ content_by form files entry whole = record {
   text = files.body entry.bytes whole;
 }
 
--- A volume that was read: what its places are called, what its files are, what its units mean, what they say, and they themselves.
+-- A volume that was read: what its places are called, what its files are, what its units mean, what they say, and they
+-- themselves.
 pub record SeenVolume : Type 1 where
   pub form : PlaceForm
   pub files : FileMeaning
@@ -80,4 +81,10 @@ IsJudged one other (Unreadable side) = ⊥
 
 -- the volume that a store has
 abbrev pub volume_in : PlaceForm → FileMeaning → Meaning → Directory → List (List ℕ) → SeenVolume
-volume_in form files meaning directory store = record { form = form; files = files; meaning = meaning; directory = directory; store = store }
+volume_in form files meaning directory store = record {
+  form = form;
+  files = files;
+  meaning = meaning;
+  directory = directory;
+  store = store;
+}

@@ -105,7 +105,8 @@ pub record Told : Type 0 where
 
 -- of the file of an entry of the first volume; a directory is not told of
 abbrev pub IsTold : Compared → ℕ → Option Told → Type 0
-IsTold compared file (Some told) = (path_at (paths_in compared.first) file ≡ Some told.path) × IsFound compared file told.found
+IsTold compared file (Some told) =
+    (path_at (paths_in compared.first) file ≡ Some told.path) × IsFound compared file told.found
 IsTold compared file None = path_at (paths_in compared.first) file ≡ None
 
 -- of that of an entry of the second; neither a directory is told of nor a partner
@@ -144,7 +145,8 @@ abbrev pub second_bytes : List (Option Told) → ℕ
 second_bytes told = sum_by second_bytes_of told
 
 -- two volumes as two devices had them, on which reads may have failed since
-abbrev pub compared_in : PlaceForm → FileMeaning → Meaning → Directory → Directory → DeviceState → DeviceState → DeviceState → DeviceState → Compared
+abbrev pub compared_in : PlaceForm → FileMeaning → Meaning → Directory → Directory → DeviceState → DeviceState
+    → DeviceState → DeviceState → Compared
 compared_in form files meaning first second device device_now other other_now = record {
   first = volume_in form files meaning first device.store;
   second = volume_in form files meaning second other.store;

@@ -7,7 +7,8 @@ use Rattle.file_cmds.specs.EachFile.{AreFilesOf}
 use Rattle.volume_compare.specs.declared.looking.Readers.{Readers}
 
 -- what reads the files of two volumes on their devices
-pub record AreReaders (format : Meaning) (first second : Directory) (device other : DeviceState) (readers : Readers) : Type 0 where
+pub record AreReaders (format : Meaning) (first second : Directory) (device other : DeviceState)
+    (readers : Readers) : Type 0 where
   pub places : first.places ≡ device.places
   pub other_places : second.places ≡ other.places
   pub of_first : AreFilesOf format first device readers.first

@@ -25,8 +25,8 @@ is_path path None = false
 abbrev pub rank : List ℕ → List (Option (List ℕ)) → ℕ → ℕ
 rank path paths file = count_by (is_path path) (take file paths)
 
--- Two files are partners where they have one path, and equally many files of it stand before them: the first of a path in one
--- volume is the partner of the first in the other, and so on.
+-- Two files are partners where they have one path, and equally many files of it stand before them: the first of a path
+-- in one volume is the partner of the first in the other, and so on.
 pub record IsPartner (first second : List (Option (List ℕ))) (file other : ℕ) : Type 0 where
   pub path : List ℕ
   pub of_file : path_at first file ≡ Some path
@@ -47,7 +47,8 @@ abbrev pub taken_at : List Bool → ℕ → Bool
 taken_at taken other = slice_index_or taken other false
 
 -- the partners of the files of the first entries of the first volume, and which files of the second are taken by them
-pub record ArePairsUpTo (first second : List (Option (List ℕ))) (many : ℕ) (partners : List (Option ℕ)) (taken : List Bool) : Type 0 where
+pub record ArePairsUpTo (first second : List (Option (List ℕ))) (many : ℕ) (partners : List (Option ℕ))
+    (taken : List Bool) : Type 0 where
   pub told : length partners ≡ many
   pub long : length taken ≡ length second
   pub each : (file : ℕ) → file < many → IsPartnerOf first second file (slice_index_or partners file None)

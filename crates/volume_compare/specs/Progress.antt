@@ -30,31 +30,37 @@ IsOver old new next (Device side) = ⊥
 -- One more was told of, or why it wasn't.
 abbrev pub IsTelling : PlaceForm → Progress → Progress → Option Told → Result (Unit {0}) CompareError → Type 0
 IsTelling form old new next (Ok done) =
-    (most : ℕ) (told : List (Option Told)) → IsProgress form most told old → IsProgress form most (told ++ next ∷ []) new
+    (most : ℕ) (told : List (Option Told)) → IsProgress form most told old
+    → IsProgress form most (told ++ next ∷ []) new
 IsTelling form old new next (Err error) = IsOver old new next error
 
 -- the bytes that were read of a file were taken off
 abbrev pub IsSpent : Left → Left → Found → Result (Unit {0}) CompareError → Type 0
-IsSpent old new found (Ok done) = (new.first + found.first_bytes ≡ old.first) × (new.second + found.second_bytes ≡ old.second)
+IsSpent old new found (Ok done) =
+    (new.first + found.first_bytes ≡ old.first) × (new.second + found.second_bytes ≡ old.second)
 IsSpent old new found (Err (TooLarge First)) = old.first < found.first_bytes
-IsSpent old new found (Err (TooLarge Second)) = (new.first + found.first_bytes ≡ old.first) × (old.second < found.second_bytes)
+IsSpent old new found (Err (TooLarge Second)) =
+    (new.first + found.first_bytes ≡ old.first) × (old.second < found.second_bytes)
 IsSpent old new found (Err error) = ⊥
 
 -- Of one more file it was told what it is, where the devices were honest, or why it wasn't.
-abbrev pub TellsNext : Type 0 → (Option Told → Type 0) → PlaceForm → Progress → Progress → Result (Unit {0}) CompareError → Type 0
+abbrev pub TellsNext : Type 0 → (Option Told → Type 0) → PlaceForm → Progress → Progress
+    → Result (Unit {0}) CompareError → Type 0
 TellsNext honest IsNext form old new (Err Memory) = Unit {0}
 TellsNext honest IsNext form old new result =
     (next : Option Told) × IsTelling form old new next result × (honest → IsNext next)
 
 -- These files were told of, as many as there are entries.
-pub record IsToldTo (honest : Type 0) (AreTold : List (Option Told) → Type 0) (form : PlaceForm) (most many : ℕ) (progress : Progress) : Type 0 where
+pub record IsToldTo (honest : Type 0) (AreTold : List (Option Told) → Type 0) (form : PlaceForm) (most many : ℕ)
+    (progress : Progress) : Type 0 where
   pub told : List (Option Told)
   pub long : length told ≡ many
   pub is_progress : IsProgress form most told progress
   pub are_told : honest → AreTold told
 
 -- Behind these files those of the first entries of the second volume were told of.
-pub record IsToldBehind (honest : Type 0) (AreTold : List (Option Told) → Type 0) (form : PlaceForm) (most : ℕ) (told : List (Option Told)) (many : ℕ) (progress : Progress) : Type 0 where
+pub record IsToldBehind (honest : Type 0) (AreTold : List (Option Told) → Type 0) (form : PlaceForm) (most : ℕ)
+    (told : List (Option Told)) (many : ℕ) (progress : Progress) : Type 0 where
   pub others : List (Option Told)
   pub long : length others ≡ many
   pub is_progress : IsProgress form most (told ++ others) progress

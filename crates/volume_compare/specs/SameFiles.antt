@@ -15,14 +15,17 @@ pub record HasAlike (first second : SeenVolume) (file other : ℕ) : Type 0 wher
   pub is_content : IsContent first file content
   pub is_other : IsContent second other content
 
--- Each file of either volume has a partner in the other, and both have one content: for each path the contents of the files that
--- have it, in directory order, are the same in both.
+-- Each file of either volume has a partner in the other, and both have one content: for each path the contents of the
+-- files that have it, in directory order, are the same in both.
 pub record HaveSameFiles (first second : SeenVolume) : Type 0 where
-  pub of_first : (file : ℕ) (path : List ℕ) → path_at (paths_in first) file ≡ Some path → (other : ℕ) × HasAlike first second file other
-  pub of_second : (other : ℕ) (path : List ℕ) → path_at (paths_in second) other ≡ Some path → (file : ℕ) × HasAlike first second file other
+  pub of_first : (file : ℕ) (path : List ℕ) → path_at (paths_in first) file ≡ Some path
+      → (other : ℕ) × HasAlike first second file other
+  pub of_second : (other : ℕ) (path : List ℕ) → path_at (paths_in second) other ≡ Some path
+      → (file : ℕ) × HasAlike first second file other
 
 -- so of what the headers, the directories and the maps of two stores say
-pub record AreSameVolumes (form : PlaceForm) (files : FileMeaning) (format : Meaning) (store other_store : List (List ℕ)) : Type 0 where
+pub record AreSameVolumes (form : PlaceForm) (files : FileMeaning) (format : Meaning)
+    (store other_store : List (List ℕ)) : Type 0 where
   pub first : Directory
   pub second : Directory
   pub described : format.Describes store first

@@ -27,7 +27,8 @@ HasTooMany volume failed most = (counts : List ℕ) × AreCounts volume failed c
 -- those of all entries have no more
 abbrev pub HasFew : SeenVolume → (ℕ → Type 0) → ℕ → Type 0
 HasFew volume failed most =
-    (counts : List ℕ) × AreCounts volume failed counts × (length counts ≡ entries volume.directory) × (sum counts ≤ most)
+    (counts : List ℕ) × AreCounts volume failed counts × (length counts ≡ entries volume.directory)
+    × (sum counts ≤ most)
 
 -- the files of the second volume that were told of have more bytes than they may
 pub record HasTooManySecond (compared : Compared) (most : ℕ) : Type 0 where
@@ -39,7 +40,8 @@ pub record HasTooManySecond (compared : Compared) (most : ℕ) : Type 0 where
   pub others_within : length others ≤ entries compared.second.directory
   pub many : most < second_bytes (told ++ others)
 
--- Why not all files are told of: those of a volume have too many bytes, those of the first where both have; or want of memory.
+-- Why not all files are told of: those of a volume have too many bytes, those of the first where both have; or want of
+-- memory.
 abbrev pub IsTooLarge : Compared → ℕ → CompareError → Type 0
 IsTooLarge compared most (TooLarge First) = HasTooMany compared.first compared.first_failed most
 IsTooLarge compared most (TooLarge Second) =

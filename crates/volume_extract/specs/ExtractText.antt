@@ -64,7 +64,8 @@ totals_of items = record {
 
 abbrev pub totals_text : Totals → HostText
 totals_text totals = codes "EXTRACTED files " ++ (decimal totals.files ++ (codes " folders " ++ (decimal totals.folders
-    ++ (codes " texts " ++ (decimal totals.texts ++ (codes " unreadable " ++ (decimal totals.unreadable ++ (codes " bytes "
+    ++ (codes " texts " ++ (decimal totals.texts
+    ++ (codes " unreadable " ++ (decimal totals.unreadable ++ (codes " bytes "
     ++ decimal totals.bytes))))))))
 
 -- a line for each item, and last how many there are
@@ -77,7 +78,11 @@ extract_text items = flat_map (λ item. line (item_text item)) items ++ line (to
 abbrev pub totals_with : Totals → Outcome → ℕ → Totals
 totals_with totals Folder bytes = record totals { folders = totals.folders + 1; bytes = bytes }
 totals_with totals (File len) bytes = record totals { files = totals.files + 1; bytes = bytes }
-totals_with totals (Both len text) bytes = record totals { files = totals.files + 1; texts = totals.texts + 1; bytes = bytes }
+totals_with totals (Both len text) bytes = record totals {
+  files = totals.files + 1;
+  texts = totals.texts + 1;
+  bytes = bytes;
+}
 totals_with totals (Text len) bytes = record totals { texts = totals.texts + 1; bytes = bytes }
 totals_with totals Unreadable bytes = record totals { unreadable = totals.unreadable + 1; bytes = bytes }
 

@@ -20,9 +20,9 @@ use Rattle.volume_extract.specs.declared.error.ExtractError.TheVariants.{Check, 
 use Rattle.volume_extract.specs.declared.texts.Options.{Options}
 use Rattle.volume_extract.specs.declared.texts.Texts.{Texts}
 
--- How a volume is extracted, whatever its directory is: what its places are called, how its entries are named, what becomes of
--- readable forms, what its files are, what its units mean, which own name an entry's bytes say, and how many bytes may be put into the
--- folder.
+-- How a volume is extracted, whatever its directory is: what its places are called, how its entries are named, what
+-- becomes of readable forms, what its files are, what its units mean, which own name an entry's bytes say, and how many
+-- bytes may be put into the folder.
 pub record Plan : Type 1 where
   pub form : PlaceForm
   pub naming : Naming
@@ -52,13 +52,15 @@ pub record AreWithin (most : ℕ) (items : List Item) : Type 0 where
   pub short : All (λ (item : Item). length item.host ≤ 1024) items
   pub few : bytes_in items ≤ most
 
--- The items of all entries of the directory that a store describes; of an honest folder it is known that just they were made in it,
--- in order. `Tells` says what is told.
-pub record IsExtraction (plan : Plan) (device device_now : DeviceState) (folder folder_now : FolderState) (Tells : List Item → Type 0) : Type 0 where
+-- The items of all entries of the directory that a store describes; of an honest folder it is known that just they were
+-- made in it, in order. `Tells` says what is told.
+pub record IsExtraction (plan : Plan) (device device_now : DeviceState) (folder folder_now : FolderState)
+    (Tells : List Item → Type 0) : Type 0 where
   pub directory : Directory
   pub described : plan.meaning.Describes device.store directory
   pub items : List Item
-  pub are_items : AreItemsAt (source_with plan directory) device (contents_at (source_with plan directory) device device_now) items
+  pub are_items : AreItemsAt (source_with plan directory) device
+      (contents_at (source_with plan directory) device device_now) items
   pub all : length items ≡ entries directory
   pub within : AreWithin plan.most items
   pub made : IsTrue folder.honest → folder_now ≡ after_items items folder
@@ -67,13 +69,17 @@ pub record IsExtraction (plan : Plan) (device device_now : DeviceState) (folder 
 -- ---- refusals
 
 -- behind these items comes one with which all that is made has too many bytes
-pub record IsTooLarge (source : Source) (device : DeviceState) (contents : Contents) (most : ℕ) (items : List Item) : Type 0 where
+pub record IsTooLarge (source : Source) (device : DeviceState) (contents : Contents) (most : ℕ)
+    (items : List Item) : Type 0 where
   pub item : Item
   pub next : IsNextAt source device contents items item
   pub large : most < bytes_in items + bytes_of item
 
--- Behind these items comes one of which the folder refused a call, as it may; of a file a front of its bytes may have been made.
-pub record IsNotMade {O : Type 0} (state : O → FolderState) (may_fail : O → FolderFailure → Type 0) (source : Source) (device : DeviceState) (contents : Contents) (folder folder_now : FolderState) (items : List Item) (failure : FolderFailure) : Type 0 where
+-- Behind these items comes one of which the folder refused a call, as it may; of a file a front of its bytes may have
+-- been made.
+pub record IsNotMade {O : Type 0} (state : O → FolderState) (may_fail : O → FolderFailure → Type 0) (source : Source)
+    (device : DeviceState) (contents : Contents) (folder folder_now : FolderState) (items : List Item)
+    (failure : FolderFailure) : Type 0 where
   pub item : Item
   pub next : IsNextAt source device contents items item
   pub failed : HasFailedCall state may_fail (made_of item) (after_items items folder) folder_now failure
@@ -83,7 +89,8 @@ abbrev pub AreMade : FolderState → FolderState → List Item → Type 0
 AreMade folder folder_now items = IsTrue folder.honest → folder_now ≡ after_items items folder
 
 -- why the entry behind these items is none of them
-abbrev pub IsStopped : {O : Type 0} → (O → FolderState) → (O → FolderFailure → Type 0) → Source → ℕ → DeviceState → Contents → FolderState → FolderState → List Item → ExtractError → Type 0
+abbrev pub IsStopped : {O : Type 0} → (O → FolderState) → (O → FolderFailure → Type 0) → Source → ℕ → DeviceState
+    → Contents → FolderState → FolderState → List Item → ExtractError → Type 0
 IsStopped state may_fail source most device contents folder folder_now items TooDeep =
     IsTooDeep source device contents items × AreMade folder folder_now items
 IsStopped state may_fail source most device contents folder folder_now items TooLarge =
@@ -94,16 +101,19 @@ IsStopped state may_fail source most device contents folder folder_now items Mem
 IsStopped state may_fail source most device contents folder folder_now items Check = ⊥
 IsStopped state may_fail source most device contents folder folder_now items Device = ⊥
 
--- Among the entries of the directory that a store describes there are first ones, of which none is too deep, and whose files have no
--- more bytes than they may; behind them it stopped.
-pub record HasStopped {O : Type 0} (state : O → FolderState) (may_fail : O → FolderFailure → Type 0) (plan : Plan) (device device_now : DeviceState) (folder folder_now : FolderState) (error : ExtractError) : Type 0 where
+-- Among the entries of the directory that a store describes there are first ones, of which none is too deep, and whose
+-- files have no more bytes than they may; behind them it stopped.
+pub record HasStopped {O : Type 0} (state : O → FolderState) (may_fail : O → FolderFailure → Type 0) (plan : Plan)
+    (device device_now : DeviceState) (folder folder_now : FolderState) (error : ExtractError) : Type 0 where
   pub directory : Directory
   pub described : plan.meaning.Describes device.store directory
   pub items : List Item
-  pub are_items : AreItemsAt (source_with plan directory) device (contents_at (source_with plan directory) device device_now) items
+  pub are_items : AreItemsAt (source_with plan directory) device
+      (contents_at (source_with plan directory) device device_now) items
   pub inside : length items ≤ entries directory
   pub within : AreWithin plan.most items
-  pub stopped : IsStopped state may_fail (source_with plan directory) plan.most device (contents_at (source_with plan directory) device device_now)
+  pub stopped : IsStopped state may_fail (source_with plan directory) plan.most device
+      (contents_at (source_with plan directory) device device_now)
       folder folder_now items error
 
 -- nothing was made
@@ -111,7 +121,8 @@ abbrev pub NothingIsMade : FolderState → FolderState → Type 0
 NothingIsMade folder folder_now = IsTrue folder.honest → folder_now ≡ folder
 
 -- Why a volume is not extracted, and what was made then in an honest folder.
-abbrev pub IsRefused : {O : Type 0} → (O → FolderState) → (O → FolderFailure → Type 0) → Plan → DeviceState → DeviceState → FolderState → FolderState → ExtractError → Type 0
+abbrev pub IsRefused : {O : Type 0} → (O → FolderState) → (O → FolderFailure → Type 0) → Plan → DeviceState
+    → DeviceState → FolderState → FolderState → ExtractError → Type 0
 IsRefused state may_fail plan device device_now folder folder_now Check =
     HasHeaderFault plan.meaning device.store × NothingIsMade folder folder_now
 IsRefused state may_fail plan device device_now folder folder_now Device =

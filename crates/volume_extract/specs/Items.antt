@@ -18,8 +18,8 @@ use Rattle.volume_extract.specs.Texts.{HasText, are_alone, view_of}
 use Rattle.volume_extract.specs.declared.texts.Texts.{Texts}
 use Rattle.volume_extract.specs.declared.texts.Texts.TheVariants.{Beside, Alone}
 
--- What is found of an entry: that it is a directory's; a file of these bytes, with a readable form that stands beside it or without;
--- a readable form that stands in the place of its file; or a file that can't be read.
+-- What is found of an entry: that it is a directory's; a file of these bytes, with a readable form that stands beside
+-- it or without; a readable form that stands in the place of its file; or a file that can't be read.
 pub data Found : Type 0 where
   found_folder : Found
   found_file : (bytes : List ℕ) → Found
@@ -35,9 +35,9 @@ is_text (found_file bytes) = false
 is_text (found_both bytes text) = false
 is_text found_unread = false
 
--- What an entry is on the host: the entry of its directory, unless that is the volume's; what its name says; its number among
--- those of its folder with its bare name; in how many directories it stands, the volume's own not counted; its path in the folder
--- of the host; and what is found of it.
+-- What an entry is on the host: the entry of its directory, unless that is the volume's; what its name says; its number
+-- among those of its folder with its bare name; in how many directories it stands, the volume's own not counted; its
+-- path in the folder of the host; and what is found of it.
 pub record Item : Type 0 where
   pub above : Option ℕ
   pub entry : Entry
@@ -99,7 +99,8 @@ has_address volume entry = not (is_folder_at volume entry) && is_binary volume.f
 -- the address of a file: the first two bytes of its whole text, the low one first, and 0 where it can't be read
 abbrev pub IsAddress : SeenVolume → (ℕ → Type 0) → ℕ → ℕ → Type 0
 IsAddress volume failed entry address =
-    ((whole : List ℕ) × IsWholeTextOf volume.meaning volume.directory volume.store entry whole × (address ≡ number_at whole 0))
+    ((whole : List ℕ) × IsWholeTextOf volume.meaning volume.directory volume.store entry whole
+    × (address ≡ number_at whole 0))
     ⊎ (IsUnread volume failed entry × (address ≡ 0))
 
 abbrev pub AuxBy : Bool → SeenVolume → (ℕ → Type 0) → ℕ → ℕ → Type 0
@@ -110,8 +111,8 @@ AuxBy false volume failed entry aux = aux ≡ (shown_of volume entry).aux
 abbrev pub IsAux : SeenVolume → (ℕ → Type 0) → ℕ → ℕ → Type 0
 IsAux volume failed entry aux = AuxBy (has_address volume entry) volume failed entry aux
 
--- What is found of a file that can be read: its body, as a read of it gives it, and its readable form, where it has one. `texts`
--- says whether that stands beside the file or in its place.
+-- What is found of a file that can be read: its body, as a read of it gives it, and its readable form, where it has
+-- one. `texts` says whether that stands beside the file or in its place.
 abbrev pub IsFoundIn : Texts → FileView → Found → Type 0
 IsFoundIn texts view (found_file bytes) = (bytes ≡ view.body) × ((text : List ℕ) → ¬ HasText texts view text)
 IsFoundIn texts view (found_both bytes text) = (texts ≡ Beside) × (bytes ≡ view.body) × HasText Beside view text
@@ -122,7 +123,8 @@ IsFoundIn texts view found_unread = ⊥
 -- a file with this whole text
 abbrev pub view_at : SeenVolume → ℕ → List ℕ → FileView
 view_at volume entry whole =
-    view_of volume.form (shown_of volume entry).kind whole (volume.files.body (entry_of volume.directory entry).bytes whole)
+    view_of volume.form (shown_of volume entry).kind whole
+    (volume.files.body (entry_of volume.directory entry).bytes whole)
 
 -- this is found of a file that can be read
 pub record IsFileFound (texts : Texts) (volume : SeenVolume) (entry : ℕ) (found : Found) : Type 0 where
@@ -131,7 +133,8 @@ pub record IsFileFound (texts : Texts) (volume : SeenVolume) (entry : ℕ) (foun
   pub is_whole : IsWholeTextOf volume.meaning volume.directory volume.store entry whole
   pub is_found : IsFoundIn texts (view_at volume entry whole) found
 
--- What is found of an entry. A file can't be read where it has a fault of its own, or where a read of one of its own units failed.
+-- What is found of an entry. A file can't be read where it has a fault of its own, or where a read of one of its own
+-- units failed.
 abbrev pub IsFound : Texts → SeenVolume → (ℕ → Type 0) → ℕ → Found → Type 0
 IsFound texts volume failed entry found_folder = is_folder_at volume entry ≡ true
 IsFound texts volume failed entry (found_file bytes) = IsFileFound texts volume entry (found_file bytes)
@@ -139,8 +142,8 @@ IsFound texts volume failed entry (found_both bytes text) = IsFileFound texts vo
 IsFound texts volume failed entry (found_text text) = IsFileFound texts volume entry (found_text text)
 IsFound texts volume failed entry found_unread = (is_folder_at volume entry ≡ false) × IsUnread volume failed entry
 
--- What is told of the contents of files: aux types; and what is found, and whether the name says that a readable form stands there in
--- the place of its file. Only where such forms are wanted is it asked for that.
+-- What is told of the contents of files: aux types; and what is found, and whether the name says that a readable form
+-- stands there in the place of its file. Only where such forms are wanted is it asked for that.
 pub record Contents : Type 1 where
   pub alone : Bool
   pub HasAux : ℕ → ℕ → Type 0
@@ -177,9 +180,10 @@ is_alike naming item other =
     option_eq nat_eq item.above other.above
     && bytes_eq (folded (bare_name naming item.entry)) (folded (bare_name naming other.entry))
 
--- The item of the entry behind these, but for what is found of it. Its number is one more than that of the earlier ones that are
--- like it, and its path is its name below the folder of its directory.
-pub record IsNamed (volume : SeenVolume) (own : Listed → List ℕ) (contents : Contents) (naming : Naming) (earlier : List Item) (item : Item) : Type 0 where
+-- The item of the entry behind these, but for what is found of it. Its number is one more than that of the earlier ones
+-- that are like it, and its path is its name below the folder of its directory.
+pub record IsNamed (volume : SeenVolume) (own : Listed → List ℕ) (contents : Contents) (naming : Naming)
+    (earlier : List Item) (item : Item) : Type 0 where
   pub above : IsAbove own volume.directory (length earlier) item.above
   pub form : item.entry.form ≡ volume.form
   pub name : item.entry.name ≡ own (entry_of volume.directory (length earlier))
@@ -195,12 +199,14 @@ pub record IsNamed (volume : SeenVolume) (own : Listed → List ℕ) (contents :
   pub host : item.host ≡ host_below earlier item.above (host_name naming item.entry item.number)
 
 -- the item of the entry behind these
-pub record IsNext (volume : SeenVolume) (own : Listed → List ℕ) (contents : Contents) (naming : Naming) (earlier : List Item) (item : Item) : Type 0 where
+pub record IsNext (volume : SeenVolume) (own : Listed → List ℕ) (contents : Contents) (naming : Naming)
+    (earlier : List Item) (item : Item) : Type 0 where
   pub named : IsNamed volume own contents naming earlier item
   pub found : contents.HasFound (length earlier) item.entry.text item.found
 
 -- the items of the first entries of a volume, in the order of its directory
-pub data AreItems (volume : SeenVolume) (own : Listed → List ℕ) (contents : Contents) (naming : Naming) : List Item → Type 0 where
+pub data AreItems (volume : SeenVolume) (own : Listed → List ℕ) (contents : Contents) (naming : Naming) : List Item
+    → Type 0 where
   no_items : AreItems volume own contents naming []
   one_more : (earlier : List Item) (item : Item) → AreItems volume own contents naming earlier
       → IsNext volume own contents naming earlier item → AreItems volume own contents naming (earlier ++ item ∷ [])
@@ -214,8 +220,8 @@ made_by host (found_both bytes text) = file host bytes ∷ file (text_beside hos
 made_by host (found_text text) = file host text ∷ []
 made_by host found_unread = []
 
--- what is made of an item: a folder, a file of its bytes, its readable form beside that or in its place, or nothing where it can't be
--- read
+-- what is made of an item: a folder, a file of its bytes, its readable form beside that or in its place, or nothing
+-- where it can't be read
 abbrev pub made_of : Item → List Made
 made_of item = made_by item.host item.found
 

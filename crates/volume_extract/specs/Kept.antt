@@ -34,7 +34,8 @@ StandsBefore number None = Unit {0}
 StandsBefore number (Some above) = above < number
 
 -- an item among these is kept so, and its path follows from the names
-pub record IsKept (form : PlaceForm) (name : List ℕ) (naming : Naming) (items : List Item) (number : ℕ) (item : Item) (kept : Kept) : Type 0 where
+pub record IsKept (form : PlaceForm) (name : List ℕ) (naming : Naming) (items : List Item) (number : ℕ) (item : Item)
+    (kept : Kept) : Type 0 where
   pub above : kept.head.above ≡ item.above
   pub before : StandsBefore number kept.head.above
   pub numbered : kept.head.number ≡ item.number
@@ -46,14 +47,16 @@ pub record IsKept (form : PlaceForm) (name : List ℕ) (naming : Naming) (items 
   pub host : item.host ≡ host_below items item.above (host_name naming item.entry item.number)
 
 -- what is kept of these items
-pub record AreKept (form : PlaceForm) (own : Listed → List ℕ) (directory : Directory) (naming : Naming) (items : List Item) (kept : List Kept) : Type 0 where
+pub record AreKept (form : PlaceForm) (own : Listed → List ℕ) (directory : Directory) (naming : Naming)
+    (items : List Item) (kept : List Kept) : Type 0 where
   pub long : length kept ≡ length items
   pub within : length items ≤ entries directory
   pub each : (number : ℕ) → number < length items
       → IsKept form (own (entry_of directory number)) naming items number (item_at items number) (kept_at kept number)
 
 -- an extraction tells these items, those of all entries: a line for each, and how many there are
-pub record TellsItems (form : PlaceForm) (own : Listed → List ℕ) (directory : Directory) (naming : Naming) (items : List Item) (kept : List Kept) (totals : Totals) : Type 0 where
+pub record TellsItems (form : PlaceForm) (own : Listed → List ℕ) (directory : Directory) (naming : Naming)
+    (items : List Item) (kept : List Kept) (totals : Totals) : Type 0 where
   pub are_kept : AreKept form own directory naming items kept
   pub all : length items ≡ entries directory
   pub counts : totals ≡ totals_of items

@@ -11,7 +11,8 @@ use Rattle.volume_extract.specs.Items.{Item, item_at}
 -- the text is the lines of the items, one behind the other, and the last line
 abbrev pub IsTextOfLines : List Item → Type 0
 IsTextOfLines items = extract_text items
-    ≡ flat_map (λ number. line (item_text (item_at items number))) (range_with_len 0 (length items)) ++ line (totals_text (totals_of items))
+    ≡ flat_map (λ number. line (item_text (item_at items number))) (range_with_len 0 (length items))
+    ++ line (totals_text (totals_of items))
 
 -- of two items the paths differ, letters of either case taken as one
 abbrev pub HaveOwnPaths : List Item → Type 0
@@ -23,12 +24,15 @@ abbrev pub HaveSafePaths : List Item → Type 0
 HaveSafePaths items = (number : ℕ) → number < length items
     → IsSafePath (item_at items number).host × IsSafePath (text_beside (item_at items number).host)
 
--- Where files have a type in their names, the path of no readable form beside a file is that of a file, letters of either case taken as
--- one, and those of two differ.
+-- Where files have a type in their names, the path of no readable form beside a file is that of a file, letters of
+-- either case taken as one, and those of two differ.
 pub record HaveOwnTexts (naming : Naming) (items : List Item) (one other : ℕ) : Type 0 where
-  pub file : has_tail naming (item_at items one).entry.directory ≡ true → has_tail naming (item_at items other).entry.directory ≡ true
+  pub file : has_tail naming (item_at items one).entry.directory ≡ true
+      → has_tail naming (item_at items other).entry.directory ≡ true
       → folded (text_beside (item_at items one).host) ≢ folded (item_at items other).host
-  pub text : one ≢ other → folded (text_beside (item_at items one).host) ≢ folded (text_beside (item_at items other).host)
+  pub text : one ≢ other → folded (text_beside (item_at items one).host)
+      ≢ folded (text_beside (item_at items other).host)
 
 abbrev pub TextsHaveOwnPaths : Naming → List Item → Type 0
-TextsHaveOwnPaths naming items = (one other : ℕ) → one < length items → other < length items → HaveOwnTexts naming items one other
+TextsHaveOwnPaths naming items =
+    (one other : ℕ) → one < length items → other < length items → HaveOwnTexts naming items one other

@@ -49,7 +49,8 @@ pub record IsSeen (texts : Texts) (volume : SeenVolume) (failed : ℕ → Type 0
   pub found : IsFound texts volume failed entry (body_view seen.body)
   pub address : is_folder_at volume entry ≡ false → IsAddress volume failed entry seen.address
 
--- a file that has to be seen before it is named: one that has an address, or any where the name says whether it has a readable form
+-- a file that has to be seen before it is named: one that has an address, or any where the name says whether it has a
+-- readable form
 abbrev pub is_early : Texts → SeenVolume → ℕ → Bool
 is_early texts volume entry =
     not (is_folder_at volume entry) && (are_alone texts || is_binary volume.form (shown_of volume entry))

@@ -23,7 +23,8 @@ IsHalfMade (folder path) old new = new ≡ old
 IsHalfMade (file path bytes) old new = IsCutShort path bytes old new
 
 -- Of what was to be made the first ones were, and then the folder refused a call, as it may.
-pub record HasFailedCall {O : Type 0} (state : O → FolderState) (may_fail : O → FolderFailure → Type 0) (made : List Made) (old new : FolderState) (failure : FolderFailure) : Type 0 where
+pub record HasFailedCall {O : Type 0} (state : O → FolderState) (may_fail : O → FolderFailure → Type 0)
+    (made : List Made) (old new : FolderState) (failure : FolderFailure) : Type 0 where
   pub first : List Made
   pub next : Made
   pub rest : List Made

@@ -7,6 +7,7 @@ use Rattle.vol_format.specs.Directory.{Listed}
 abbrev pub dos_own : Listed → List ℕ
 dos_own entry = entry.path
 
--- the first byte of an entry has the length of its name, which stands behind it (ProDOS 8 Technical Reference Manual, Appendix B)
+-- the first byte of an entry has the length of its name, which stands behind it (ProDOS 8 Technical Reference Manual,
+-- Appendix B)
 abbrev pub pro_own : Listed → List ℕ
 pro_own entry = name_of entry.bytes

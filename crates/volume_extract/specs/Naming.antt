@@ -16,7 +16,8 @@ abbrev pub key_by : PlaceForm → List ℕ → Naming → Head → NameKey
 key_by form name naming head = key_with head.above (folded (bare_name naming (head_entry form name head)))
 
 -- what the name of an entry says, that stands there and has this own name; and its number among these names
-pub record IsHead (form : PlaceForm) (name : List ℕ) (folder : Bool) (naming : Naming) (place : Place) (tail : Tail) (keys : List NameKey) (names : Names) (head : Head) : Type 0 where
+pub record IsHead (form : PlaceForm) (name : List ℕ) (folder : Bool) (naming : Naming) (place : Place) (tail : Tail)
+    (keys : List NameKey) (names : Names) (head : Head) : Type 0 where
   pub above : head.above ≡ place.above
   pub depth : head.depth ≡ place.depth
   pub kind : head.kind ≡ tail.kind

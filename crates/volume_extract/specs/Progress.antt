@@ -29,13 +29,15 @@ kept_of next = record { head = next.head; outcome = outcome_of (body_view next.b
 
 -- an item is ready to be made, behind these
 pub record IsReady (source : Source) (items : List Item) (item : Item) (next : Next) : Type 0 where
-  pub kept : IsKept source.form (source.own (entry_of source.directory (length items))) source.naming items (length items) item (kept_of next)
+  pub kept : IsKept source.form (source.own (entry_of source.directory (length items))) source.naming items
+      (length items) item (kept_of next)
   pub host : string_bytes next.host ≡ item.host
   pub short : length item.host ≤ 1024
   pub body : body_view next.body ≡ item.found
 
 -- an entry is ready, and its name is counted
-pub record HasNext (source : Source) (device : DeviceState) (contents : Contents) (items : List Item) (names : Names) (next : Next) : Type 0 where
+pub record HasNext (source : Source) (device : DeviceState) (contents : Contents) (items : List Item) (names : Names)
+    (next : Next) : Type 0 where
   pub item : Item
   pub is_next : IsNextAt source device contents items item
   pub ready : IsReady source items item next
@@ -51,14 +53,17 @@ HasNoNext source device contents items Check = ⊥
 HasNoNext source device contents items Device = ⊥
 
 -- an item that was ready is made
-pub record IsTaken (most : ℕ) (next : Next) (old new : List Kept) (totals totals_now : Totals) (folder folder_now : FolderState) : Type 0 where
+pub record IsTaken (most : ℕ) (next : Next) (old new : List Kept) (totals totals_now : Totals)
+    (folder folder_now : FolderState) : Type 0 where
   pub kept : new ≡ old ++ kept_of next ∷ []
-  pub counts : totals_now ≡ totals_with totals (outcome_of (body_view next.body)) (totals.bytes + bytes_found (body_view next.body))
+  pub counts : totals_now ≡ totals_with totals (outcome_of (body_view next.body))
+      (totals.bytes + bytes_found (body_view next.body))
   pub few : totals.bytes + bytes_found (body_view next.body) ≤ most
   pub made : IsTrue folder.honest → folder_now ≡ after_item (string_bytes next.host) (body_view next.body) folder
 
 -- why an item was not made: a call of the folder failed, or there was no memory and no call was done
-abbrev pub IsNotMadeOf : {O : Type 0} → (O → FolderState) → (O → FolderFailure → Type 0) → List ℕ → Found → O → FolderState → ExtractError → Type 0
+abbrev pub IsNotMadeOf : {O : Type 0} → (O → FolderState) → (O → FolderFailure → Type 0) → List ℕ → Found → O
+    → FolderState → ExtractError → Type 0
 IsNotMadeOf state may_fail host found folder folder_now (Folder failure) =
     HasFailedCall state may_fail (made_by host found) (state folder) folder_now failure
 IsNotMadeOf state may_fail host found folder folder_now Memory = folder_now ≡ state folder
@@ -68,18 +73,21 @@ IsNotMadeOf state may_fail host found folder folder_now Check = ⊥
 IsNotMadeOf state may_fail host found folder folder_now Device = ⊥
 
 -- or why it isn't
-abbrev pub IsNotTaken : {O : Type 0} → (O → FolderState) → (O → FolderFailure → Type 0) → ℕ → Next → Totals → O → FolderState → ExtractError → Type 0
+abbrev pub IsNotTaken : {O : Type 0} → (O → FolderState) → (O → FolderFailure → Type 0) → ℕ → Next → Totals → O
+    → FolderState → ExtractError → Type 0
 IsNotTaken state may_fail most next totals folder folder_now TooLarge =
     (most < totals.bytes + bytes_found (body_view next.body)) × (folder_now ≡ state folder)
 IsNotTaken state may_fail most next totals folder folder_now (Folder failure) =
-    HasFailedCall state may_fail (made_by (string_bytes next.host) (body_view next.body)) (state folder) folder_now failure
+    HasFailedCall state may_fail (made_by (string_bytes next.host) (body_view next.body))
+    (state folder) folder_now failure
 IsNotTaken state may_fail most next totals folder folder_now Memory = folder_now ≡ state folder
 IsNotTaken state may_fail most next totals folder folder_now TooDeep = ⊥
 IsNotTaken state may_fail most next totals folder folder_now Check = ⊥
 IsNotTaken state may_fail most next totals folder folder_now Device = ⊥
 
 -- These items of the first entries were made.
-pub record IsExtracting (source : Source) (most : ℕ) (device device_now : DeviceState) (folder folder_now : FolderState) (items : List Item) (kept : List Kept) (totals : Totals) (names : Names) : Type 0 where
+pub record IsExtracting (source : Source) (most : ℕ) (device device_now : DeviceState) (folder folder_now : FolderState)
+    (items : List Item) (kept : List Kept) (totals : Totals) (names : Names) : Type 0 where
   pub reads : ReadsOn device device_now
   pub are_items : AreItemsAt source device (contents_since source device device_now) items
   pub are_kept : AreKept source.form source.own source.directory source.naming items kept
@@ -91,12 +99,14 @@ pub record IsExtracting (source : Source) (most : ℕ) (device device_now : Devi
   pub made : IsTrue folder.honest → folder_now ≡ after_items items folder
 
 -- one more was made
-abbrev pub HasOneMore : Source → ℕ → DeviceState → DeviceState → FolderState → FolderState → List Item → List Kept → Totals → Names → Type 0
+abbrev pub HasOneMore : Source → ℕ → DeviceState → DeviceState → FolderState → FolderState → List Item → List Kept
+    → Totals → Names → Type 0
 HasOneMore source most device device_now folder folder_now items kept totals names =
     (item : Item) × IsExtracting source most device device_now folder folder_now (items ++ item ∷ []) kept totals names
 
 -- all items were made
-pub record IsDone (source : Source) (most : ℕ) (device device_now : DeviceState) (folder folder_now : FolderState) (Tells : List Item → Type 0) : Type 0 where
+pub record IsDone (source : Source) (most : ℕ) (device device_now : DeviceState) (folder folder_now : FolderState)
+    (Tells : List Item → Type 0) : Type 0 where
   pub items : List Item
   pub are_items : AreItemsAt source device (contents_since source device device_now) items
   pub all : length items ≡ entries source.directory
@@ -105,9 +115,11 @@ pub record IsDone (source : Source) (most : ℕ) (device device_now : DeviceStat
   pub tells : Tells items
 
 -- the first ones were made, and behind them it stopped
-pub record HasStoppedAt {O : Type 0} (state : O → FolderState) (may_fail : O → FolderFailure → Type 0) (source : Source) (most : ℕ) (device device_now : DeviceState) (folder folder_now : FolderState) (error : ExtractError) : Type 0 where
+pub record HasStoppedAt {O : Type 0} (state : O → FolderState) (may_fail : O → FolderFailure → Type 0) (source : Source)
+    (most : ℕ) (device device_now : DeviceState) (folder folder_now : FolderState) (error : ExtractError) : Type 0 where
   pub items : List Item
   pub are_items : AreItemsAt source device (contents_since source device device_now) items
   pub inside : length items ≤ entries source.directory
   pub within : AreWithin most items
-  pub stopped : IsStopped state may_fail source most device (contents_since source device device_now) folder folder_now items error
+  pub stopped : IsStopped state may_fail source most device (contents_since source device device_now) folder
+      folder_now items error

@@ -11,8 +11,8 @@ use Rattle.volume_compare.specs.Contents.{SeenVolume, volume_in}
 use Rattle.volume_extract.specs.Items.{AreItems, Contents, IsAbove, IsNamed, IsNext, Item, contents_of, contents_where, depth_below}
 use Rattle.volume_extract.specs.declared.texts.Texts.{Texts}
 
--- What its places are called, how its entries are named, what becomes of readable forms, what its files are, what its units mean,
--- which own name an entry's bytes say, and its directory.
+-- What its places are called, how its entries are named, what becomes of readable forms, what its files are, what its
+-- units mean, which own name an entry's bytes say, and its directory.
 pub record Source : Type 1 where
   pub form : PlaceForm
   pub naming : Naming
@@ -64,7 +64,7 @@ pub record StandsTooDeep (source : Source) (items : List Item) : Type 0 where
   pub is_above : IsAbove source.own source.directory (length items) above
   pub deep : 64 < depth_below items above
 
--- The entry behind these items is too deep. That it stands in too many directories is known before it is named, and that its path is
--- too long before its file is read, unless its name tells the address of a file.
+-- The entry behind these items is too deep. That it stands in too many directories is known before it is named, and
+-- that its path is too long before its file is read, unless its name tells the address of a file.
 abbrev pub IsTooDeep : Source → DeviceState → Contents → List Item → Type 0
 IsTooDeep source device contents items = StandsTooDeep source items ⊎ HasLongPath source device contents items

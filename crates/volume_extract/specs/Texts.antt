@@ -36,8 +36,8 @@ view_of form kind whole body = record {
 abbrev pub IsIntegerListing : FileView → List ℕ → Type 0
 IsIntegerListing file text = (file.info.file_type ≡ 0xfa) × IsInForm Integer file text
 
--- The readable form that is put into the folder. Beside a file it is one that gives the bytes of the file back; in the place of a
--- file it may be a listing in Integer BASIC too.
+-- The readable form that is put into the folder. Beside a file it is one that gives the bytes of the file back; in the
+-- place of a file it may be a listing in Integer BASIC too.
 abbrev pub HasText : Texts → FileView → List ℕ → Type 0
 HasText Without file text = ⊥
 HasText Beside file text = IsReadable file text

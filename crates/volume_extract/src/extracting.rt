@@ -37,7 +37,6 @@ fn extract_next<D: Device, F: TreeFormat, O: Folder>(
     files: &mut VolumeFiles,
     names: &mut Names,
     entry: u32,
-    most: u64,
 ) -> Result<(), ExtractError>
     requires fits { Fits (F.meaning told.old.opened.format.now) (D.state device.old) }
     requires places { (F.directory told.old.opened.format.now told.old.opened.volume).places
@@ -50,8 +49,8 @@ fn extract_next<D: Device, F: TreeFormat, O: Folder>(
     requires begun { (start : DeviceState) × (before : FolderState) × (items : List Item) × IsExtracting
         (source_of told.old.opened.form told.old.opened.naming told.old.opened.texts
         (F.files told.old.opened.format.now) (F.meaning told.old.opened.format.now) (F.own told.old.opened.format.now)
-        (F.directory told.old.opened.format.now told.old.opened.volume)) most start (D.state device.old) before
-        (O.state folder.old) items told.old.kept.items told.old.totals names.old }
+        (F.directory told.old.opened.format.now told.old.opened.volume)) told.old.opened.most start
+        (D.state device.old) before (O.state folder.old) items told.old.kept.items told.old.totals names.old }
 
     ensures reads { ReadsOn (D.state device.old) (D.state device.new) }
     ensures files { AreFilesOf (F.meaning told.old.opened.format.now)
@@ -62,18 +61,19 @@ fn extract_next<D: Device, F: TreeFormat, O: Folder>(
         (F.files told.old.opened.format.now) (F.meaning told.old.opened.format.now)
         (F.own told.old.opened.format.now) (F.directory told.old.opened.format.now told.old.opened.volume) in
         (start : DeviceState) (before : FolderState) (items : List Item)
-        → IsExtracting source most start (D.state device.old) before (O.state folder.old) items told.old.kept.items
-        told.old.totals names.old
+        → IsExtracting source told.old.opened.most start (D.state device.old) before (O.state folder.old) items
+        told.old.kept.items told.old.totals names.old
         → MatchResult result
-        (λ _. HasOneMore source most start (D.state device.new) before (O.state folder.new) items
+        (λ _. HasOneMore source told.old.opened.most start (D.state device.new) before (O.state folder.new) items
         told.new.kept.items told.new.totals names.new)
-        (IsStopped O.state O.may_fail source most start (contents_since source start (D.state device.new)) before
-        (O.state folder.new) items) }
+        (IsStopped O.state O.may_fail source told.old.opened.most start
+        (contents_since source start (D.state device.new)) before (O.state folder.new) items) }
 {
     let next = match next_item(alloc, device, &told.opened, &told.kept, files, names, entry) {
         Ok(next) => next,
         Err(error) => return Err(error),
     };
+    let most = told.opened.most;
     take_item(alloc, told, folder, &next, most)
 }
 
@@ -83,7 +83,6 @@ fn extract_read<'a, D: Device, F: TreeFormat, O: Folder>(
     device: &mut D,
     folder: &mut O,
     opened: Opened<'a, F>,
-    most: u64,
 ) -> Result<Extraction<'a, F>, ExtractError>
     requires fits { Fits (F.meaning opened.format.now) (D.state device.old) }
     requires places { (F.directory opened.format.now opened.volume).places ≡ (D.state device.old).places }
@@ -93,15 +92,15 @@ fn extract_read<'a, D: Device, F: TreeFormat, O: Folder>(
     ensures done { let source = source_of opened.entry.form opened.entry.naming opened.entry.texts
         (F.files opened.entry.format.now) (F.meaning opened.entry.format.now) (F.own opened.entry.format.now)
         (F.directory opened.entry.format.now opened.entry.volume) in
-        IfOk result (λ told. IsDone source most (D.state device.old) (D.state device.new) (O.state folder.old)
-        (O.state folder.new) (λ items. TellsItems told.opened.form (F.own told.opened.format.now)
+        IfOk result (λ told. IsDone source opened.entry.most (D.state device.old) (D.state device.new)
+        (O.state folder.old) (O.state folder.new) (λ items. TellsItems told.opened.form (F.own told.opened.format.now)
         (F.directory told.opened.format.now told.opened.volume) told.opened.naming items told.kept.items
         told.totals)) }
     ensures stopped { let source = source_of opened.entry.form opened.entry.naming opened.entry.texts
         (F.files opened.entry.format.now) (F.meaning opened.entry.format.now) (F.own opened.entry.format.now)
         (F.directory opened.entry.format.now opened.entry.volume) in
-        IfErr result (HasStoppedAt O.state O.may_fail source most (D.state device.old) (D.state device.new)
-        (O.state folder.old) (O.state folder.new)) }
+        IfErr result (HasStoppedAt O.state O.may_fail source opened.entry.most (D.state device.old)
+        (D.state device.new) (O.state folder.old) (O.state folder.new)) }
 {
     let Ok(mut files) = VolumeFiles::open(alloc, device, opened.format, &opened.volume) else {
         return Err(ExtractError::Memory);
@@ -114,7 +113,7 @@ fn extract_read<'a, D: Device, F: TreeFormat, O: Folder>(
     };
     for entry in 0..told.opened.format.entries(&told.opened.volume) {
         let made = extract_next(
-            alloc, device, folder, &mut told, &mut files, &mut names, entry, most,
+            alloc, device, folder, &mut told, &mut files, &mut names, entry,
         );
         if let Err(error) = made {
             return Err(error);
@@ -163,7 +162,8 @@ pub fn extract<'a, D: Device, F: TreeFormat, O: Folder>(
         form,
         naming: options.naming,
         texts: options.texts_put(),
+        most: options.most,
         volume,
     };
-    extract_read(alloc, device, folder, opened, options.most)
+    extract_read(alloc, device, folder, opened)
 }

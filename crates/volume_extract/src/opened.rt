@@ -1,4 +1,4 @@
-// A volume that was read, and how its entries are named.
+// A volume that was read, and how it is extracted.
 ghost use Rattle.std.specs.Prelude.{◌≡◌, ◌<◌};
 ghost use Rattle.vol_format.specs.Directory.{entries, entry_of, is_directory};
 
@@ -8,7 +8,8 @@ use host_folders::Naming;
 use vol_format::Link;
 use vol_layout::PlaceForm;
 
-/// A volume that was read, and how its entries are named on the host.
+/// A volume that was read, and how it is extracted: how its entries are named on the host, what becomes of readable
+/// forms, and how many bytes may be made.
 #[derive(Drop)]
 pub struct Opened<'a, F: TreeFormat> {
     pub format: &'a F,
@@ -16,6 +17,8 @@ pub struct Opened<'a, F: TreeFormat> {
     pub form: PlaceForm,
     pub naming: Naming,
     pub texts: Texts,
+    /// The most bytes that all that is made may have.
+    pub most: u64,
     pub volume: F::Volume,
 }
 

@@ -44,8 +44,8 @@ static DOS_ROWS: [Row; 2] = [
     (b"E1", None, None, None, b""),
 ];
 
-/// NOTE, binary where nothing is said, and TWO, whose type 04, aux type 1234 and two bytes stand in an AppleSingle file of
-/// version 2: its head with two entries, ProDOS information at 50 and the data fork at 58.
+/// NOTE, binary where nothing is said, and TWO, whose type 04, aux type 1234 and two bytes stand in an AppleSingle file
+/// of version 2: its head with two entries, ProDOS information at 50 and the data fork at 58.
 static PRO_ROWS: [Row; 2] = [
     (b"note", None, Some(0x2000), None, b"abc"),
     (
@@ -59,8 +59,8 @@ static PRO_ROWS: [Row; 2] = [
     ),
 ];
 
-/// The writes that save HI, its list at track 3 sector 13 and its unit at sector 12, and then those of E1, whose list at
-/// sector 11 names none.
+/// The writes that save HI, its list at track 3 sector 13 and its unit at sector 12, and then those of E1, whose list
+/// at sector 11 names none.
 static DOS_WRITES: [&[Piece]; 7] = [
     &[(61, 0x0c, &[3, 12])],
     &[(60, 0x00, &[0x00, 0x03, 0x03, 0x00, 0xa9, 0x00, 0x60])],

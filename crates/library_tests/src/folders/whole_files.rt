@@ -343,7 +343,8 @@ fn new_failing(alloc: Global, failing: u32) -> io::Result<(Option<ErrorKind>, bo
     Ok((error, folder.holds(&OLD)))
 }
 
-/// The calls: asked three times where the path leads; made, written twice, put onto the disk; its place made, and taken.
+/// The calls: asked three times where the path leads; made, written twice, put onto the disk; its place made, and
+/// taken.
 #[test]
 fn each_call_of_a_new_file_failing(rt: HostRuntime) -> Result<(), Fail> {
     for failing in 0..9u32 {

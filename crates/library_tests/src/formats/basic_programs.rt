@@ -12,10 +12,12 @@ const HELLO: [u8; 74] = [
 ];
 
 const TEXT: &str =
-    "10 HOME : PRINT \"HELLO, WORLD\"\n20 FOR I=1 TO 10: PRINT I;: NEXT\n30 REM  DONE\n40 DATA  A, \"B:C\",3: GOTO 10\n";
+    "10 HOME : PRINT \"HELLO, WORLD\"\n20 FOR I=1 TO 10: PRINT I;: NEXT\n30 REM  DONE\n\
+    40 DATA  A, \"B:C\",3: GOTO 10\n";
 
 const LISTED: &str =
-    "10  HOME : PRINT \"HELLO, WORLD\"\n20  FOR I = 1 TO 10: PRINT I;: NEXT \n30  REM  DONE\n40  DATA  A, \"B:C\",3: GOTO 10\n";
+    "10  HOME : PRINT \"HELLO, WORLD\"\n20  FOR I = 1 TO 10: PRINT I;: NEXT \n30  REM  DONE\n\
+    40  DATA  A, \"B:C\",3: GOTO 10\n";
 
 #[test]
 fn a_program_is_made_and_listed(rt: HostRuntime) -> Result<(), Fail> {

@@ -79,7 +79,8 @@ fn what_can_t_be_wrapped_is_told(rt: HostRuntime) -> Result<(), Fail> {
     Ok(())
 }
 
-/// A container with a gap of two bytes behind its header, a payload of one byte over and over, and three bytes behind it.
+/// A container with a gap of two bytes behind its header, a payload of one byte over and over, and three bytes behind
+/// it.
 fn gapped(alloc: Global, payload: u8) -> Result<Vec<u8>, AllocError> {
     let mut file = Vec::from_slice(alloc, HEADER.as_slice())?;
     file[0x18] = 66;

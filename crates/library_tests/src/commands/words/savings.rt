@@ -9,8 +9,8 @@ use std::alloc::Global;
 use std::process::Abort;
 use std::test::Fail;
 
-/// The words behind `save a.dsk NOTE --order dos --from b --out c.dsk` are those of a saving with this aux type, in this
-/// form; or of one that replaces a file.
+/// The words behind `save a.dsk NOTE --order dos --from b --out c.dsk` are those of a saving with this aux type, in
+/// this form; or of one that replaces a file.
 fn saves_over(
     rt: &impl Abort,
     alloc: Global,

@@ -19,7 +19,7 @@ returns-in_default-clause-stopped g c =
     stopped_at_once g.O.Folder.state g.O.Folder.may_fail
     (source_of opened.form opened.naming opened.texts (g.F.FileFormat.files opened.format.now) (g.F.Format.meaning opened.format.now)
     (g.F.TreeFormat.own opened.format.now) (g.F.Format.directory opened.format.now opened.volume))
-    c.args.most (g.D.Device.state c.args.device.now) (g.D.Device.state c.open.new.device) (g.O.Folder.state c.args.folder.now)
+    opened.most (g.D.Device.state c.args.device.now) (g.D.Device.state c.open.new.device) (g.O.Folder.state c.args.folder.now)
 
 pub loop-entry-init : goal.loop-entry-init
 loop-entry-init g c =
@@ -39,7 +39,7 @@ loop-entry-init g c =
         begun
             (source_of opened.form opened.naming opened.texts (g.F.FileFormat.files opened.format.now) (g.F.Format.meaning opened.format.now)
             (g.F.TreeFormat.own opened.format.now) (g.F.Format.directory opened.format.now opened.volume))
-            c.args.most start now (g.O.Folder.state c.args.folder.now) c.new.result.items c.none.result c.new-names.result
+            opened.most start now (g.O.Folder.state c.args.folder.now) c.new.result.items c.none.result c.new-names.result
             c.in-Ok.ensures.reads c.new.ensures.items c.none.ensures c.new-names.ensures,
       );
     }
@@ -55,7 +55,7 @@ returns-in-Err-clause-stopped g c =
     let folder = g.O.Folder.state c.args.folder.now in
     let source = source_of opened.form opened.naming opened.texts (g.F.FileFormat.files opened.format.now) (g.F.Format.meaning opened.format.now)
     (g.F.TreeFormat.own opened.format.now) (g.F.Format.directory opened.format.now opened.volume) in
-    let stopped : HasStoppedAt g.O.Folder.state g.O.Folder.may_fail source c.args.most start last folder (g.O.Folder.state c.extract_next-made.new.folder) c.in-Err.error = record {
+    let stopped : HasStoppedAt g.O.Folder.state g.O.Folder.may_fail source opened.most start last folder (g.O.Folder.state c.extract_next-made.new.folder) c.in-Err.error = record {
       items = items.0;
       are_items = items_later source start now last c.in-Err.ensures.reads items.0 items.2.are_items;
       inside = omega (arith, items.1, before.within);
@@ -66,7 +66,7 @@ returns-in-Err-clause-stopped g c =
     (λ (opened : Opened g.row.F.Denot g.row.F-Volume.Denot). HasStoppedAt g.O.Folder.state g.O.Folder.may_fail
     (source_of opened.form opened.naming opened.texts (g.F.FileFormat.files opened.format.now) (g.F.Format.meaning opened.format.now)
     (g.F.TreeFormat.own opened.format.now) (g.F.Format.directory opened.format.now opened.volume))
-    c.args.most start last folder (g.O.Folder.state c.extract_next-made.new.folder) c.in-Err.error)
+    opened.most start last folder (g.O.Folder.state c.extract_next-made.new.folder) c.in-Err.error)
     before.opened stopped
 
 pub loop-entry-preserved : goal.loop-entry-preserved
@@ -86,7 +86,7 @@ loop-entry-preserved g c =
     × IsExtracting
     (source_of opened.form opened.naming opened.texts (g.F.FileFormat.files opened.format.now) (g.F.Format.meaning opened.format.now)
     (g.F.TreeFormat.own opened.format.now) (g.F.Format.directory opened.format.now opened.volume))
-    c.args.most start last folder (g.O.Folder.state c.extract_next-made.new.folder) (items.0 ++ more.0 ∷ []) told.kept.items told.totals c.extract_next-made.new.names)
+    opened.most start last folder (g.O.Folder.state c.extract_next-made.new.folder) (items.0 ++ more.0 ∷ []) told.kept.items told.totals c.extract_next-made.new.names)
     (sym made.opened) (made.files, more.1) in
     record {
       reads = read_twice start now last before.reads made.reads;
@@ -115,7 +115,7 @@ returns-clause-done g c =
     omega (arith, items.1, many, before.within, c.loop-entry-test.false, c.entries-entry-end.ensures) in
     let Tells : List Item → Type 0 = λ items. TellsItems opened.form (g.F.TreeFormat.own opened.format.now)
     (g.F.Format.directory opened.format.now opened.volume) opened.naming items told.kept.items told.totals in
-    let done : IsDone source c.args.most start now folder (g.O.Folder.state c.loop-entry.folder) Tells = record {
+    let done : IsDone source opened.most start now folder (g.O.Folder.state c.loop-entry.folder) Tells = record {
       items = items.0;
       are_items = items.2.are_items;
       all = all;
@@ -127,5 +127,5 @@ returns-clause-done g c =
     (λ (opened : Opened g.row.F.Denot g.row.F-Volume.Denot). IsDone
     (source_of opened.form opened.naming opened.texts (g.F.FileFormat.files opened.format.now) (g.F.Format.meaning opened.format.now)
     (g.F.TreeFormat.own opened.format.now) (g.F.Format.directory opened.format.now opened.volume))
-    c.args.most start now folder (g.O.Folder.state c.loop-entry.folder) Tells)
+    opened.most start now folder (g.O.Folder.state c.loop-entry.folder) Tells)
     before.opened done

@@ -17,6 +17,6 @@ invariant-loop-entry g l = record {
       (g.D.Device.state l.device) l.files;
   items : (items : List Item) × (length items ≡ l.entry) × IsExtracting
       (source_of l.told.opened.form l.told.opened.naming l.told.opened.texts (g.F.FileFormat.files l.told.opened.format.now) (g.F.Format.meaning l.told.opened.format.now)
-      (g.F.TreeFormat.own l.told.opened.format.now) (g.F.Format.directory l.told.opened.format.now l.told.opened.volume)) l.most
+      (g.F.TreeFormat.own l.told.opened.format.now) (g.F.Format.directory l.told.opened.format.now l.told.opened.volume)) l.told.opened.most
       (g.D.Device.state l.fn.device) (g.D.Device.state l.device) (g.O.Folder.state l.fn.folder) (g.O.Folder.state l.folder) items l.told.kept.items l.told.totals l.names;
 }
