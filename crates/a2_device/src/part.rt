@@ -1,7 +1,7 @@
 // The units of files.
 
 /// What a unit of a file is: a track/sector list (DOS), a master index or an index (ProDOS), or a unit of its body.
-#[derive(Clone, Copy, Debug, PartialEq, Eq)]
+#[derive(Clone, Copy, PartialEq, Eq)]
 pub enum PartKind {
     List,
     Master,
@@ -11,7 +11,7 @@ pub enum PartKind {
 
 /// One unit of a file: the number of the file's entry among those in use, its kind, its number among the units of that
 /// kind, and its place.
-#[derive(Clone, Copy, Debug, PartialEq, Eq)]
+#[derive(Clone, Copy, PartialEq, Eq)]
 pub struct Part {
     pub file: u32,
     pub kind: PartKind,

@@ -23,7 +23,7 @@ const FEWEST_BLOCKS: u64 = 16;
 const MOST_BLOCKS: u64 = 65_535;
 
 /// Why a file is not opened in place of an image. Of several causes the first in this order is told.
-#[derive(Clone, Copy, Debug, PartialEq, Eq, Error)]
+#[derive(Clone, Copy, Debug, Error)]
 pub enum FileError {
     /// The units of an image in this order don't stand in its file as they are.
     #[error("the units of the image do not stand in its file as they are")]

@@ -32,7 +32,7 @@ use a2_image::{Image, ImageError, SECTOR_BYTES, sectors_of_block};
 use std::alloc::Allocator;
 
 /// What stands at a place: a sector of 256 bytes (DOS) or a block of 512 (ProDOS).
-#[derive(Clone, Copy, Debug, PartialEq, Eq)]
+#[derive(Clone, Copy)]
 pub enum UnitKind {
     Sector,
     Block,

@@ -7,7 +7,7 @@ ghost use Rattle.a2_media.specs.lemmas.Windows.{whole_window};
 use crate::file::{FileFailure, PositionedFile};
 
 /// Where so many bytes stand in a file.
-#[derive(Clone, Copy, Debug, PartialEq, Eq)]
+#[derive(Clone, Copy)]
 pub struct Extent {
     /// Where the first of them stands.
     pub start: u64,

@@ -19,7 +19,7 @@ const WINDOW: usize = 64;
 pub const TRACKS: u8 = 35;
 
 /// Where the 343 disk bytes of a sector stand, and the volume of its address field.
-#[derive(Clone, Copy, Debug, PartialEq, Eq)]
+#[derive(Clone, Copy, PartialEq, Eq)]
 pub struct Field {
     pub data_at: u16,
     pub volume: u8,

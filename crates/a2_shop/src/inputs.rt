@@ -20,13 +20,23 @@ pub struct OpenContainer {
 
 /// The image of a job, open, and its bytes where all of them were read, and those of a file beside
 /// it.
-#[derive(Drop)]
 pub struct Inputs {
     pub image: OpenImage,
     /// Of an image in a container the bytes of the image.
     pub bytes: Option<Vec<u8>>,
     pub extra: Option<Vec<u8>>,
     pub container: Option<OpenContainer>,
+}
+
+impl Drop for Inputs {
+    fn drop(self) {
+        let Inputs {
+            image: _,
+            bytes: _,
+            extra: _,
+            container: _,
+        } = self;
+    }
 }
 
 impl Inputs {

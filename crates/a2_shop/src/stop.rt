@@ -15,7 +15,7 @@ use std::io::{self, ErrorKind, Write};
 const REFUSED: u8 = 3;
 
 /// Why a job is not done.
-#[derive(Clone, Copy, Debug)]
+#[derive(Clone, Copy)]
 pub enum Stop {
     /// The words are no job: why was told, with this status.
     Told(u8),

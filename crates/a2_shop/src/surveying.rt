@@ -10,7 +10,7 @@ use std::fs::{self, File, Metadata};
 use std::io::{Read, Write};
 
 /// A file that is told of, by its path; or a folder with a name in it that can't be read.
-#[derive(Debug, PartialEq, Eq, PartialOrd, Ord, Drop)]
+#[derive(PartialEq, Eq, PartialOrd, Ord, Drop)]
 struct Item {
     path: String,
     is_unread: bool,

@@ -15,7 +15,7 @@ pub enum HighBit {
 }
 
 /// What bytes a text may be taken for.
-#[derive(Clone, Copy, Debug, PartialEq, Eq)]
+#[derive(Clone, Copy)]
 pub struct TextForm {
     pub high: HighBit,
     /// Whether a byte may be $00, which ends a text of DOS 3.3.
@@ -23,7 +23,7 @@ pub struct TextForm {
 }
 
 /// Why no bytes are taken from a text.
-#[derive(Clone, Copy, Debug, PartialEq, Eq, Error)]
+#[derive(Clone, Copy, Debug, Error)]
 pub enum TakeError {
     /// The first line that no bytes show, counted from 1.
     #[error("line {0} can't be taken")]

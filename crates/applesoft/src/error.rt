@@ -7,7 +7,7 @@ use std::alloc::{AllocError, AllocFailed};
 use thiserror::Error;
 
 /// Why a program is not listed.
-#[derive(Clone, Copy, Debug, PartialEq, Eq, Error)]
+#[derive(Clone, Copy, Debug, Error)]
 pub enum ListError {
     /// A byte is no token, or a line or the program has no end.
     #[error("it is no program in Applesoft BASIC")]
@@ -17,7 +17,7 @@ pub enum ListError {
 }
 
 /// Why a text is no program.
-#[derive(Clone, Copy, Debug, PartialEq, Eq, Error)]
+#[derive(Clone, Copy, Debug, Error)]
 pub enum TokenError {
     /// The first line, counted from 1, with which the lines before it are no program.
     #[error("line {0} can't be taken")]

@@ -2,7 +2,7 @@
 use a2_device::Order;
 
 /// What a container says of the image in it, its payload, and where that stands.
-#[derive(Clone, Copy, Debug, PartialEq, Eq)]
+#[derive(Clone, Copy, PartialEq, Eq)]
 pub struct Container {
     /// The order of the image.
     pub order: Order,

@@ -6,7 +6,7 @@ use crate::container::Container;
 use std::alloc::{AllocError, Allocator, Global};
 
 /// What stands around the payload of a container.
-#[derive(Debug, Drop)]
+#[derive(Drop)]
 pub struct Shell<A: Allocator = Global> {
     /// In front of it: the header, and what stands between it and the payload.
     pub front: Vec<u8, A>,

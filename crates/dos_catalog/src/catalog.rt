@@ -40,7 +40,7 @@ use std::alloc::{AllocError, Allocator, Global};
 const CATALOG_TRACK: u8 = 17;
 
 /// The sectors of a catalog, its entries in use and its first slot that has none, in catalog order.
-#[derive(Debug, Drop)]
+#[derive(Drop)]
 pub struct Catalog<A: Allocator = Global> {
     sectors: Vec<u32, A>,
     entries: Vec<Entry, A>,

@@ -23,7 +23,7 @@ pub(crate) const SECTORS: usize = 0x21;
 
 /// An entry of the catalog: the place of its sector, its number there from 0, and its 35 bytes
 /// (Beneath Apple DOS, chapter 4).
-#[derive(Clone, Copy, Debug, PartialEq, Eq)]
+#[derive(Clone, Copy)]
 pub struct Entry {
     pub place: u32,
     pub slot: u32,

@@ -10,7 +10,7 @@ const OLD_TRACK: usize = 0x20;
 
 /// What a new entry has: the place of its first track/sector list, its kind with the bit that locks it, the 30 bytes of
 /// its name as they are stored, and its length in sectors (Beneath Apple DOS, chapter 4).
-#[derive(Clone, Copy, Debug, PartialEq, Eq)]
+#[derive(Clone, Copy)]
 pub struct NewEntry {
     pub pointer: u32,
     pub kind: u8,

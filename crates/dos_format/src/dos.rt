@@ -26,12 +26,22 @@ use vol_layout::Reserved;
 const PLACES: u32 = 560;
 
 /// DOS 3.3; on a data disk, tracks 1 and 2 are for files.
-#[derive(Debug, Drop)]
 pub struct Dos33<A: Allocator = Global> {
     alloc: A,
     data_disk: bool,
     reserved: Reserved<A>,
     available: PlaceOrder<A>,
+}
+
+impl<A: Allocator> Drop for Dos33<A> {
+    fn drop(self) {
+        let Dos33 {
+            alloc: _,
+            data_disk: _,
+            reserved: _,
+            available: _,
+        } = self;
+    }
 }
 
 impl<A: Allocator> Model for Dos33<A> {
@@ -131,7 +141,7 @@ fn first_list(entry: &Entry) -> Option<(u8, u8)>
 }
 
 /// The VTOC and the catalog of a volume.
-#[derive(Debug, Drop)]
+#[derive(Drop)]
 pub struct DosVolume<A: Allocator = Global> {
     vtoc: Vtoc,
     catalog: Catalog<A>,

@@ -45,7 +45,7 @@ const PLACES: u32 = 560;
 const VOLUME_NUMBER: usize = 0x06;
 
 /// The volume table of contents of a volume of 35 tracks of 16 sectors (Beneath Apple DOS, chapter 4).
-#[derive(Debug, Drop)]
+#[derive(Drop)]
 pub struct Vtoc {
     bytes: [u8; 256],
 }

@@ -12,7 +12,7 @@ use pro_dir::{count, set_count};
 use std::alloc::Allocator;
 
 /// Whether a directory counts one file more, or one less.
-#[derive(Clone, Copy, Debug, PartialEq, Eq)]
+#[derive(Clone, Copy)]
 pub enum FileCount {
     More,
     Less,

@@ -2,7 +2,7 @@
 use std::alloc::{Allocator, Global};
 
 /// One event of a replay.
-#[derive(Clone, Copy, Debug, PartialEq, Eq)]
+#[derive(Clone, Copy)]
 pub enum Event<'a> {
     /// The next write of the session, if one is left.
     Step,
@@ -17,7 +17,7 @@ pub enum Event<'a> {
 }
 
 /// What a replay answers to an event.
-#[derive(Debug, Drop)]
+#[derive(Drop)]
 pub enum Answer<A: Allocator = Global> {
     /// It was done.
     Stepped,

@@ -1,7 +1,7 @@
 // A row of the tables of the explanations.
 
 /// What the words at the front of a line mean.
-#[derive(Clone, Copy, Debug, PartialEq, Eq)]
+#[derive(Clone, Copy)]
 pub struct Explanation {
     /// The words with which the line begins.
     pub front: &'static str,

@@ -16,7 +16,7 @@ use vol_check::FileWalker;
 use vol_format::Format;
 
 /// What is read of the parts of a file.
-#[derive(Debug, Drop)]
+#[derive(Drop)]
 pub enum FileParts<A: Allocator = Global> {
     /// Its parts, in order.
     Whole(Vec<Part, A>),

@@ -12,7 +12,7 @@ use std::alloc::{AllocError, Allocator, Global};
 use vol_format::Format;
 
 /// What is read of a file.
-#[derive(Debug, Drop)]
+#[derive(Drop)]
 pub enum FileText<A: Allocator = Global> {
     /// Its whole text.
     Whole(Vec<u8, A>),

@@ -1,7 +1,7 @@
 // What is known of a volume before it is changed.
 
 /// What is known of whether a volume is accepted, before it is changed.
-#[derive(Clone, Copy, Debug, PartialEq, Eq)]
+#[derive(Clone, Copy)]
 pub enum Acceptance {
     /// Nothing is known: a check looks for it first.
     Unknown,

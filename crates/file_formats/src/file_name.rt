@@ -1,7 +1,7 @@
 // How a file of a volume is named.
 
 /// How a file of a volume is named.
-#[derive(Clone, Copy, Debug)]
+#[derive(Clone, Copy)]
 pub enum FileName<'a> {
     /// By a path, as it is given.
     Path(&'a [u8]),

@@ -4,7 +4,7 @@ use pro_dir::ProDate;
 use std::alloc::{Allocator, Global};
 
 /// An entry of a listing.
-#[derive(Debug, Drop)]
+#[derive(Drop)]
 pub struct ListEntry<A: Allocator = Global> {
     pub locked: bool,
     /// The kind of the file; for DOS without the bit that locks it.
@@ -27,7 +27,7 @@ pub struct ListEntry<A: Allocator = Global> {
 }
 
 /// What a catalog shows.
-#[derive(Debug, Drop)]
+#[derive(Drop)]
 pub struct Listing<A: Allocator = Global> {
     /// For DOS the one byte of the volume number.
     pub volume: StoredName<A>,

@@ -5,7 +5,7 @@ use std::alloc::{AllocError, Allocator, Global};
 use std::marker::Model;
 
 /// The bytes of a name, a path or a volume number, as they are stored.
-#[derive(Debug, Drop)]
+#[derive(Drop)]
 pub struct StoredName<A: Allocator = Global> {
     bytes: Vec<u8, A>,
 }

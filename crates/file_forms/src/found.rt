@@ -6,7 +6,7 @@ use apple_single::FileInfo;
 use vol_layout::PlaceForm;
 
 /// A file of a volume that was read.
-#[derive(Clone, Copy, Debug)]
+#[derive(Clone, Copy)]
 pub struct FoundFile<'a> {
     /// That of a volume of DOS 3.3 (`Sector`) or of ProDOS (`Block`).
     pub system: PlaceForm,

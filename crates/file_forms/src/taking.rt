@@ -10,7 +10,7 @@ use std::alloc::{Allocator, Global};
 use vol_layout::PlaceForm;
 
 /// A new file: its type and aux type of ProDOS, and its bytes.
-#[derive(Debug, Drop)]
+#[derive(Drop)]
 pub struct TakenFile<A: Allocator = Global> {
     pub file_type: u8,
     pub aux_type: u16,

@@ -7,7 +7,7 @@ use a2_device::Part;
 use row_text::{Digest, Digested};
 
 /// What is known of a file beside its entry.
-#[derive(Clone, Copy, Debug, PartialEq, Eq)]
+#[derive(Clone, Copy)]
 pub struct Facts {
     /// The address of a binary file of DOS 3.3, where it was read.
     pub address: Option<u16>,
@@ -16,7 +16,7 @@ pub struct Facts {
 }
 
 /// Whether the parts of files are told, and those of a file.
-#[derive(Clone, Copy, Debug)]
+#[derive(Clone, Copy)]
 pub enum KnownParts<'a> {
     /// They are not told.
     Untold,
@@ -27,7 +27,7 @@ pub enum KnownParts<'a> {
 }
 
 /// What is known of a file: the facts, and its parts.
-#[derive(Clone, Copy, Debug)]
+#[derive(Clone, Copy)]
 pub struct KnownFile<'a> {
     pub facts: Facts,
     pub parts: KnownParts<'a>,
@@ -45,7 +45,7 @@ impl KnownFile<'_> {
 }
 
 // A digest as it is kept: there are many of them, so its count takes no room to be aligned.
-#[derive(Clone, Copy, Debug)]
+#[derive(Clone, Copy)]
 pub(crate) enum KeptDigest {
     Untold,
     Missing,
@@ -53,7 +53,7 @@ pub(crate) enum KeptDigest {
 }
 
 // What is kept of a file.
-#[derive(Clone, Copy, Debug)]
+#[derive(Clone, Copy)]
 pub(crate) struct Kept {
     pub address: Option<u16>,
     pub digest: KeptDigest,

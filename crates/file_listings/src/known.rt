@@ -22,7 +22,7 @@ use std::alloc::{AllocError, Allocator, Global};
 
 /// What is known of the files of a volume, in the order of its entries. Where places are told, the parts of the files
 /// stand in one list, those of each file behind those of the file before it.
-#[derive(Debug, Drop)]
+#[derive(Drop)]
 pub struct KnownFiles<A: Allocator = Global> {
     places: bool,
     kept: Vec<Kept, A>,

@@ -42,7 +42,6 @@ pub fn most_path_bytes<A: Allocator>(volume: &ProVolume<A>) -> usize
 
 /// The lines of the listing of a ProDOS volume that was read, made one at a time. The room for the longest is taken
 /// first, so that no line that is made later wants memory.
-#[derive(Debug, Drop)]
 pub struct ProLines<A: Allocator = Global> {
     alloc: A,
     style: Style,
@@ -50,6 +49,19 @@ pub struct ProLines<A: Allocator = Global> {
     known: KnownFiles<A>,
     path: Vec<u8, A>,
     line: String<A>,
+}
+
+impl<A: Allocator> Drop for ProLines<A> {
+    fn drop(self) {
+        let ProLines {
+            alloc: _,
+            style: _,
+            volume: _,
+            known: _,
+            path: _,
+            line: _,
+        } = self;
+    }
 }
 
 // The line of an entry, with its end.

@@ -36,13 +36,24 @@ fn path_in<A: Allocator, B: Allocator>(
 
 /// The steps of a plan of a ProDOS volume that was read, in words, of which one line is made at a time. The room for
 /// the longest is taken first, so that no line that is made later wants memory.
-#[derive(Debug, Drop)]
 pub struct ProSteps<A: Allocator = Global> {
     alloc: A,
     volume: ProVolume<A>,
     steps: Vec<Step, A>,
     path: Vec<u8, A>,
     line: String<A>,
+}
+
+impl<A: Allocator> Drop for ProSteps<A> {
+    fn drop(self) {
+        let ProSteps {
+            alloc: _,
+            volume: _,
+            steps: _,
+            path: _,
+            line: _,
+        } = self;
+    }
 }
 
 impl<A: Allocator + Copy> ProSteps<A> {

@@ -9,7 +9,7 @@ use std::fmt;
 use vol_layout::{PlaceForm, PlaceWord};
 
 /// One move of a plan: the part where it stands before the move, and the place to which it goes.
-#[derive(Clone, Copy, Debug)]
+#[derive(Clone, Copy)]
 pub struct Step {
     pub part: Part,
     pub to: u32,

@@ -1,7 +1,7 @@
 // How a volume is listed.
 
 /// How the entries of a volume are told as data, a line each.
-#[derive(Clone, Copy, Debug, PartialEq, Eq)]
+#[derive(Clone, Copy)]
 pub enum EntryStyle {
     /// The path of each, with a slash behind a directory's.
     Names,
@@ -14,7 +14,7 @@ pub enum EntryStyle {
 }
 
 /// How a volume is listed.
-#[derive(Clone, Copy, Debug, PartialEq, Eq)]
+#[derive(Clone, Copy)]
 pub enum Style {
     /// As the file system does: the volume's name, a line of facts for each entry, and what is free.
     Catalog,

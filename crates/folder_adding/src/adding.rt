@@ -18,7 +18,7 @@ use shop_replies::Reply;
 use std::alloc::Global;
 
 /// The first item that was not saved, or directory that was not made, and why; those before it were.
-#[derive(Debug, Drop)]
+#[derive(Drop)]
 pub struct Refused {
     /// Its number, counted from 0.
     pub item: usize,

@@ -3,7 +3,7 @@ ghost use Rattle.std.specs.Prelude.{◌≡◌, codes, nat_eq};
 ghost use Rattle.std.specs.List.{starts_with};
 
 /// What an entry of a folder is.
-#[derive(Clone, Copy, Debug, PartialEq, Eq, PartialOrd, Ord)]
+#[derive(Clone, Copy, PartialEq, Eq, PartialOrd, Ord)]
 pub enum HostKind {
     File,
     Folder,
@@ -12,7 +12,7 @@ pub enum HostKind {
 }
 
 /// An entry of a folder, or of a folder within it.
-#[derive(Debug, PartialEq, Eq, PartialOrd, Ord, Drop)]
+#[derive(PartialEq, Eq, PartialOrd, Ord, Drop)]
 pub struct HostEntry {
     /// Its path from the folder on, with `/` between its parts.
     pub path: String,

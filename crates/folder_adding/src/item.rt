@@ -9,7 +9,7 @@ use shop_changes::SaidFile;
 use shop_jobs::FileSystem;
 
 /// A file that is to be saved.
-#[derive(Debug, PartialEq, Eq, Drop)]
+#[derive(PartialEq, Eq, Drop)]
 pub struct Item {
     /// Its path on the volume.
     pub path: Vec<u8>,
@@ -22,7 +22,7 @@ pub struct Item {
 }
 
 /// Files that are to be saved to one volume, in this order.
-#[derive(Clone, Copy, Debug)]
+#[derive(Clone, Copy)]
 pub struct Batch<'a> {
     pub file_system: FileSystem,
     /// The date of the creation of each.

@@ -8,7 +8,6 @@ use std::alloc::AllocError;
 use thiserror::Error;
 
 /// What is to be done with the entries of a folder whose files are added to a volume.
-#[derive(Debug, PartialEq, Eq, Drop)]
 pub struct Plan {
     /// The paths of the directories that are made, each where none is there.
     pub directories: Vec<Vec<u8>>,
@@ -20,6 +19,18 @@ pub struct Plan {
     pub files: Vec<usize>,
     /// The numbers of the entries that are passed over with a word.
     pub passed: Vec<usize>,
+}
+
+impl Drop for Plan {
+    fn drop(self) {
+        let Plan {
+            directories: _,
+            folders: _,
+            items: _,
+            files: _,
+            passed: _,
+        } = self;
+    }
 }
 
 /// Why a folder has no plan.

@@ -57,7 +57,7 @@ use vol_check::{CheckError, check};
 use vol_layout::Reserved;
 
 /// A folder whose files are added to a volume.
-#[derive(Clone, Copy, Debug)]
+#[derive(Clone, Copy)]
 pub(crate) struct Folder<'a> {
     pub file_system: FileSystem,
     /// The directory of the volume into which they go, where one is said.

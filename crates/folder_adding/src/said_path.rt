@@ -10,7 +10,7 @@ use std::alloc::{AllocError, Global};
 use vol_layout::PlaceForm;
 
 /// What the path of a file says.
-#[derive(Debug, Drop)]
+#[derive(Drop)]
 pub(crate) struct HostPath {
     /// The stored names of the directories that lead to it.
     pub directories: Vec<Vec<u8>>,
@@ -18,7 +18,7 @@ pub(crate) struct HostPath {
 }
 
 /// What the path of a folder says.
-#[derive(Debug, Drop)]
+#[derive(Drop)]
 pub(crate) struct HostDirectory {
     /// The stored names of the directories that lead to the directory.
     pub directories: Vec<Vec<u8>>,

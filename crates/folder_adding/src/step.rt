@@ -4,7 +4,7 @@ use shop_jobs::FileSystem;
 use shop_replies::Refusal;
 
 /// Where on a volume the files of a folder go.
-#[derive(Clone, Copy, Debug)]
+#[derive(Clone, Copy)]
 pub(crate) struct Destination<'a> {
     pub file_system: FileSystem,
     /// The path of a directory, where one is said.
@@ -12,7 +12,7 @@ pub(crate) struct Destination<'a> {
 }
 
 /// What is done with an entry.
-#[derive(Debug, Drop)]
+#[derive(Drop)]
 pub(crate) enum Step {
     /// It is saved.
     Adds(Item),
@@ -23,7 +23,7 @@ pub(crate) enum Step {
 }
 
 /// What is done with an entry, or why it is refused.
-#[derive(Debug, Drop)]
+#[derive(Drop)]
 pub(crate) enum Weighed {
     Step(Step),
     Refused(Refusal),

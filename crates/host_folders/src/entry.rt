@@ -2,7 +2,7 @@
 use vol_layout::PlaceForm;
 
 /// Whether the type and the aux type of a file stand in its name.
-#[derive(Clone, Copy, Debug, PartialEq, Eq)]
+#[derive(Clone, Copy, PartialEq, Eq)]
 pub enum Naming {
     /// They do: `HELLO#060300`.
     Naps,
@@ -11,7 +11,7 @@ pub enum Naming {
 }
 
 /// An entry of a volume.
-#[derive(Clone, Copy, Debug)]
+#[derive(Clone, Copy)]
 pub struct Stored<'a> {
     /// That of a volume of DOS 3.3 (`Sector`) or of ProDOS (`Block`).
     pub form: PlaceForm,

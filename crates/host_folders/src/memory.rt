@@ -7,7 +7,7 @@ use crate::folder::{Folder, FolderFailure};
 use std::alloc::{Allocator, Global};
 
 /// What was made in a folder: a folder, or a file of these bytes, at a path.
-#[derive(Debug, PartialEq, Eq, Drop)]
+#[derive(Drop)]
 pub enum MadeItem<A: Allocator = Global> {
     Folder { path: String<A> },
     File { path: String<A>, bytes: Vec<u8, A> },

@@ -2,7 +2,7 @@
 use std::alloc::Allocator;
 
 /// What the bytes of a file of the host are.
-#[derive(Clone, Copy, Debug, PartialEq, Eq)]
+#[derive(Clone, Copy)]
 pub enum Content {
     /// Those that the file is to have on the volume.
     Bytes,
@@ -13,7 +13,7 @@ pub enum Content {
 }
 
 /// A file that is to be made on a volume.
-#[derive(Debug, Drop)]
+#[derive(Drop)]
 pub struct HostFile<A: Allocator> {
     /// Its stored name; in DOS 3.3 without the spaces that fill it up.
     pub name: Vec<u8, A>,

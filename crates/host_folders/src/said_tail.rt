@@ -10,7 +10,7 @@ use crate::digits::first_number;
 use crate::said::Content;
 
 /// The type and the aux type of a file, and what its bytes are.
-#[derive(Clone, Copy, Debug)]
+#[derive(Clone, Copy)]
 pub(crate) struct Tail {
     pub file_type: u8,
     pub aux_type: u16,

@@ -18,7 +18,7 @@ use shop_jobs::FileSystem;
 use std::alloc::{AllocError, Global};
 
 /// How an image is to be read, where a file system, an order or both are left open.
-#[derive(Clone, Copy, Debug, PartialEq, Eq)]
+#[derive(Clone, Copy)]
 pub enum Choice {
     /// The reading in this way beats every other.
     Way {

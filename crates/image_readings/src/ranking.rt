@@ -14,7 +14,7 @@ ghost use Rattle.image_readings.specs.Ranking.{
 use crate::reading::{Finding, Found, Reading, Standing};
 
 /// Which reading of a list is best.
-#[derive(Clone, Copy, Debug, PartialEq, Eq)]
+#[derive(Clone, Copy)]
 pub enum Verdict {
     /// The reading of this number beats every other.
     Best(usize),

@@ -3,7 +3,7 @@ use a2_device::Order;
 use shop_jobs::FileSystem;
 
 /// What the checker says of a volume whose directory can be read.
-#[derive(Clone, Copy, Debug, PartialEq, Eq)]
+#[derive(Clone, Copy, PartialEq, Eq)]
 pub enum Standing {
     /// It is accepted, and has so many files and lost places.
     Accepted { files: u32, lost: usize },
@@ -12,7 +12,7 @@ pub enum Standing {
 }
 
 /// What is found of a volume whose directory can be read.
-#[derive(Clone, Copy, Debug, PartialEq, Eq)]
+#[derive(Clone, Copy, PartialEq, Eq)]
 pub struct Found {
     /// How many entries are in use, those of directories among them.
     pub entries: u32,
@@ -22,7 +22,7 @@ pub struct Found {
 }
 
 /// The ways to read an image, and what is found in each.
-#[derive(Clone, Copy, Debug, PartialEq, Eq)]
+#[derive(Clone, Copy, PartialEq, Eq)]
 pub enum Finding {
     /// No header of a volume, or a unit of the header or the directory can't be read.
     Unreadable,
@@ -32,7 +32,7 @@ pub enum Finding {
 }
 
 /// A way to read an image, and what is found so.
-#[derive(Clone, Copy, Debug, PartialEq, Eq)]
+#[derive(Clone, Copy)]
 pub struct Reading {
     pub file_system: FileSystem,
     pub order: Order,

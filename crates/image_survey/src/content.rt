@@ -23,7 +23,7 @@ use vol_layout::PlaceForm;
 const MOST_BYTES: u64 = 1_073_741_824;
 
 /// The content of a volume.
-#[derive(Clone, Copy, Debug, PartialEq, Eq)]
+#[derive(Clone, Copy)]
 pub enum Content {
     /// The digest of the lines of all files, and whether each file could be read.
     Of { sha256: [u8; 32], whole: bool },

@@ -7,7 +7,7 @@ ghost use Rattle.image_survey.specs.Told.{counts_by, counts_of, counts_with};
 use crate::surveyed::{ImageVerdict, Surveyed};
 
 /// How many files there are of each kind.
-#[derive(Clone, Copy, Debug, PartialEq, Eq)]
+#[derive(Clone, Copy)]
 pub struct Counts {
     pub best: u64,
     pub ambiguous: u64,

@@ -17,7 +17,7 @@ use vol_format::{Format, Link};
 use vol_layout::PlaceForm;
 
 /// What is told of a volume.
-#[derive(Debug, Drop)]
+#[derive(Drop)]
 pub struct VolumeFacts {
     /// The bytes of its name, as they are stored; of DOS 3.3 the one byte of its number.
     pub name: StoredName,

@@ -18,7 +18,7 @@ use vol_layout::PlaceForm;
 use volume_compare::is_binary;
 
 /// What the content of a volume tells of a file.
-#[derive(Debug, Drop)]
+#[derive(Drop)]
 pub struct FileLine {
     /// The bytes of its path, as they are stored.
     pub path: StoredName,

@@ -35,7 +35,7 @@ use std::alloc::{AllocError, Global};
 use std::fmt;
 
 /// The word for what is found of a file.
-#[derive(Clone, Copy, Debug, PartialEq, Eq)]
+#[derive(Clone, Copy)]
 pub enum VerdictWord {
     Best,
     Ambiguous,

@@ -12,7 +12,7 @@ use crate::surveyed::{ImageVerdict, Surveyed};
 use std::alloc::{AllocError, Global};
 
 /// An image that may be the same as another: its path, and the content of its volume.
-#[derive(Debug, Drop)]
+#[derive(Drop)]
 pub struct Kept {
     pub content: [u8; 32],
     pub path: String,

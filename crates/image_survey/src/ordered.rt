@@ -15,7 +15,7 @@ use vol_format::{Format, Link};
 const MOST_PATH_BYTES: usize = 16_777_216;
 
 /// The file of an entry, with its path.
-#[derive(Debug, Drop)]
+#[derive(Drop)]
 pub struct Named {
     /// The bytes of its path, as they are stored.
     pub path: StoredName,

@@ -24,7 +24,7 @@ use crate::kept::Kept;
 use std::alloc::{AllocError, Global};
 
 /// The line of an image that is the same as another.
-#[derive(Clone, Copy, Debug, PartialEq, Eq)]
+#[derive(Clone, Copy)]
 pub struct SameLine {
     /// The number of its group, from 1.
     pub group: usize,

@@ -44,7 +44,7 @@ use std::io::Write;
 const FAILED: u8 = 4;
 
 /// A survey of files: what was found so far, and the images that may be the same as another.
-#[derive(Debug, Drop)]
+#[derive(Drop)]
 pub struct Survey {
     form: SurveyForm,
     counts: Counts,

@@ -5,7 +5,7 @@ use a2_device::Order;
 use shop_jobs::FileSystem;
 
 /// The best way to read an image, and its volume.
-#[derive(Debug, Drop)]
+#[derive(Drop)]
 pub struct BestReading {
     pub file_system: FileSystem,
     pub order: Order,
@@ -13,7 +13,7 @@ pub struct BestReading {
 }
 
 /// What is found of an image.
-#[derive(Debug, Drop)]
+#[derive(Drop)]
 pub enum ImageVerdict {
     /// One way to read it is best.
     Best(BestReading),
@@ -24,7 +24,7 @@ pub enum ImageVerdict {
 }
 
 /// A file with an image.
-#[derive(Debug, Drop)]
+#[derive(Drop)]
 pub struct ImageFile {
     /// The SHA-256 of all bytes of the file.
     pub sha256: [u8; 32],
@@ -34,7 +34,7 @@ pub struct ImageFile {
 }
 
 /// What is found of a file.
-#[derive(Debug, Drop)]
+#[derive(Drop)]
 pub enum Surveyed {
     Image(ImageFile),
     /// It is no image.

@@ -2,7 +2,7 @@
 use pro_dir::ProDate;
 
 /// What an empty volume is to be.
-#[derive(Clone, Copy, Debug, PartialEq, Eq)]
+#[derive(Clone, Copy, PartialEq, Eq)]
 pub enum NewVolume<'a> {
     /// A DOS 3.3 disk.
     Dos {

@@ -53,7 +53,7 @@ pub(crate) const BLOCK_BYTES: usize = 512;
 pub(crate) const BLOCKS: u32 = 4096;
 
 /// The bitmap of a volume, which has a bit for each block (ProDOS 8 Technical Reference Manual, Appendix B).
-#[derive(Debug, Drop)]
+#[derive(Drop)]
 pub struct Bitmap<A: Allocator = Global> {
     first: u32,
     total: u32,

@@ -5,7 +5,7 @@ ghost use Rattle.std.specs.Int.RustNames.{bit_and, bit_or};
 use bitflags::{Flag, Flags, bitflag_items};
 
 /// The access bits of an entry; bits without a name are kept (ProDOS 8 Technical Reference Manual, Appendix B).
-#[derive(Clone, Copy, PartialEq, Eq, Debug)]
+#[derive(Clone, Copy)]
 pub struct Access(u8);
 
 bitflag_items! {

@@ -53,7 +53,7 @@ const DIRECTORY: u8 = 0x0d;
 
 /// An entry of a directory: the key block of its directory, the block that has it, its number there from 0, the
 /// header's slot among them, and its 39 bytes (ProDOS 8 Technical Reference Manual, Appendix B).
-#[derive(Clone, Copy, Debug, PartialEq, Eq)]
+#[derive(Clone, Copy)]
 pub struct Entry {
     pub directory: u16,
     pub place: u16,

@@ -7,7 +7,7 @@ ghost use Rattle.pro_dir.specs.Within.{IsReadWithin};
 use crate::entry::{BLOCK_BYTES, ENTRIES, Entry};
 
 /// A slot that has no entry: the key block of its directory, the block that has it, and its number there.
-#[derive(Clone, Copy, Debug)]
+#[derive(Clone, Copy)]
 pub struct FreeSlot {
     pub directory: u16,
     pub place: u16,

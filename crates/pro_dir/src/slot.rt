@@ -17,7 +17,7 @@ const NAME_BYTES: usize = 15;
 /// What a new file's entry has: its storage type, its name and the length of that, its type, its key pointer, the
 /// blocks that it uses, its length in bytes, its auxiliary type, its access bits, the date of its creation and
 /// modification, and the key block of its directory (ProDOS 8 Technical Reference Manual, Appendix B).
-#[derive(Clone, Copy, Debug, PartialEq, Eq)]
+#[derive(Clone, Copy)]
 pub struct NewFile {
     pub storage: u8,
     pub name: [u8; 15],

@@ -45,7 +45,7 @@ const TOTAL: usize = 0x25;
 const BITS: u32 = 4096;
 
 // The header of the volume's directory, its 39 bytes.
-#[derive(Clone, Copy, Debug)]
+#[derive(Clone, Copy)]
 struct Header {
     bytes: [u8; ENTRY_BYTES],
 }
@@ -80,7 +80,6 @@ impl Header {
 /// The header of a volume, its directory blocks, all entries in directory order, those inside a subdirectory after its
 /// own entry, for each key block the entry of its directory, and the first slot without an entry of each directory that
 /// has one.
-#[derive(Debug, Drop)]
 pub struct VolumeDir<A: Allocator = Global> {
     header: Header,
     blocks: Vec<u16, A>,
@@ -89,6 +88,18 @@ pub struct VolumeDir<A: Allocator = Global> {
     free: Vec<FreeSlot, A>,
     ghost related: { KnowsDirectories entries.items directories.items },
     ghost few: { length entries.items < 4294967296 },
+}
+
+impl<A: Allocator> Drop for VolumeDir<A> {
+    fn drop(self) {
+        let VolumeDir {
+            header: _,
+            blocks: _,
+            entries: _,
+            directories: _,
+            free: _,
+        } = self;
+    }
 }
 
 // Whether block 2 has the header of a volume of so many blocks.

@@ -16,7 +16,7 @@ use vol_format::{Format, Holder, Link, PlaceOrder};
 use vol_layout::Reserved;
 
 /// ProDOS, with the places that the owner keeps for the system.
-#[derive(Debug, Drop)]
+#[derive(Drop)]
 pub struct Prodos<A: Allocator = Global> {
     alloc: A,
     reserved: Reserved<A>,

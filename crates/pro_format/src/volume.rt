@@ -9,13 +9,23 @@ use std::alloc::{Allocator, Global};
 use vol_format::PlaceOrder;
 
 /// The directories and the map of a volume, and which of its places are available.
-#[derive(Debug, Drop)]
 pub struct ProVolume<A: Allocator = Global> {
     pub(crate) directory: VolumeDir<A>,
     pub(crate) map: Bitmap<A>,
     pub(crate) system: Vec<bool, A>,
     pub(crate) available: PlaceOrder<A>,
     ghost fitted: { IsFitted (directory_of directory) map system.items available },
+}
+
+impl<A: Allocator> Drop for ProVolume<A> {
+    fn drop(self) {
+        let ProVolume {
+            directory: _,
+            map: _,
+            system: _,
+            available: _,
+        } = self;
+    }
 }
 
 impl<A: Allocator> ProVolume<A> {

@@ -10,7 +10,6 @@ use thiserror::Error;
 use vol_layout::Move;
 
 /// What the lines of a certificate tell, in their order.
-#[derive(Drop)]
 pub struct Cert<A: Allocator = Global> {
     /// The place of each part.
     pub at: Vec<u32, A>,
@@ -24,6 +23,19 @@ pub struct Cert<A: Allocator = Global> {
     pub bound: u32,
     /// Moves that bring each part home.
     pub moves: Vec<Move, A>,
+}
+
+impl<A: Allocator> Drop for Cert<A> {
+    fn drop(self) {
+        let Cert {
+            at: _,
+            places: _,
+            off: _,
+            rings: _,
+            bound: _,
+            moves: _,
+        } = self;
+    }
 }
 
 /// Why a text is no certificate.

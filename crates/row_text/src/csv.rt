@@ -11,7 +11,7 @@ use crate::wide::{wide_byte, wide_word};
 use std::fmt;
 
 /// The line of the names of the fields, without a line end.
-#[derive(Clone, Copy, Debug)]
+#[derive(Clone, Copy)]
 pub struct CsvHeader {
     /// Whether digests are told.
     pub digests: bool,

@@ -7,7 +7,7 @@ use std::fmt;
 use vol_layout::{PlaceForm, PlaceWord};
 
 /// Whether the places of files are told, and those of an entry.
-#[derive(Clone, Copy, Debug)]
+#[derive(Clone, Copy)]
 pub enum Placed<'a> {
     /// Places are not told.
     Untold,

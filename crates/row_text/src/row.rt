@@ -3,14 +3,14 @@
 use crate::places::Placed;
 
 /// What is told of the contents of a file: how many bytes, and their SHA-256.
-#[derive(Clone, Copy, Debug, PartialEq, Eq)]
+#[derive(Clone, Copy, PartialEq, Eq)]
 pub struct Digest {
     pub count: u64,
     pub sha256: [u8; 32],
 }
 
 /// Whether digests are told, and that of an entry.
-#[derive(Clone, Copy, Debug, PartialEq, Eq)]
+#[derive(Clone, Copy, PartialEq, Eq)]
 pub enum Digested {
     /// Digests are not told.
     Untold,
@@ -21,7 +21,7 @@ pub enum Digested {
 }
 
 /// What is told of an entry of a volume. What its file system does not have is left out.
-#[derive(Clone, Copy, Debug)]
+#[derive(Clone, Copy)]
 pub struct Row<'a> {
     /// The access byte of ProDOS.
     pub access: Option<u8>,

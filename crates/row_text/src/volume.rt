@@ -8,7 +8,7 @@ use crate::json_text::JsonText;
 use std::fmt;
 
 /// The file system of a volume.
-#[derive(Clone, Copy, Debug, PartialEq, Eq)]
+#[derive(Clone, Copy, PartialEq, Eq)]
 pub enum FileSystem {
     Dos,
     Prodos,
@@ -26,7 +26,7 @@ impl fmt::Display for FileSystem {
 }
 
 /// What a volume is called: a number on DOS 3.3, a name on ProDOS.
-#[derive(Clone, Copy, Debug)]
+#[derive(Clone, Copy)]
 pub enum VolumeName<'a> {
     Number(u8),
     Name(&'a [u8]),
@@ -52,7 +52,7 @@ impl fmt::Display for JsonName<'_> {
 }
 
 /// The line of a volume in JSON, without a line end.
-#[derive(Clone, Copy, Debug)]
+#[derive(Clone, Copy)]
 pub struct JsonVolume<'a> {
     /// How many entries it has.
     pub entries: usize,

@@ -3,7 +3,7 @@ use std::alloc::AllocError;
 use thiserror::Error;
 
 /// Why a file is not saved as it is given.
-#[derive(Clone, Copy, Debug, PartialEq, Eq, Error)]
+#[derive(Clone, Copy, Debug, Error)]
 pub enum GivenError {
     /// The file is longer than the two bytes of its head can say.
     #[error("the file is longer than its head can say")]

@@ -19,7 +19,7 @@ use std::alloc::{AllocError, Global};
 pub const MOST_INPUT: usize = 16_777_216;
 
 /// What DOS 3.3 puts before the bytes of a file.
-#[derive(Clone, Copy, Debug, PartialEq, Eq)]
+#[derive(Clone, Copy, PartialEq, Eq)]
 pub enum Head {
     /// Nothing.
     None,
@@ -30,7 +30,7 @@ pub enum Head {
 }
 
 /// A new file as its owner gives it.
-#[derive(Clone, Copy, Debug)]
+#[derive(Clone, Copy)]
 pub struct GivenFile<'a> {
     pub kind: u8,
     pub aux: u16,
@@ -40,7 +40,7 @@ pub struct GivenFile<'a> {
 }
 
 /// The units of a file, one after the other, and of each whether it is stored.
-#[derive(Debug, Drop)]
+#[derive(Drop)]
 pub struct FileUnits {
     pub stored: Vec<bool>,
     pub units: Vec<u8>,

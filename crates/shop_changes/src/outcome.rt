@@ -9,7 +9,7 @@ use std::io::Write;
 use vol_mover::Report;
 
 /// What became of work that changes a volume where it stands.
-#[derive(Debug, Drop)]
+#[derive(Drop)]
 pub enum Outcome {
     /// Its parts stand in order, or so many writes nearer to it.
     Optimized(Report),

@@ -11,7 +11,7 @@ use shop_replies::{Refusal, Reply};
 use std::alloc::Global;
 
 /// A file that was taken from the form in which it is given.
-#[derive(Debug, Drop)]
+#[derive(Drop)]
 pub struct PlainFile {
     pub file_system: FileSystem,
     pub kind: u8,

@@ -19,7 +19,7 @@ use vol_layout::PlaceForm;
 use volume_compare::is_binary;
 
 /// What a new file takes over of the one that it replaces, where the words do not say it.
-#[derive(Clone, Copy, Debug, PartialEq, Eq)]
+#[derive(Clone, Copy)]
 pub struct ReplacedFile {
     pub kind: u8,
     /// The auxiliary type, of a binary file of DOS 3.3 its address; or the one that is said.

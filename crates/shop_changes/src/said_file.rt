@@ -28,7 +28,7 @@ use shop_replies::{Failure, Refusal, Reply, form_of};
 use std::alloc::Global;
 
 /// A new file as words and bytes say it.
-#[derive(Clone, Copy, Debug)]
+#[derive(Clone, Copy)]
 pub struct SaidFile<'a> {
     pub file_system: FileSystem,
     /// The type, where one is said.

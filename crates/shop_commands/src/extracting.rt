@@ -31,7 +31,7 @@ use vol_layout::{PlaceForm, Reserved};
 use volume_extract::{ExtractError, Options, TreeFormat, extract};
 
 /// Why the files of a volume were not put into a folder and told.
-#[derive(Debug, Drop)]
+#[derive(Drop)]
 pub enum NotExtracted {
     /// The job is refused, or something failed, as this reply tells. Nothing was told.
     Refused(Reply),

@@ -19,7 +19,7 @@ const MOST_NAMES: u32 = 100;
 const OWN_MODE: u32 = 0o600;
 
 /// Which place a file may take.
-#[derive(Clone, Copy, Debug, PartialEq, Eq)]
+#[derive(Clone, Copy)]
 pub enum Placing {
     /// Also that of a file that stands there.
     Over,
@@ -28,7 +28,6 @@ pub enum Placing {
 }
 
 /// A file that is written beside the one whose place it takes. It is made when its first bytes are written.
-#[derive(Drop)]
 pub struct AsideFile<'a, R: Files, A: Allocator> {
     rt: &'a R,
     alloc: A,
@@ -36,6 +35,19 @@ pub struct AsideFile<'a, R: Files, A: Allocator> {
     placing: Placing,
     made: Option<(String<A>, R::File)>,
     failure: Option<ErrorKind>,
+}
+
+impl<'a, R: Files, A: Allocator> Drop for AsideFile<'a, R, A> {
+    fn drop(self) {
+        let AsideFile {
+            rt: _,
+            alloc: _,
+            target: _,
+            placing: _,
+            made: _,
+            failure: _,
+        } = self;
+    }
 }
 
 // How a file aside is made: to take the place of one that stands there, or as any new file.
@@ -201,10 +213,11 @@ impl<'a, R: Files, A: Allocator + Copy> AsideFile<'a, R, A> {
         }
         let AsideFile {
             rt,
+            alloc: _,
             target,
             placing,
             made,
-            ..
+            failure: _,
         } = self;
         let (Some((path, file)), Target::Place(place)) = (made, target) else {
             return Ok(());
@@ -222,7 +235,14 @@ impl<'a, R: Files, A: Allocator + Copy> AsideFile<'a, R, A> {
 
     /// Removes the file aside.
     pub fn discard(self) {
-        let AsideFile { rt, made, .. } = self;
+        let AsideFile {
+            rt,
+            alloc: _,
+            target: _,
+            placing: _,
+            made,
+            failure: _,
+        } = self;
         if let Some((path, file)) = made {
             drop(file);
             let _removed = fs::remove_file(rt, path.as_str());

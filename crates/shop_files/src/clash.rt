@@ -17,7 +17,7 @@ pub struct Roles<'a> {
 }
 
 /// Two roles that one file has, of which one is written. The image and its output file are no such pair: that is meant.
-#[derive(Clone, Copy, Debug, PartialEq, Eq)]
+#[derive(Clone, Copy)]
 pub enum Clash {
     OutAndCertificate,
     InPlaceAndCertificate,

@@ -5,7 +5,7 @@ ghost use Rattle.shop_files.specs.Endings.{stopped as ended_without};
 use shop_replies::FAILED;
 
 /// What could not be written at the end of a job.
-#[derive(Clone, Copy, Debug, PartialEq, Eq)]
+#[derive(Clone, Copy)]
 pub enum Unwritten {
     /// The text on standard output. What stood at the paths of the output files stands.
     Text,
@@ -26,7 +26,7 @@ pub enum Unwritten {
 }
 
 /// How a job ended: its status, and what could not be written, if that was the end.
-#[derive(Clone, Copy, Debug, PartialEq, Eq)]
+#[derive(Clone, Copy)]
 pub struct Ending {
     pub status: u8,
     pub unwritten: Option<Unwritten>,

@@ -83,7 +83,6 @@ impl<'a> NamedFile<'a> {
 
 /// The files that a job names, where their paths lead, and which file standard input is where the image comes from
 /// there.
-#[derive(Drop)]
 pub struct JobFiles<'a> {
     image: NamedFile<'a>,
     input: Option<Node>,
@@ -91,6 +90,19 @@ pub struct JobFiles<'a> {
     out: NamedFile<'a>,
     placing: Placing,
     certificate: NamedFile<'a>,
+}
+
+impl<'a> Drop for JobFiles<'a> {
+    fn drop(self) {
+        let JobFiles {
+            image: _,
+            input: _,
+            from: _,
+            out: _,
+            placing: _,
+            certificate: _,
+        } = self;
+    }
 }
 
 // Which place the output file of a job may take.

@@ -9,7 +9,7 @@ const DISK_COPY_HEADER: usize = 84;
 const TOO_MANY_BLOCKS: usize = 33_554_432;
 
 /// A kind of file that may hold a disk image, and is not read here.
-#[derive(Clone, Copy, Debug, PartialEq, Eq)]
+#[derive(Clone, Copy, PartialEq, Eq)]
 pub enum Foreign {
     /// The bit stream of a disk (WOZ 1 and 2).
     Woz,

@@ -17,7 +17,7 @@ use std::io;
 pub type ImageDevice = FileDevice<Window<SystemFile>>;
 
 /// How the file of an image is used.
-#[derive(Clone, Copy, Debug, PartialEq, Eq)]
+#[derive(Clone, Copy)]
 pub enum ImageUse {
     /// It is read.
     Read,

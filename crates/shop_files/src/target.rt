@@ -15,7 +15,7 @@ const MOST_LINKS: u32 = 40;
 const ACCESS_BITS: u32 = 0o777;
 
 /// A file by its device and its number there, whatever names it has.
-#[derive(Clone, Copy, Debug, PartialEq, Eq)]
+#[derive(Clone, Copy, PartialEq, Eq)]
 pub struct Node {
     pub device: u64,
     pub number: u64,

@@ -11,7 +11,7 @@ use shop_words::escaped;
 use std::{fmt, io};
 
 /// Why the file of an image is not opened.
-#[derive(Clone, Copy, Debug, PartialEq, Eq)]
+#[derive(Clone, Copy)]
 pub enum ImageFault {
     /// The system does not open it.
     Unopened,
@@ -22,7 +22,6 @@ pub enum ImageFault {
 }
 
 /// What became known of the files of a job.
-#[derive(Debug, Drop)]
 pub struct Found {
     /// Whether the answer is to be explained.
     pub is_wanted: bool,
@@ -48,6 +47,25 @@ pub struct Found {
     pub foreign: Option<Foreign>,
     /// Whether what is told is the bytes of a file, and no words of the program's.
     pub is_content: bool,
+}
+
+impl Drop for Found {
+    fn drop(self) {
+        let Found {
+            is_wanted: _,
+            path: _,
+            out: _,
+            certificate: _,
+            folder: _,
+            order: _,
+            bytes: _,
+            fault: _,
+            unwritten: _,
+            fault_files: _,
+            foreign: _,
+            is_content: _,
+        } = self;
+    }
 }
 
 impl Found {

@@ -4,7 +4,7 @@ use file_forms::{FileForm, GivenForm};
 use host_folders::Naming;
 
 /// The file system of a volume, `--fs`.
-#[derive(Clone, Copy, Debug, PartialEq, Eq)]
+#[derive(Clone, Copy, PartialEq, Eq)]
 pub enum FileSystem {
     /// DOS 3.3.
     Dos,
@@ -13,7 +13,7 @@ pub enum FileSystem {
 }
 
 /// What an image is read as.
-#[derive(Clone, Copy, Debug, PartialEq, Eq)]
+#[derive(Clone, Copy, PartialEq, Eq)]
 pub struct VolumeOptions {
     pub file_system: FileSystem,
     pub order: Order,
@@ -22,7 +22,7 @@ pub struct VolumeOptions {
 }
 
 /// How the words name a file of a volume.
-#[derive(Debug, PartialEq, Eq, Drop)]
+#[derive(PartialEq, Eq, Drop)]
 pub enum FileName {
     /// By its path.
     Path(String),
@@ -31,7 +31,7 @@ pub enum FileName {
 }
 
 /// What is changed of a file.
-#[derive(Debug, PartialEq, Eq, Drop)]
+#[derive(PartialEq, Eq, Drop)]
 pub enum Edit {
     /// It is locked: the system then refuses to delete it, to rename it or to write it.
     Lock,
@@ -44,7 +44,7 @@ pub enum Edit {
 }
 
 /// What the words say of a new file.
-#[derive(Debug, PartialEq, Eq, Drop)]
+#[derive(PartialEq, Eq, Drop)]
 pub struct SaveAttributes {
     /// The type, as it is said: a letter in DOS 3.3, two hexadecimal digits in ProDOS.
     pub kind: Option<String>,
@@ -55,7 +55,7 @@ pub struct SaveAttributes {
 }
 
 /// Where the image goes that a job makes.
-#[derive(Debug, PartialEq, Eq, Drop)]
+#[derive(PartialEq, Eq, Drop)]
 pub enum Target {
     /// To the file of this path, as a whole.
     File(String),
@@ -64,7 +64,7 @@ pub enum Target {
 }
 
 /// In which form the entries of a volume are told.
-#[derive(Clone, Copy, Debug, PartialEq, Eq)]
+#[derive(Clone, Copy, PartialEq, Eq)]
 pub enum ListForm {
     /// The path of each on a line.
     Names,
@@ -75,7 +75,7 @@ pub enum ListForm {
 }
 
 /// How the entries of a volume are told as data.
-#[derive(Clone, Copy, Debug, PartialEq, Eq)]
+#[derive(Clone, Copy, PartialEq, Eq)]
 pub struct ListOptions {
     pub form: ListForm,
     /// Whether the digest of each file is told.
@@ -88,7 +88,7 @@ pub struct ListOptions {
 }
 
 /// How the volume of an image is compared with that of another.
-#[derive(Clone, Copy, Debug, PartialEq, Eq)]
+#[derive(Clone, Copy, PartialEq, Eq)]
 pub struct CompareOptions {
     /// The order of the other image.
     pub other_order: Order,
@@ -99,7 +99,7 @@ pub struct CompareOptions {
 }
 
 /// How the files of a volume are put into a folder.
-#[derive(Clone, Copy, Debug, PartialEq, Eq)]
+#[derive(Clone, Copy, PartialEq, Eq)]
 pub struct ExtractOptions {
     /// Whether the type and the aux type of a file stand in its name.
     pub naming: Naming,
@@ -110,7 +110,7 @@ pub struct ExtractOptions {
 }
 
 /// As what a file is read.
-#[derive(Clone, Copy, Debug, PartialEq, Eq)]
+#[derive(Clone, Copy, PartialEq, Eq)]
 pub enum ReadForm {
     /// Its body.
     Body,
@@ -123,7 +123,7 @@ pub enum ReadForm {
 }
 
 /// What is asked of a volume that is only read.
-#[derive(Debug, PartialEq, Eq, Drop)]
+#[derive(PartialEq, Eq)]
 pub enum Look {
     /// Its files, listed.
     Catalog,
@@ -166,8 +166,36 @@ pub enum Look {
     },
 }
 
+impl Drop for Look {
+    fn drop(self) {
+        match self {
+            Look::Catalog => {}
+            Look::Entries(_) => {}
+            Look::Check { bodies: _ } => {}
+            Look::Map => {}
+            Look::Compare {
+                other: _,
+                options: _,
+            } => {}
+            Look::Read {
+                name: _,
+                form: _,
+                out: _,
+            } => {}
+            Look::Plan {
+                reclaim: _,
+                words: _,
+            } => {}
+            Look::Verify {
+                from: _,
+                reclaim: _,
+            } => {}
+        }
+    }
+}
+
 /// What is changed of a volume.
-#[derive(Debug, PartialEq, Eq, Drop)]
+#[derive(PartialEq, Eq)]
 pub enum Change {
     /// Its files are brought into order.
     Optimize {
@@ -207,8 +235,30 @@ pub enum Change {
     },
 }
 
+impl Drop for Change {
+    fn drop(self) {
+        match self {
+            Change::Optimize {
+                reclaim: _,
+                stop_after: _,
+                cert: _,
+            } => {}
+            Change::Edit { name: _, edit: _ } => {}
+            Change::Save {
+                name: _,
+                attributes: _,
+                form: _,
+                from: _,
+                replace: _,
+            } => {}
+            Change::Reclaim => {}
+            Change::MakeDirectory { path: _, date: _ } => {}
+        }
+    }
+}
+
 /// What is said of a new volume by its file system.
-#[derive(Debug, PartialEq, Eq, Drop)]
+#[derive(PartialEq, Eq, Drop)]
 pub enum NewVolume {
     /// A DOS 3.3 disk.
     Dos {
@@ -226,7 +276,7 @@ pub enum NewVolume {
 }
 
 /// How a new volume is made.
-#[derive(Debug, PartialEq, Eq, Drop)]
+#[derive(PartialEq, Eq, Drop)]
 pub struct CreateOptions {
     pub volume: NewVolume,
     /// The order of its image.
@@ -236,7 +286,7 @@ pub struct CreateOptions {
 }
 
 /// How an image is put into a container.
-#[derive(Debug, PartialEq, Eq, Drop)]
+#[derive(PartialEq, Eq, Drop)]
 pub struct WrapOptions {
     /// The order of the image.
     pub order: Order,
@@ -249,7 +299,7 @@ pub struct WrapOptions {
 }
 
 /// How the files of a folder are added to a volume.
-#[derive(Debug, PartialEq, Eq, Drop)]
+#[derive(PartialEq, Eq, Drop)]
 pub struct AddOptions {
     /// The path of the folder on the host.
     pub from: String,
@@ -260,7 +310,7 @@ pub struct AddOptions {
 }
 
 /// In which form a survey is told.
-#[derive(Clone, Copy, Debug, PartialEq, Eq)]
+#[derive(Clone, Copy, PartialEq, Eq)]
 pub enum SurveyForm {
     /// Words.
     Lines,
@@ -269,7 +319,7 @@ pub enum SurveyForm {
 }
 
 /// What is asked, with what is its own of each command.
-#[derive(Debug, PartialEq, Eq, Drop)]
+#[derive(PartialEq, Eq)]
 pub enum Ask {
     /// In which file systems and orders the image can be read, and which of them is best.
     Identify,
@@ -340,8 +390,52 @@ pub enum Ask {
     },
 }
 
+impl Drop for Ask {
+    fn drop(self) {
+        match self {
+            Ask::Identify => {}
+            Ask::Convert {
+                order: _,
+                to: _,
+                out: _,
+                volume: _,
+            } => {}
+            Ask::Wrap { options: _, out: _ } => {}
+            Ask::Survey { form: _ } => {}
+            Ask::Unwrap { out: _ } => {}
+            Ask::Create {
+                options: _,
+                boot: _,
+                out: _,
+            } => {}
+            Ask::Look {
+                volume: _,
+                reserve: _,
+                look: _,
+            } => {}
+            Ask::Extract {
+                volume: _,
+                options: _,
+                into: _,
+            } => {}
+            Ask::Add {
+                volume: _,
+                reserve: _,
+                options: _,
+                out: _,
+            } => {}
+            Ask::Change {
+                volume: _,
+                reserve: _,
+                change: _,
+                target: _,
+            } => {}
+        }
+    }
+}
+
 /// A command with its words.
-#[derive(Debug, PartialEq, Eq, Drop)]
+#[derive(PartialEq, Eq, Drop)]
 pub struct Job {
     /// The path of the image's file, of a survey that of a file or a folder; `-` is standard input. It is empty where a
     /// volume is made, which needs no image.

@@ -31,7 +31,7 @@ use std::alloc::{AllocError, Global};
 use vol_format::{Format, Link};
 
 /// What was read of a file: the facts, and where places are told its parts, if they are known.
-#[derive(Debug, Drop)]
+#[derive(Drop)]
 pub struct ReadFile {
     pub facts: Facts,
     pub parts: Option<Vec<Part>>,

@@ -30,7 +30,7 @@ use vol_check::Faults;
 use vol_layout::PlaceForm;
 
 /// The kinds of the faults that are of a file.
-#[derive(Clone, Copy, Debug, PartialEq, Eq)]
+#[derive(Clone, Copy)]
 pub enum FaultKind {
     StorageType,
     OutOfRange,

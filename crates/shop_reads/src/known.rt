@@ -49,7 +49,7 @@ use std::alloc::{AllocError, Global};
 use vol_format::{Format, Link};
 
 /// Why not all files of a volume were read.
-#[derive(Clone, Copy, Debug, PartialEq, Eq)]
+#[derive(Clone, Copy)]
 pub enum FactsError {
     /// The files that were read have more bytes than they may.
     TooLarge,
@@ -57,7 +57,7 @@ pub enum FactsError {
 }
 
 /// What is known of the files of a volume.
-#[derive(Debug, Drop)]
+#[derive(Drop)]
 pub struct Known {
     pub files: KnownFiles,
     /// Whether each file has a digest, where digests are told.

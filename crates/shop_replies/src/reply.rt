@@ -30,7 +30,7 @@ use std::alloc::{AllocError, Global};
 use std::io::Write;
 
 /// How a job ended.
-#[derive(Clone, Copy, Debug, PartialEq, Eq)]
+#[derive(Clone, Copy)]
 pub enum Status {
     /// The job is done.
     Done,
@@ -43,7 +43,6 @@ pub enum Status {
 }
 
 /// What is told of a job.
-#[derive(Debug, Drop)]
 pub enum Told {
     /// `OK`.
     Ok,
@@ -70,8 +69,29 @@ pub enum Told {
     FailureOf(Side, Failure),
 }
 
+impl Drop for Told {
+    fn drop(self) {
+        match self {
+            Told::Ok => {}
+            Told::Text(_) => {}
+            Told::Bytes(_) => {}
+            Told::Report {
+                line: _,
+                certificate: _,
+            } => {}
+            Told::Faults { text: _, files: _ } => {}
+            Told::Listing(_) => {}
+            Told::Plan(_) => {}
+            Told::Refusal(_) => {}
+            Told::Failure(_) => {}
+            Told::RefusalOf(_, _) => {}
+            Told::FailureOf(_, _) => {}
+        }
+    }
+}
+
 /// What a job answers.
-#[derive(Debug, Drop)]
+#[derive(Drop)]
 pub struct Reply {
     /// How it ended.
     pub status: Status,

@@ -14,7 +14,7 @@ ghost use Rattle.shop_words.specs.Auto.{
 use std::alloc::{AllocError, Global};
 
 /// An option whose value may be left to the image.
-#[derive(Clone, Copy, Debug, PartialEq, Eq)]
+#[derive(Clone, Copy)]
 pub enum AutoOption {
     /// `--fs`.
     FileSystem,
@@ -25,7 +25,7 @@ pub enum AutoOption {
 }
 
 /// A word that stands for what an image says of itself.
-#[derive(Clone, Copy, Debug, PartialEq, Eq)]
+#[derive(Clone, Copy)]
 pub enum StandIn {
     /// `auto`, for what its best reading has.
     Auto,

@@ -28,7 +28,7 @@ use vol_format::Format;
 
 /// Walks over the parts of single files of a volume. Its tables have room for all places, and are cleared at the cost
 /// of what the last walk met.
-#[derive(Debug, Drop)]
+#[derive(Drop)]
 pub struct FileWalker<A: Allocator = Global> {
     walk: Walk<A>,
     unit: Vec<u8, A>,

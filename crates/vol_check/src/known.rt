@@ -12,7 +12,7 @@ ghost use Rattle.vol_check.specs.Known.{
 use a2_device::Fault;
 
 /// Which of the faults that many pointers can meet were told of a place.
-#[derive(Clone, Copy, Debug)]
+#[derive(Clone, Copy)]
 pub struct Known {
     pub storage_type: bool,
     pub out_of_range: bool,

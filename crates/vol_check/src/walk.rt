@@ -48,7 +48,7 @@ use std::alloc::{AllocError, Allocator};
 use vol_format::{Format, Link};
 
 /// What a pointer that was read leaves to do: to look at a part, or to tell a fault when its turn comes.
-#[derive(Clone, Copy, Debug, PartialEq, Eq)]
+#[derive(Clone, Copy)]
 pub enum Pending {
     Visit(Part),
     Tell(Fault),
@@ -56,7 +56,7 @@ pub enum Pending {
 
 /// The parts so far, what is to do next with the first of it last, the faults so far, which places were met, and which
 /// faults of them are known.
-#[derive(Debug, Drop)]
+#[derive(Drop)]
 pub struct Walk<A: Allocator> {
     pub parts: Vec<Part, A>,
     pub pending: Vec<Pending, A>,

@@ -2,7 +2,7 @@
 use a2_device::Part;
 
 /// What a pointer names.
-#[derive(Clone, Copy, Debug, PartialEq, Eq)]
+#[derive(Clone, Copy, PartialEq, Eq)]
 pub enum Link {
     /// Nothing.
     Null,
@@ -18,7 +18,7 @@ pub enum Link {
 
 /// Where a pointer stands: in the entry of a slot of a directory unit, or as the pointer of a number in the unit of a
 /// part.
-#[derive(Clone, Copy, Debug, PartialEq, Eq)]
+#[derive(Clone, Copy, PartialEq, Eq)]
 pub struct Holder {
     pub entry: bool,
     pub place: u32,

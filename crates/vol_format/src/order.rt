@@ -19,7 +19,7 @@ use std::alloc::{AllocError, Allocator, Global};
 use std::marker::Model;
 
 /// Some places of a volume in an order, each with its number.
-#[derive(Debug, Drop)]
+#[derive(Drop)]
 pub struct PlaceOrder<A: Allocator = Global> {
     order: Vec<u32, A>,
     numbers: Vec<Option<u32>, A>,

@@ -3,7 +3,7 @@ ghost use Rattle.std.specs.Prelude.{◌≡◌};
 ghost use Rattle.vol_layout.specs.Reserved.{places_named};
 
 /// How words name a place.
-#[derive(Clone, Copy, Debug, PartialEq, Eq)]
+#[derive(Clone, Copy)]
 pub enum PlaceForm {
     /// By track and sector, as DOS 3.3 counts them: `17/0`.
     Sector,

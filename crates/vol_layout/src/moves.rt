@@ -3,7 +3,7 @@
 use thiserror::Error;
 
 /// Part `part` goes to place `to`.
-#[derive(Clone, Copy, PartialEq, Eq, Debug)]
+#[derive(Clone, Copy, PartialEq, Eq)]
 pub struct Move {
     pub part: u32,
     pub to: u32,

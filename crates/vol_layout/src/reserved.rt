@@ -9,7 +9,7 @@ use std::alloc::{AllocError, Allocator, Global};
 use std::marker::Model;
 
 /// The places that are kept for the system beside its own.
-#[derive(Debug, Drop)]
+#[derive(Drop)]
 pub struct Reserved<A: Allocator = Global> {
     table: Vec<bool, A>,
 }

@@ -7,7 +7,7 @@ use vol_laws::Mark;
 use vol_layout::Move;
 
 /// A write of an agenda. That of the map has a range of the agenda's marks.
-#[derive(Clone, Copy, Debug)]
+#[derive(Clone, Copy)]
 pub enum Entry {
     Map { at: u32, first: usize, end: usize },
     Copy(Move),

@@ -34,7 +34,7 @@ use vol_format::Format;
 use vol_layout::Layout;
 
 /// What the owner allows.
-#[derive(Clone, Copy, Debug, PartialEq, Eq)]
+#[derive(Clone, Copy)]
 pub struct Options {
     /// Lost places are marked free.
     pub reclaim: bool,

@@ -2,7 +2,7 @@
 use thiserror::Error;
 
 /// One write that a step has made.
-#[derive(Clone, Copy, Debug, PartialEq, Eq)]
+#[derive(Clone, Copy, PartialEq, Eq)]
 pub enum Wrote {
     /// A unit of the map.
     Map,
@@ -13,7 +13,7 @@ pub enum Wrote {
 }
 
 /// What a step has done.
-#[derive(Clone, Copy, Debug, PartialEq, Eq)]
+#[derive(Clone, Copy, PartialEq, Eq)]
 pub enum Progress {
     /// Exactly one write.
     Wrote(Wrote),

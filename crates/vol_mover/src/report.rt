@@ -4,7 +4,7 @@ use std::alloc::{Allocator, Global};
 use thiserror::Error;
 
 /// What was done to a volume.
-#[derive(Debug, Drop)]
+#[derive(Drop)]
 pub struct Report<A: Allocator = Global> {
     /// How many moves were made.
     pub moves: u32,

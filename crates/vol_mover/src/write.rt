@@ -2,7 +2,7 @@
 use vol_layout::Move;
 
 /// One write of a mover.
-#[derive(Clone, Copy, Debug, PartialEq, Eq)]
+#[derive(Clone, Copy, PartialEq, Eq)]
 pub enum Write {
     /// Of the map's unit at a place.
     Map(u32),

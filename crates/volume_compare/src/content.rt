@@ -27,7 +27,7 @@ use vol_layout::PlaceForm;
 const BINARY: u8 = 0x04;
 
 /// What is compared of a file beside its text.
-#[derive(Clone, Copy, Debug, PartialEq, Eq)]
+#[derive(Clone, Copy, PartialEq, Eq)]
 pub struct Head {
     pub locked: bool,
     pub kind: u8,

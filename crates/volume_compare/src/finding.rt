@@ -14,7 +14,7 @@ pub enum Side {
 }
 
 /// What is found of a file, or of a file and its partner.
-#[derive(Clone, Copy, Debug, PartialEq, Eq)]
+#[derive(Clone, Copy, PartialEq, Eq)]
 pub enum Finding {
     /// The file of this volume can't be read.
     Unreadable(Side),
@@ -29,7 +29,7 @@ pub enum Finding {
 }
 
 /// What is found, and how many bytes of the texts of both volumes were read for it.
-#[derive(Clone, Copy, Debug)]
+#[derive(Clone, Copy)]
 pub struct Found {
     pub finding: Finding,
     pub first_bytes: u64,

@@ -11,7 +11,7 @@ use std::alloc::Global;
 use vol_layout::PlaceForm;
 
 /// How many bytes of the texts of both volumes may be read yet.
-#[derive(Clone, Copy, Debug)]
+#[derive(Clone, Copy)]
 pub struct Left {
     pub first: u64,
     pub second: u64,

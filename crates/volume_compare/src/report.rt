@@ -36,7 +36,7 @@ use std::fmt;
 use vol_layout::PlaceForm;
 
 /// What is told of two volumes, and whether their files are equal.
-#[derive(Debug, Drop)]
+#[derive(Drop)]
 pub struct Comparison {
     pub text: String,
     pub equal: bool,
@@ -96,7 +96,7 @@ fn is_shown(all: bool, finding: Finding) -> bool
 }
 
 /// What was told so far.
-#[derive(Debug, Drop)]
+#[derive(Drop)]
 pub struct Report {
     text: String,
     totals: Totals,

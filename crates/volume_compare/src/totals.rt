@@ -6,7 +6,7 @@ use crate::finding::{Finding, Side};
 use std::fmt;
 
 /// How many files there are of each finding.
-#[derive(Clone, Copy, Debug)]
+#[derive(Clone, Copy)]
 pub struct Totals {
     /// Whether nothing is found but files that are the same.
     pub equal: bool,

@@ -7,7 +7,6 @@ ghost use Rattle.volume_extract.specs.Looked.{body_view};
 use crate::kept::Outcome;
 
 /// What is put into the folder.
-#[derive(Drop)]
 pub enum Body {
     Folder,
     /// A file of these bytes.
@@ -18,6 +17,18 @@ pub enum Body {
     Text(Vec<u8>),
     /// Nothing, since it can't be read.
     Unreadable,
+}
+
+impl Drop for Body {
+    fn drop(self) {
+        match self {
+            Body::Folder => {}
+            Body::File(_) => {}
+            Body::Both(_, _) => {}
+            Body::Text(_) => {}
+            Body::Unreadable => {}
+        }
+    }
 }
 
 impl Body {

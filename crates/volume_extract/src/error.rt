@@ -9,7 +9,7 @@ use std::alloc::AllocError;
 use thiserror::Error;
 
 /// Why the files of a volume are not put into a folder.
-#[derive(Clone, Copy, Debug, PartialEq, Eq, Error)]
+#[derive(Clone, Copy, Debug, Error)]
 pub enum ExtractError {
     /// The header, the directory or the map's pointer of the volume has a fault.
     #[error("the volume has a fault")]

@@ -1,7 +1,7 @@
 // What is kept of an entry.
 
 /// What the name of an entry says beside its own name.
-#[derive(Clone, Copy, Debug)]
+#[derive(Clone, Copy)]
 pub struct Tail {
     pub kind: u8,
     pub aux: u16,
@@ -10,7 +10,7 @@ pub struct Tail {
 }
 
 /// What an entry's name on the host says, and where it stands.
-#[derive(Clone, Copy, Debug, PartialEq, Eq)]
+#[derive(Clone, Copy, PartialEq, Eq)]
 pub struct Head {
     /// The entry of its directory, unless that is the volume's.
     pub above: Option<u32>,
@@ -26,7 +26,7 @@ pub struct Head {
 }
 
 /// What was made of an entry.
-#[derive(Clone, Copy, Debug, PartialEq, Eq)]
+#[derive(Clone, Copy)]
 pub enum Outcome {
     Folder,
     /// A file of so many bytes.
@@ -40,7 +40,7 @@ pub enum Outcome {
 }
 
 /// What is kept of an entry.
-#[derive(Clone, Copy, Debug)]
+#[derive(Clone, Copy)]
 pub struct Kept {
     pub head: Head,
     pub outcome: Outcome,

@@ -7,7 +7,7 @@ use std::alloc::{AllocError, Global};
 use std::collections::HashMap;
 
 // The directory of an entry, and its bare name with small letters.
-#[derive(Debug, PartialEq, Eq, Hash, Drop)]
+#[derive(PartialEq, Eq, Hash, Drop)]
 struct Key {
     above: Option<u32>,
     name: Vec<u8>,

@@ -13,7 +13,7 @@ use crate::tree_format::TreeFormat;
 const MOST_DEPTH: u8 = 64;
 
 /// Where an entry stands.
-#[derive(Clone, Copy, Debug)]
+#[derive(Clone, Copy)]
 pub struct Place {
     /// The entry of its directory, unless that is the volume's.
     pub above: Option<u32>,

@@ -5,7 +5,7 @@ ghost use Rattle.volume_extract.specs.Texts.{texts_for};
 use host_folders::Naming;
 
 /// How the files of a volume are put into a folder.
-#[derive(Clone, Copy, Debug, PartialEq, Eq)]
+#[derive(Clone, Copy)]
 pub struct Options {
     pub naming: Naming,
     /// Whether readable forms are wanted: beside files with a type in their names, and in the place of others.
@@ -15,7 +15,7 @@ pub struct Options {
 }
 
 /// What is put into the folder of the readable form of a file.
-#[derive(Clone, Copy, Debug, PartialEq, Eq)]
+#[derive(Clone, Copy)]
 pub enum Texts {
     Without,
     /// It is put beside the file, where it gives just the bytes of the file back.

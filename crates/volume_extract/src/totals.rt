@@ -6,7 +6,7 @@ use crate::kept::Outcome;
 use std::fmt;
 
 /// What was made of the entries of a volume.
-#[derive(Clone, Copy, Debug, PartialEq, Eq)]
+#[derive(Clone, Copy)]
 pub struct Totals {
     pub files: u64,
     pub folders: u64,

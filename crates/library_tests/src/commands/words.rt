@@ -33,7 +33,7 @@ fn asks(
     ask: Ask,
 ) -> Result<(), WordsFault> {
     let image = image.to_string(alloc)?;
-    assert_eq!(rt; parse(alloc, line)?, Job { image, ask }, "for {line}");
+    assert!(rt; parse(alloc, line)? == Job { image, ask }, "for {line}");
     Ok(())
 }
 

@@ -172,9 +172,9 @@ pub enum Why {
 
 fn reason(refused: Refused) -> Why {
     let Refused { item, reply } = refused;
-    match reply.told {
-        Told::Refusal(refusal) => Why::Refused(item, refusal),
-        Told::Failure(failure) => Why::Failed(item, failure),
+    match &reply.told {
+        Told::Refusal(refusal) => Why::Refused(item, *refusal),
+        Told::Failure(failure) => Why::Failed(item, *failure),
         _ => Why::Other,
     }
 }
