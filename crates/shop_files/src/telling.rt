@@ -8,6 +8,7 @@ use a2_device::Order;
 use explanations::{Explanation, FINDINGS, REFUSALS, explained};
 use shop_replies::most_bytes;
 use shop_words::escaped;
+use std::alloc::AllocError;
 use std::{fmt, io};
 
 /// Why the file of an image is not opened.
@@ -250,12 +251,14 @@ const IN_THE_WAY: &str =
     Files that end in `.new` and were left behind there may be deleted.";
 
 // The name of a file as it is shown.
-fn shown(rt: &HostRuntime, path: &Option<String>) -> io::Result<String> {
-    match path {
-        Some(path) if path.as_str() != "-" => Ok(escaped(rt.alloc(), path.as_str())?),
-        Some(_) => Ok("standard input".to_string(rt.alloc())?),
-        None => Ok("the file".to_string(rt.alloc())?),
+fn shown(rt: &HostRuntime, path: &Option<String>) -> Result<String, AllocError> {
+    let Some(path) = path else {
+        return "the file".to_string(rt.alloc());
+    };
+    if path.as_str() == "-" {
+        return "standard input".to_string(rt.alloc());
     }
+    escaped(rt.alloc(), path.as_str())
 }
 
 // Tells why the image was not opened, if it was not.
