@@ -7,6 +7,7 @@ use Rattle.a2_device.specs.Device.{unit_at}
 use Rattle.dos_catalog.specs.declared.entry.Entry.{Entry as CatalogEntry}
 use Rattle.dos_catalog.specs.Writes.{erased}
 use Rattle.pro_dir.specs.declared.entry.Entry.{Entry}
+use Rattle.pro_dir.specs.Within.{IsInSlot, IsWithin}
 use Rattle.pro_dir.specs.Volume.{Directory as Tree, Describes, VolumeFaultAt}
 use Rattle.vol_format.specs.Directory.{Listed, entries}
 use Rattle.dos_format.specs.Dos.{dos_directory}
@@ -41,6 +42,12 @@ pub erasing-dos : (data_disk : Bool) (reserved : List Bool) (vtoc : List ℕ) (a
 erasing-dos data_disk reserved vtoc all shown is file e inside store unit new unit_is new_is =
     ap (λ (u : List ℕ). write_at (get_or shown file e).place u) (new_is ∙ ap (erased (get_or shown file e).slot) unit_is)
     ∙ ap (λ (entry : Listed). write_at entry.place (erased entry.slot (unit_at store entry.place))) (sym (entry_read data_disk reserved vtoc all shown file e is inside))
+
+-- an entry of directories that were walked over is in a slot, whatever the device tells
+pub in_slot : (places : ℕ) (tree : Tree) (file : ℕ) (entry : Entry) → IsWithin places tree → slice_get tree.entries file ≡ Some entry
+    → IsInSlot places entry
+in_slot places tree file entry within at =
+    subst (IsInSlot places) (get_or_from_slice_get tree.entries file entry no_slot at) (within.entries file no_slot (slice_get_within tree.entries file entry at))
 
 -- the key block of the directory in which an entry stands is a block of the volume
 pub own_directory : (store : List (List ℕ)) (tree : Tree) (file : ℕ) (entry : Entry) → Describes store tree → slice_get tree.entries file ≡ Some entry

@@ -15,6 +15,7 @@ mod Making
 mod Nearest
 mod MarkedUnits
 pub mod MarkingWrites
+mod MarkedPlaces
 mod Walked
 mod ProTargets
 mod PathStarts

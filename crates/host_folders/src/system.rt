@@ -1,11 +1,11 @@
 // A new folder of the system.
-ghost use Rattle.std.specs.Prelude.{◌≡◌, ◌++◌, ⊤, IfOk, codes, string_bytes};
+ghost use Rattle.std.specs.Prelude.{◌≡◌, ◌<◌, ◌++◌, ⊤, IfOk, codes, string_bytes};
 ghost use Rattle.host_folders.specs.NewFolder.{IsFolderName};
 ghost use Rattle.host_folders.specs.System.{IsBeside, system_folder};
 
 use crate::folder::{Folder, FolderFailure};
 use std::alloc::{AllocError, Allocator};
-use std::fs::{self, OpenOptions, Permissions};
+use std::fs::{self, OpenOptions, Permissions, ReadDir};
 use std::io::{self, ErrorKind, Write};
 use std::os::unix::fs::PermissionsExt;
 use std::rt::Files;
@@ -86,9 +86,16 @@ fn standing_mode<R: Files, A: Allocator>(
     }
 }
 
-// Whether a folder holds nothing. A name that is no text is something.
+// Whether a folder holds nothing.
 fn is_empty<R: Files, A: Allocator>(rt: &R, alloc: &A, folder: &str) -> io::Result<bool> {
     let mut names = fs::read_dir(&(rt, alloc), folder)?;
+    is_at_end(&mut names)
+}
+
+// Whether no name of a folder is left. A name that is no text is one.
+fn is_at_end<R: Files + Clone + Drop, A: Allocator + Clone>(
+    names: &mut ReadDir<R, A>,
+) -> io::Result<bool> {
     match names.next() {
         None => Ok(true),
         Some(Err(error)) if error.kind() != ErrorKind::InvalidFilename => Err(error),
@@ -105,14 +112,29 @@ fn create_beside<R: Files, A: Allocator + Copy>(
     ensures { IfOk result (λ path. IsBeside folder.now (string_bytes path)) }
 {
     for number in 0..MOST_NAMES {
-        let path = format!(in alloc; "{folder}.{number}.new")?;
-        match fs::create_dir(rt, path.as_str()) {
-            Ok(()) => return Ok(path),
-            Err(error) if error.kind() == ErrorKind::AlreadyExists => {}
-            Err(error) => return Err(error),
+        let path = path_beside(alloc, folder, number)?;
+        if create_where_free(rt, path.as_str())? {
+            return Ok(path);
         }
     }
     Err(io::Error::from(ErrorKind::AlreadyExists))
+}
+
+// The path beside that of a folder, of this number.
+fn path_beside<A: Allocator>(alloc: A, folder: &str, number: u32) -> Result<String<A>, AllocError>
+    requires { number < MOST_NAMES }
+    ensures { IfOk result (λ path. IsBeside folder.now (string_bytes path)) }
+{
+    format!(in alloc; "{folder}.{number}.new")
+}
+
+// Makes a new folder at a path, and tells whether it could: not where something stands there.
+fn create_where_free<R: Files>(rt: &R, path: &str) -> io::Result<bool> {
+    match fs::create_dir(rt, path) {
+        Ok(()) => Ok(true),
+        Err(error) if error.kind() == ErrorKind::AlreadyExists => Ok(false),
+        Err(error) => Err(error),
+    }
 }
 
 // The path of what stands in a folder.

@@ -1,10 +1,9 @@
 -- The images of which it is told that they are the same as another.
-use Rattle.std.specs.Prelude.{◌≡◌, ◌≢◌, ◌<◌, ◌≤◌, ◌+◌, ℕ, zero, suc, List, [], ◌∷◌, ◌++◌, All, Contains, length, slice_index_or}
-use Rattle.std.proofs.Common.{refl, sym, ◌∙◌, ap, subst, arith, inl, inr, ⊎_elim}
-use Rattle.std.proofs.lemmas.List.{get_or_default}
+use Rattle.std.specs.Prelude.{◌≡◌, ◌≢◌, ◌<◌, ◌+◌, ℕ, zero, suc, List, [], ◌∷◌, Contains, length, slice_index_or}
+use Rattle.std.proofs.Common.{sym, ◌∙◌, ap, subst, arith, ⊎_elim}
 use Rattle.std.proofs.lemmas.List.Elements.{All-contains, Contains-append_cases, Contains-append_left, Contains-append_right}
 use Rattle.vol_format.proofs.Lists.{at_front, element, in_either, in_front, in_map, out_of_map}
-use Rattle.image_survey.specs.Same.{AreAlike, AreSameLines, IsGroup, IsShared, IsToldSame, content_at, group_lines, lines_from}
+use Rattle.image_survey.specs.Same.{AreSameLines, IsGroup, IsShared, IsToldSame, group_lines, lines_from}
 use Rattle.image_survey.specs.Told.{Candidate}
 use Rattle.image_survey.specs.declared.same.SameLine.{SameLine}
 

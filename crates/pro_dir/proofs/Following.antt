@@ -1,13 +1,14 @@
 -- One link further.
-use Rattle.std.proofs.Common.{◌≡◌, ◌≢◌, ℕ, ◌<◌, ◌≤◌, Bool, true, false, List, [], ◌∷◌, ◌++◌, length, refl, sym, ◌∙◌, ap, subst, arith, inl, inr, append_assoc, append-nil}
+use Rattle.std.proofs.Common.{◌≡◌, ◌≢◌, ℕ, ◌<◌, ◌≤◌, Bool, true, false, List, [], ◌∷◌, ◌++◌, length, refl, sym, ◌∙◌, ap, subst, arith, inl, inr, ⊎_elim, append_assoc, append-nil}
 use Rattle.std.specs.Prelude.{◌⊎◌, Result, Ok, Err, IsErrAnd, IfErr, Option, None, slice_get}
 use Rattle.std.specs.Option.{option_or}
 use Rattle.std.specs.List.{Contains}
 use Rattle.std.proofs.lemmas.Grind.{flat_map-append}
 use Rattle.a2_device.specs.Device.{unit_at}
+use Rattle.a2_device.specs.declared.fault.Fault.TheVariants.{DirLink, Geometry}
 use Rattle.a2_device.specs.declared.fault.WalkError.{WalkError}
 use Rattle.pro_dir.specs.Entry.{free_slots_of, free_slots_in}
-use Rattle.pro_dir.specs.Tree.{CanLink, HasBadLink, next_of}
+use Rattle.pro_dir.specs.Tree.{CanLink, HasBadLink, HasKind, HasSizes, SubdirectoryFaultAt, next_of}
 use Rattle.pro_dir.specs.lemmas.TreeLaws.{leads_on}
 use Rattle.pro_dir.specs.Walk.{IsTable, IsFollowing, IsReadOut, IsVolumeKey, is_met, first_free_of}
 use Rattle.pro_dir.proofs.Slots.{first_free_of-is, first-append}
@@ -59,6 +60,24 @@ not_new_is store places met blocks next size table not_new = by_met (is_met met 
     by_met : (m : Bool) → is_met met next ≡ m → (¬ CanLink store next) ⊎ Contains blocks next
     by_met true is = inr (table.has next is)
     by_met false is = inl (λ can. not_new (can.0, omega (arith, can.1, size), is))
+
+-- the fault of a subdirectory: its key block is none or was met, has no header of a subdirectory, or one with other sizes
+pub no_key : (store : List (List ℕ)) (places : ℕ) (met : List Bool) (before : List ℕ) (holder key named : ℕ) → length store ≡ places → IsTable places met before → named ≡ key
+    → (¬ ((2 ≤ named) × (named < places) × (is_met met named ≡ false))) → SubdirectoryFaultAt store before holder key (DirLink holder)
+no_key store places met before holder key named size table is not_new =
+    subst (λ k. SubdirectoryFaultAt store before holder k (DirLink holder)) is
+    (inl (refl, ⊎_elim (λ none. inl none) (λ has. inr (inl has)) (not_new_is store places met before named size table not_new)))
+
+pub no_kind : (store : List (List ℕ)) (before : List ℕ) (holder key named : ℕ) (unit : List ℕ) → named ≡ key → unit ≡ unit_at store named → (¬ HasKind 0x0e unit)
+    → SubdirectoryFaultAt store before holder key (DirLink holder)
+no_kind store before holder key named unit is here none =
+    subst (λ k. SubdirectoryFaultAt store before holder k (DirLink holder)) is (inl (refl, inr (inr (subst (λ u. ¬ HasKind 0x0e u) here none))))
+
+pub no_sizes : (store : List (List ℕ)) (before : List ℕ) (holder key named : ℕ) (unit : List ℕ) → named ≡ key → unit ≡ unit_at store named → CanLink store named
+    → HasKind 0x0e unit → (¬ HasSizes unit) → SubdirectoryFaultAt store before holder key (Geometry named)
+no_sizes store before holder key named unit is here can kind none =
+    subst (λ k. SubdirectoryFaultAt store before holder k (Geometry named)) is
+    (refl, can, subst (HasKind 0x0e) here kind, subst (λ u. ¬ HasSizes u) here none)
 
 -- a bad link
 pub bad_link : (store : List (List ℕ)) (places : ℕ) (met : List Bool) (key : ℕ) (before blocks : List ℕ) (free : Option (ℕ × ℕ)) (holder : ℕ) (unit : List ℕ) (next : ℕ)

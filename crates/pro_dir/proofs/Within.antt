@@ -1,5 +1,5 @@
 -- Entries that stand in slots of blocks within a volume.
-use Rattle.std.proofs.Common.{◌≡◌, ◌≢◌, ◌<◌, ◌≤◌, ◌+◌, ◌*◌, ℕ, Bool, true, false, cond, List, [], ◌∷◌, ◌++◌, length, refl, sym, ◌∙◌, ap, subst, arith, get_or, map, replicate, drop}
+use Rattle.std.proofs.Common.{◌≡◌, ◌≢◌, ◌<◌, ◌≤◌, ◌+◌, ◌-◌, ◌*◌, ℕ, Bool, true, false, cond, List, [], ◌∷◌, ◌++◌, length, refl, sym, ◌∙◌, ap, subst, arith, get_or, map, replicate, drop, count_by, length-append}
 use Rattle.std.specs.Prelude.{Option, Some, None, IfSome, ◌==◌, find, not, option_map, reverse, sum_by}
 use Rattle.std.specs.Option.{option_or}
 use Rattle.std.specs.List.{All, range_with_len}
@@ -149,6 +149,36 @@ left_in_blocks key (block ∷ blocks) =
     ap (sum_by left_in) (reverse-append (whole_block key block ∷ []) (map (whole_block key) blocks))
     ∙ sum_by_push left_in (reverse (map (whole_block key) blocks)) (whole_block key block)
     ∙ omega (arith, left_in_blocks key blocks)
+
+-- where the slots behind an entry wait, there is less to do than when its slot waited too
+behind_work : (met marks : List Bool) (pending waiting : List Waiting) (slots : Waiting) (slot : ℕ) → slot < 13 → marks ≡ met
+    → waiting ≡ pending ++ (record slots { slot = slot + 1 }) ∷ [] → work marks waiting + slot ≡ work met pending + 13
+behind_work met marks pending waiting slots slot below met_is is =
+    let left : sum_by left_in waiting ≡ sum_by left_in pending + (14 - (slot + 1)) =
+    ap (sum_by left_in) is ∙ sum_by_push left_in pending (record slots { slot = slot + 1 }) in
+    omega (arith, left, ap (count_by not) met_is)
+
+pub less_work : (met marks last : List Bool) (pending waiting rest : List Waiting) (slots : Waiting) (slot : ℕ) → slots.slot ≤ slot → slot < 13 → marks ≡ met
+    → waiting ≡ pending ++ (record slots { slot = slot + 1 }) ∷ [] → work last rest ≤ work marks waiting → work last rest < work met pending + left_in slots
+less_work met marks last pending waiting rest slots slot from below met_is is fewer =
+    omega (arith, behind_work met marks pending waiting slots slot below met_is is)
+
+-- one entry more is listed, and its slot is done with
+pub few_work : (met marks last : List Bool) (pending waiting rest : List Waiting) (slots : Waiting) (slot : ℕ) (old longer listed : List Entry) (entry : Entry) → slots.slot ≤ slot → slot < 13
+    → marks ≡ met → waiting ≡ pending ++ (record slots { slot = slot + 1 }) ∷ [] → work last rest ≤ work marks waiting
+    → length longer + slots.slot ≤ length old + slot → listed ≡ longer ++ entry ∷ []
+    → length listed + work last rest ≤ length old + work met pending + left_in slots
+few_work met marks last pending waiting rest slots slot old longer listed entry from below met_is is fewer few listed_is =
+    omega (arith, behind_work met marks pending waiting slots slot below met_is is, ap length listed_is, length-append longer (entry ∷ []))
+
+-- where no slot waits again, there is less to do
+pub less_done : (met marks : List Bool) (pending waiting : List Waiting) (slots : Waiting) → slots.slot ≤ 13 → marks ≡ met → waiting ≡ pending
+    → work marks waiting < work met pending + left_in slots
+less_done met marks pending waiting slots inside met_is is = omega (arith, ap (count_by not) met_is, ap (sum_by left_in) is)
+
+pub few_done : (met marks : List Bool) (pending waiting : List Waiting) (slots : Waiting) (old listed : List Entry) → slots.slot ≤ 13 → marks ≡ met → waiting ≡ pending
+    → length listed + slots.slot ≤ length old + 13 → length listed + work marks waiting ≤ length old + work met pending + left_in slots
+few_done met marks pending waiting slots old listed inside met_is is few = omega (arith, ap (count_by not) met_is, ap (sum_by left_in) is)
 
 -- there is as much to do when blocks that were met wait
 pub same_work : (met marks : List Bool) (blocks more : List ℕ) (key first : ℕ) (pending waiting : List Waiting) → first ≡ length blocks

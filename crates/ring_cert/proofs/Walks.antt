@@ -1,7 +1,7 @@
 -- Walks along a ring, and along the moves of a plan.
 use Rattle.std.proofs.Common.{◌≡◌, ℕ, ◌+◌, ◌<◌, ◌≤◌, List, length, get_or, map, take, arith, sym, ap, ◌∙◌, subst, zero-add}
 use Rattle.std.specs.List.{range_with_len}
-use Rattle.std.proofs.lemmas.List.{get_or_default, get_or-map, length-map, same_lists, take_more}
+use Rattle.std.proofs.lemmas.List.{get_or_default, get_or-map, length-map, same_lists, take_all, take_more}
 use Rattle.std.proofs.lemmas.List.FromFn.{length-range_with_len, get_or-range_with_len}
 use Rattle.vol_layout.specs.declared.moves.Move.{Move}
 use Rattle.vol_layout.specs.Layouts.{Placement, AreDistinct, IsTarget}
@@ -40,6 +40,16 @@ pub record ReachesTo (start now : Placement) (moves : List Move) (i : ℕ) : Typ
   pub legal : IsPlan start.at start.places (take i moves)
   pub reached : now.at ≡ after start.at (take i moves)
   pub places : now.places ≡ start.places
+
+-- no move is made yet, and all are
+pub ReachesTo-none : (start now : Placement) (moves : List Move) → now ≡ start → ReachesTo start now moves 0
+ReachesTo-none start now moves is = record { legal = tt; reached = ap (λ p. p.at) is; places = ap (λ p. p.places) is }
+
+pub ReachesTo-all : (start now : Placement) (moves : List Move) (i : ℕ) → length moves ≤ i → ReachesTo start now moves i
+    → IsPlan start.at start.places moves × (now.at ≡ after start.at moves)
+ReachesTo-all start now moves i end to =
+    let whole = take_all i moves end in
+    (subst (IsPlan start.at start.places) whole to.legal, to.reached ∙ ap (after start.at) whole)
 
 -- one more move, where it could be made
 pub ReachesTo-more :

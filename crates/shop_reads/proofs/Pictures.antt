@@ -1,11 +1,11 @@
 -- Lines of a picture, one more at a time.
-use Rattle.std.proofs.Common.{◌≡◌, ◌∙◌, ◌≤◌, ◌+◌, ◌-◌, ◌^◌, ℕ, Bool, true, false, List, [], ◌∷◌, ◌++◌, length, length-drop, map, min, take, take_all, refl, sym, ap, arith, append-nil}
+use Rattle.std.proofs.Common.{◌≡◌, ◌∙◌, ◌<◌, ◌≤◌, ◌+◌, ◌-◌, ◌^◌, ℕ, Bool, true, false, List, [], ◌∷◌, ◌++◌, get_or, length, length-drop, map, min, take, take_all, refl, sym, ap, arith, append-nil}
 use Rattle.std.specs.Prelude.{flat_map, decimal, drop, nat_le}
 use Rattle.std.proofs.lemmas.Bool.Decides.{nat_tests}
 use Rattle.std.specs.List.{range_with_len}
 use Rattle.std.specs.Fmt.{format_spec, styled_decimal}
 use Rattle.std.proofs.lemmas.Grind.{flat_map-append}
-use Rattle.std.proofs.lemmas.List.{append_assoc, map-id}
+use Rattle.std.proofs.lemmas.List.{append_assoc, flat_map_more, map-id, take_more}
 use Rattle.std.proofs.lemmas.List.FromFn.{map-range_with_len_more}
 use Rattle.std.proofs.Padding.{padded_integral_right, styled_decimal_is}
 use Rattle.file_listings.specs.DosText.{Text, line}
@@ -52,6 +52,12 @@ line_done old written told new number characters front middle last =
     last ∙ ap (λ t. t ++ 10 ∷ []) middle ∙ ap (λ t. (t ++ characters) ++ 10 ∷ []) front
     ∙ ap (λ t. t ++ 10 ∷ []) (append_assoc old (number ++ 32 ∷ []) characters ∙ ap (λ t. old ++ t) (append_assoc number (32 ∷ []) characters))
     ∙ append_assoc old (number ++ 32 ∷ characters) (10 ∷ [])
+
+-- one line more, of the elements of a list
+pub lines_more : {X : Type 0} (f : X → Text) (xs : List X) (d : X) (now new : Text) (i : ℕ) → i < length xs → now ≡ flat_map f (take i xs)
+    → new ≡ now ++ f (get_or xs i d) → new ≡ flat_map f (take (i + 1) xs)
+lines_more f xs d now new i below is more =
+    more ∙ ap (λ t. t ++ f (get_or xs i d)) is ∙ flat_map_more f [] (take i xs) (get_or xs i d) ∙ ap (flat_map f) (sym (take_more xs i d below))
 
 -- one line more
 pub line_pushed : (f : ℕ → Text) (now new : Text) (n : ℕ) → now ≡ flat_map f (range_with_len 0 n) → new ≡ now ++ f n

@@ -1,11 +1,12 @@
 -- What a table of places has come to is the states of the places.
 use Rattle.std.proofs.Common.{◌≡◌, ◌≢◌, ◌∙◌, ◌<◌, ◌+◌, ℕ, Bool, true, false, List, get_or, length, map, refl, sym, ap, subst, arith, inl, inr, ⊎_elim}
-use Rattle.std.specs.Prelude.{◌==◌, Contains, nat_lt, slice_index, slice_set, if◌then◌else◌}
+use Rattle.std.specs.Prelude.{◌==◌, Contains, Some, nat_lt, slice_get, slice_index, slice_set, if◌then◌else◌}
 use Rattle.std.specs.List.{range_with_len}
 use Rattle.std.proofs.lemmas.Bool.{cases_eq, false≢true}
 use Rattle.std.proofs.lemmas.Bool.Decides.{nat_tests}
 use Rattle.std.proofs.lemmas.List.{get_or_default, get_or-set_other, get_or-set_same, length-map, length-set}
 use Rattle.std.proofs.lemmas.List.FromFn.{get_or-map-range_with_len, length-map-range_with_len}
+use Rattle.std.proofs.lemmas.Option.{get_or_from_slice_get, slice_get_within}
 use Rattle.a2_device.specs.declared.part.Part.{Part}
 use Rattle.vol_format.specs.Directory.{Directory, is_free, is_system}
 use Rattle.vol_format.specs.Laws.{IsDirectory}
@@ -17,6 +18,15 @@ use Rattle.shop_reads.specs.MapStates.{AreStates, IsInState, Mapped}
 use Rattle.shop_reads.specs.MapSteps.{PutsAt, PutsParts, TellsReserved, part_state, reserved_state, state_at, vacant_state}
 use Rattle.shop_reads.specs.declared.place_state.PlaceState.{PlaceState}
 use Rattle.shop_reads.specs.declared.place_state.PlaceState.TheVariants as states
+
+-- a place that has a number is none of the system's
+pub outside_system : (format : Meaning) (directory : Directory) (place number : ℕ) → IsDirectory format directory
+    → slice_get directory.available number ≡ Some place → is_system directory place ≡ false
+outside_system format directory place number of named = ((of.available_of place).0 (
+  number,
+  slice_get_within directory.available number place named,
+  get_or_from_slice_get directory.available number place place named,
+)).1
 
 module _ (format : Meaning) (store : List (List ℕ)) (directory : Directory) (parts : List Part) where
   -- the volume, as long as nothing is known of what is reserved

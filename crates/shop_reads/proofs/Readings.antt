@@ -1,7 +1,8 @@
 -- What is told of a listing and of a read that are refused.
-use Rattle.std.proofs.Common.{◌≡◌, ◌≢◌, ℕ, List, inl, inr, refl, subst, sym}
-use Rattle.std.specs.Prelude.{Option, Some, None, true, Err, IsTrue}
+use Rattle.std.proofs.Common.{◌≡◌, ◌≢◌, ℕ, Bool, List, inl, inr, refl, subst, sym}
+use Rattle.std.specs.Prelude.{Option, Result, Ok, Some, None, true, Err, IsTrue}
 use Rattle.a2_device.specs.Device.{DeviceState, OnlyReads}
+use Rattle.a2_device.specs.Reading.{unread}
 use Rattle.vol_layout.specs.declared.form.PlaceForm.{PlaceForm}
 use Rattle.vol_format.specs.Meaning.{Meaning}
 use Rattle.file_formats.specs.FileNames.{FileNameView}
@@ -9,9 +10,15 @@ use Rattle.file_formats.specs.Files.{FileMeaning}
 use Rattle.file_formats.specs.Listing.{HasHeaderFault}
 use Rattle.file_cmds.specs.ReadingOn.{FailedBetween}
 use Rattle.file_cmds.specs.Refusal.{told_device}
-use Rattle.file_cmds.specs.lemmas.Reading.{one_failed}
+use Rattle.file_cmds.specs.lemmas.Reading.{none_read, one_failed}
 use Rattle.shop_replies.specs.declared.reply.Reply.{Reply}
-use Rattle.shop_reads.specs.GoingOn.{Going, Ends, TellsFile, TellsUnit, FailsForLackBy, HasNotFailedBy}
+use Rattle.file_listings.specs.DosText.{Text}
+use Rattle.shop_jobs.specs.declared.job.FileSystem.{FileSystem}
+use Rattle.shop_replies.specs.Volume.{form_of}
+use Rattle.vol_layout.specs.declared.reserve_error.ReserveError.{ReserveError}
+use Rattle.vol_layout.specs.declared.reserve_error.ReserveError.TheVariants as reserves
+use Rattle.shop_reads.specs.Reserving.{IsDeviceReply, NamesPlaces, reply_to_reserve}
+use Rattle.shop_reads.specs.GoingOn.{Going, Ends, TellsFile, TellsUnit, FailsForLackBy, HasNotFailedBy, ReadsBy}
 use Rattle.file_cmds.specs.Read.{HasNoFile, IsUnreadable}
 use Rattle.file_cmds.specs.declared.error.CmdError.{CmdError}
 use Rattle.file_cmds.specs.declared.error.CmdError.TheVariants as commands
@@ -66,3 +73,21 @@ pub not_failed : (going : Going) (reply : Reply) (old new : DeviceState) → Has
 not_failed Ends reply old new works = λ is. absurd (works is)
 not_failed TellsFile reply old new works = works
 not_failed TellsUnit reply old new works = works
+
+pub no_error : {T E : Type 0} (value : T) (error : E) → ◌≡◌ {A = Result T E} (Ok value) (Err error) → ⊥
+no_error value error is = absurd (cc)
+
+-- where the words can't be taken, no device is looked at
+pub none_looked : (going : Going) (error : ReserveError) (device : DeviceState) → ReadsBy going (reply_to_reserve error) device device
+none_looked Ends reserves.Syntax device = unread device
+none_looked Ends reserves.Memory device = unread device
+none_looked TellsFile reserves.Syntax device = record { reads = none_read device; told = λ tells. absurd (cc) }
+none_looked TellsFile reserves.Memory device = record { reads = none_read device; told = λ tells. absurd (cc) }
+none_looked TellsUnit reserves.Syntax device = record { reads = none_read device; told = λ tells. absurd (cc) }
+none_looked TellsUnit reserves.Memory device = record { reads = none_read device; told = λ tells. absurd (cc) }
+
+pub none_reserved : (file_system : FileSystem) (reserve : Option Text) (Tells : List Bool → Type 0) (form : PlaceForm) (error : ReserveError) (reply : Reply)
+    → form ≡ form_of file_system → (error ≡ reserves.Syntax → ¬ NamesPlaces form reserve) → reply ≡ reply_to_reserve error
+    → IsDeviceReply file_system reserve Tells reply
+none_reserved file_system reserve Tells form reserves.Syntax reply same none is = inl (is, subst (λ (f : PlaceForm). ¬ NamesPlaces f reserve) same (none refl))
+none_reserved file_system reserve Tells form reserves.Memory reply same none is = inr (inl is)

@@ -1,6 +1,6 @@
 -- The parts whose units can't be read, one after the other.
 use Rattle.std.proofs.Common.{◌≡◌, ◌∙◌, ℕ, ◌+◌, ◌<◌, Bool, true, false, List, [], ◌∷◌, ◌++◌, ap, append-nil, arith, cond, get_or, inl, inr, length, refl, subst, sym, take}
-use Rattle.std.specs.Prelude.{◌==◌, not, Contains, IsTrue, if◌then◌else◌}
+use Rattle.std.specs.Prelude.{◌==◌, not, Contains, if◌then◌else◌}
 use Rattle.std.specs.List.{list_any}
 use Rattle.std.proofs.lemmas.Bool.Decides.{nat_tests}
 use Rattle.std.proofs.lemmas.List.Elements.{Contains-push_cases, filter_more}

@@ -72,6 +72,16 @@ fn place_at<F: Format>(format: &F, volume: &F::Volume, number: u32) -> u32
     }
 }
 
+// Whether a place is lost, where a table has the places at which a part stands.
+fn is_lost<F: Format>(format: &F, volume: &F::Volume, taken: &[bool], place: u32) -> bool
+    requires place { place < (F.directory format.now volume.now).places }
+    requires taken { length taken.now ≡ (F.directory format.now volume.now).places }
+    ensures { result ≡ (not (is_free (F.directory format.now volume.now) place)
+        && not (slice_index_or taken.now place false)) }
+{
+    !format.is_free(volume, place) && !taken[place as usize]
+}
+
 // The places that are lost, where a table has the places at which a part stands.
 pub fn lost_of<F: Format, A: Allocator>(
     alloc: A,
@@ -88,7 +98,7 @@ pub fn lost_of<F: Format, A: Allocator>(
     let mut lost = Vec::new(alloc);
     for number in 0..count_available(format, volume) {
         let place = place_at(format, volume, number);
-        if !format.is_free(volume, place) && !taken[place as usize] {
+        if is_lost(format, volume, taken, place) {
             lost.push(place)?;
         }
     }

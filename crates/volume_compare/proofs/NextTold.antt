@@ -6,9 +6,11 @@ use Rattle.std.proofs.lemmas.List.Sums.{sum-map, sum_by_push}
 use Rattle.a2_device.specs.Device.{DeviceState}
 use Rattle.vol_layout.specs.declared.form.PlaceForm.{PlaceForm}
 use Rattle.vol_format.specs.Directory.{Directory, entries}
+use Rattle.vol_format.specs.Fits.{Fits}
 use Rattle.vol_format.specs.Meaning.{Meaning}
 use Rattle.file_formats.specs.Files.{FileMeaning}
 use Rattle.file_cmds.specs.ReadingOn.{FailedInFile, ReadsOn}
+use Rattle.volume_compare.specs.CompareText.{AreAtMost}
 use Rattle.volume_compare.specs.Findings.{AreToldUpTo, Compared, IsFinding, IsTold, Told, compared_in, first_bytes_of, second_bytes, second_bytes_of, told_at}
 use Rattle.volume_compare.specs.Progress.{IsTelling, IsToldTo, TellsNext}
 use Rattle.volume_compare.specs.TooLarge.{AreCounts, HasTooMany, HasTooManySecond, IsCount, IsCountedTo, IsLargerBy, IsTooLarge}
@@ -19,6 +21,7 @@ use Rattle.volume_compare.specs.declared.finding.Finding.TheVariants.{Unreadable
 use Rattle.volume_compare.specs.declared.finding.Found.{Found}
 use Rattle.volume_compare.specs.declared.finding.Side.TheVariants.{First, Second}
 use Rattle.volume_compare.specs.declared.progress.Progress.{Progress}
+use Rattle.volume_compare.specs.declared.totals.Totals.{Totals}
 use Rattle.file_cmds.specs.lemmas.Reading.{failed_in_file_before, none_read, read_twice}
 use Rattle.volume_compare.proofs.Counts.{wider_counts}
 use Rattle.volume_compare.proofs.Wider.{early_told, early_told_alone, late_told, told_more}
@@ -31,6 +34,27 @@ tells honest IsNext form old new next (Err Memory) told is = tt
 tells honest IsNext form old new next (Err (TooLarge side)) told is = (next, told, is)
 tells honest IsNext form old new next (Err (Check side)) told is = absurd told
 tells honest IsNext form old new next (Err (Device side)) told is = absurd told
+
+-- where they are few, they are few under a greater bound
+pub few_under : (totals : Totals) (low high : ℕ) → low ≤ high → AreAtMost totals low → AreAtMost totals high
+few_under totals low high under few = record {
+  same = omega (arith, few.same);
+  body = omega (arith, few.body);
+  entry = omega (arith, few.entry);
+  only_first = omega (arith, few.only_first);
+  only_second = omega (arith, few.only_second);
+  unreadable = omega (arith, few.unreadable);
+}
+
+pub few_yet : (totals : Totals) (most : ℕ) → AreAtMost totals most → AreAtMost totals (most + 1)
+few_yet totals most few = few_under totals most (most + 1) (omega arith) few
+
+-- a device that was read is as large as before
+pub still_fits : (format : Meaning) (old new : DeviceState) → Fits format old → ReadsOn old new → Fits format new
+still_fits format old new fits reads = record {
+  unit = reads.same.unit_size ∙ fits.unit;
+  places = subst format.Takes (sym reads.same.places) fits.places;
+}
 
 -- how many bytes of the first volume were read for what is found of a file is how many its text has
 count_by_finding : (compared : Compared) (file : ℕ) (found : Found) (finding : Finding) → IsFinding compared file found finding

@@ -1,6 +1,8 @@
 use Rattle.std.proofs.Common.{◌≡◌, ◌∙◌, ℕ, IfSome, subst, sym}
+use Rattle.a2_device.specs.Reading.{unread}
 use Rattle.shop_reads.specs.MapSteps.{TellsReserved}
 use Rattle.shop_reads.proofs.PlaceTables.{full, reserved_are}
+use Rattle.shop_reads.proofs.Readings.{no_error}
 use Rattle.shop_reads.proofs.map.with_reserved.Goals as goal
 
 pub returns-clause-map : goal.returns-clause-map
@@ -19,3 +21,27 @@ returns-clause-map g c = λ honest bare.
       are_states = reserved_are format store bare.directory bare.parts own c.args.map.places.items c.tell_reserved.result.items bare.are_states
           (subst (λ (n : ℕ). TellsReserved n own c.args.map.places.items c.tell_reserved.result.items) places c.tell_reserved.ensures);
     }
+
+pub returns-in_default-clause-device : goal.returns-in_default-clause-device
+returns-in_default-clause-device g c = unread (g.D.Device.state c.args.device.now)
+
+pub returns-in_default-clause-found : goal.returns-in_default-clause-found
+returns-in_default-clause-found g c = λ is. no_error _ _ is
+
+pub returns-in_default-clause-check : goal.returns-in_default-clause-check
+returns-in_default-clause-check g c = λ honest bare is. no_error _ _ is
+
+pub returns-clause-device : goal.returns-clause-device
+returns-clause-device g c = c.in_ok-volume.ensures.device
+
+pub returns-clause-found : goal.returns-clause-found
+returns-clause-found g c = λ is. no_error _ _ is
+
+pub returns-clause-check : goal.returns-clause-check
+returns-clause-check g c = λ honest bare is. no_error _ _ is
+
+pub tell_reserved-requires-clause-places : goal.tell_reserved-requires-clause-places
+tell_reserved-requires-clause-places g c = c.places.ensures ∙ c.in_ok-volume.ensures.device.same.places ∙ sym c.in_ok-volume.ensures.places
+
+pub tell_reserved-requires-clause-size : goal.tell_reserved-requires-clause-size
+tell_reserved-requires-clause-size g c = c.requires.size ∙ sym c.in_ok-volume.ensures.device.same.places ∙ sym c.places.ensures

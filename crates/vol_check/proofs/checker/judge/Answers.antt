@@ -1,12 +1,19 @@
-use Rattle.std.proofs.Common.{◌≡◌, ◌<◌, length, refl, sym, subst, arith, inr}
+use Rattle.std.proofs.Common.{◌≡◌, ◌<◌, ◌∙◌, false, length, refl, sym, subst, arith, inr}
 use Rattle.std.proofs.lemmas.Bool.Decides.{nat_tests}
 use Rattle.std.specs.List.{All, AllZip}
 use Rattle.vol_format.specs.Directory.{entries}
-use Rattle.std.specs.Prelude.{IsTrue}
-use Rattle.a2_device.specs.Device.{DeviceState}
+use Rattle.std.specs.Prelude.{IsErrAnd, IsTrue, Result, Ok, Err}
+use Rattle.std.proofs.lemmas.Result.{err_from_is_err_and}
+use Rattle.a2_device.specs.Device.{DeviceState, OnlyReads}
+use Rattle.a2_device.specs.Reading.{then_reads}
+use Rattle.a2_device.specs.Stop.{is_stop_of_device}
+use Rattle.a2_device.specs.declared.stop.Stop.{Stop}
+use Rattle.a2_device.specs.declared.stop.Stop.TheVariants.{Device, Memory}
 use Rattle.vol_format.specs.Reach.{IsPartsOf}
 use Rattle.vol_format.specs.Accepted.{IsAccepted}
+use Rattle.vol_check.specs.Answer.{error_of, is_device_error}
 use Rattle.vol_check.specs.FaultFiles.{FaultList, FileFaultAt}
+use Rattle.vol_check.specs.declared.error.CheckError.{CheckError}
 use Rattle.vol_check.specs.Judgement.{AreFileFaults}
 use Rattle.vol_check.specs.Told.{told_of, volume_of, IsToldOf}
 use Rattle.vol_check.specs.Walk.{lists}
@@ -14,6 +21,66 @@ use Rattle.vol_check.proofs.Visits.{accepted, parts_of}
 use Rattle.vol_check.proofs.Lost.{lost_are}
 use Rattle.vol_check.proofs.Verdict.{nothing, some_faults, walked}
 use Rattle.vol_check.proofs.checker.judge.Goals as goal
+
+-- a walk that ended early ends the check alike
+same_error : {T A : Type 0} (result : Result T (CheckError A)) (stop : Stop) → IsErrAnd result (λ e. e ≡ error_of stop) → is_device_error result ≡ is_stop_of_device stop
+same_error (Ok value) stop is = absurd is
+same_error (Err error) Device is = rw is refl
+same_error (Err error) Memory is = rw is refl
+
+pub walk_files-requires-clause-fits : goal.walk_files-requires-clause-fits
+walk_files-requires-clause-fits g c =
+    let same = c.in_ok-volume.ensures.device.same in
+    record {
+      unit = same.unit_size ∙ c.requires.fits.unit;
+      places = subst (g.F.Format.meaning c.args.format.now).Takes (sym same.places) c.requires.fits.places;
+    }
+
+pub walk_files-requires-clause-places : goal.walk_files-requires-clause-places
+walk_files-requires-clause-places g c = c.in_ok-volume.ensures.places ∙ sym c.in_ok-volume.ensures.device.same.places
+
+pub returns-in_err-volume : goal.returns-in_err-volume
+returns-in_err-volume g c =
+    let given = err_from_is_err_and c.from_residual.result c.from_residual.ensures.1 in
+    rw (given.1, given.2) (record {
+      device = c.in_err-volume.ensures.device;
+      places = tt;
+      told = tt;
+      entries = tt;
+      accepted = λ _. tt;
+      parts = λ _. tt;
+      lost = λ _. tt;
+      refused = λ _. tt;
+      unread = c.in_err-volume.ensures.refused;
+      files = c.in_err-volume.ensures.files;
+    })
+
+pub returns-in_err-walk-clause-device : goal.returns-in_err-walk-clause-device
+returns-in_err-walk-clause-device g c =
+    let start = g.D.Device.state c.args.device.now in
+    let mid = g.D.Device.state c.read_volume.new.device in
+    let new = g.D.Device.state c.walk_files.new.device in
+    let last = same_error c.from_residual-in_err-walk.result c.in_err-walk.field-0.0 c.from_residual-in_err-walk.ensures.1 in
+    then_reads (is_device_error c.from_residual-in_err-walk.result) start mid new c.in_ok-volume.ensures.device
+    (subst (λ failed. OnlyReads failed mid new) (sym last) c.in_err-walk.ensures.device)
+
+pub returns-then-not-is_empty-clause-device : goal.returns-then-not-is_empty-clause-device
+returns-then-not-is_empty-clause-device g c =
+    then_reads false (g.D.Device.state c.args.device.now) (g.D.Device.state c.read_volume.new.device) (g.D.Device.state c.walk_files.new.device)
+    c.in_ok-volume.ensures.device c.in_ok-walk.ensures.device
+
+pub returns-clause-device : goal.returns-clause-device
+returns-clause-device g c =
+    then_reads false (g.D.Device.state c.args.device.now) (g.D.Device.state c.read_volume.new.device) (g.D.Device.state c.walk_files.new.device)
+    c.in_ok-volume.ensures.device c.in_ok-walk.ensures.device
+
+pub returns-clause-places : goal.returns-clause-places
+returns-clause-places g c =
+    subst (λ v. (g.F.Format.directory c.args.format.now v).places ≡ (g.D.Device.state c.args.device.now).places) (sym c.in_ok-checked.ensures.volume) c.in_ok-volume.ensures.places
+
+pub returns-clause-told : goal.returns-clause-told
+returns-clause-told g c =
+    subst (λ v. IsToldOf (g.F.Format.directory c.args.format.now v) (told_of c.in_ok-checked.field-0)) (sym c.in_ok-checked.ensures.volume) c.in_ok-checked.ensures.told
 
 pub returns-then-not-is_empty-clause-refused : goal.returns-then-not-is_empty-clause-refused
 returns-then-not-is_empty-clause-refused g c = λ honest.

@@ -1,8 +1,9 @@
 use Rattle.std.proofs.Common.{◌≡◌, ◌<◌, ◌+◌, ◌++◌, [], ◌∷◌, refl, sym, ◌∙◌, ap, subst, arith, false}
 use Rattle.std.specs.Prelude.{IsTrue}
-use Rattle.a2_device.specs.Device.{DeviceState}
+use Rattle.std.proofs.lemmas.Result.{err_from_is_err_and}
+use Rattle.a2_device.specs.Device.{DeviceState, OnlyReads}
 use Rattle.a2_device.specs.Reading.{unread, then_reads}
-use Rattle.a2_device.specs.Stop.{same_stop}
+use Rattle.a2_device.specs.Stop.{is_device_stop, same_stop}
 use Rattle.vol_check.specs.Walk.{lists, IsSound, after_next, next_unit}
 use Rattle.vol_check.proofs.Failing.{fails_in_file}
 use Rattle.vol_check.proofs.FileFaults.{begins_telling, goes_on_telling}
@@ -10,6 +11,46 @@ use Rattle.vol_check.proofs.Files.{root_sound, root_walking, next_walking}
 use Rattle.vol_check.proofs.Marks.{marks_then}
 use Rattle.vol_check.proofs.Room.{next_sound, next_work, work, top_in_range}
 use Rattle.vol_check.proofs.walk.walk_file.Goals as goal
+
+pub returns-in_err-note : goal.returns-in_err-note
+returns-in_err-note g c =
+    let given = err_from_is_err_and c.from_residual.result c.from_residual.ensures.1 in
+    rw (given.1, given.2) (record {
+      device = unread (g.D.Device.state c.args.device.now);
+      pending = tt;
+      sound = tt;
+      walking = λ _. tt;
+      told = λ _. tt;
+      marks = c.note.ensures.marks;
+      failed = λ _ failed. absurd (cc);
+    })
+
+pub go_on-requires-clause-size : goal.go_on-requires-clause-size
+go_on-requires-clause-size g c = c.loop-next.invariant.device.same.unit_size ∙ c.requires.fits.unit
+
+pub go_on-requires-clause-places : goal.go_on-requires-clause-places
+go_on-requires-clause-places g c = c.requires.places ∙ sym c.loop-next.invariant.device.same.places
+
+pub go_on-requires-clause-visited : goal.go_on-requires-clause-visited
+go_on-requires-clause-visited g c = c.loop-next.invariant.sound.size
+
+pub returns-in_err-go_on-clause-device : goal.returns-in_err-go_on-clause-device
+returns-in_err-go_on-clause-device g c =
+    let start = g.D.Device.state c.args.device.now in
+    let mid = g.D.Device.state c.loop-next.device in
+    let new = g.D.Device.state c.go_on.new.device in
+    let last = same_stop c.from_residual-in_err-go_on.result c.in_err-go_on.field-0.0 c.from_residual-in_err-go_on.ensures.1 in
+    then_reads (is_device_stop c.from_residual-in_err-go_on.result) start mid new c.loop-next.invariant.device
+    (subst (λ failed. OnlyReads failed mid new) (sym last) c.in_err-go_on.ensures.device)
+
+pub returns-clause-device : goal.returns-clause-device
+returns-clause-device g c = c.loop-next.invariant.device
+
+pub returns-clause-marks : goal.returns-clause-marks
+returns-clause-marks g c = c.loop-next.invariant.marks
+
+pub returns-clause-failed : goal.returns-clause-failed
+returns-clause-failed g c = λ _ failed. absurd (cc)
 
 pub loop-next-init : goal.loop-next-init
 loop-next-init g c =

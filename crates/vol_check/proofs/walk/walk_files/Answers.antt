@@ -2,6 +2,7 @@ use Rattle.std.proofs.Common.{◌≡◌, ◌∙◌, ◌+◌, [], false, length, 
 use Rattle.std.specs.List.{AllZip}
 use Rattle.std.specs.Prelude.{IsTrue}
 use Rattle.std.proofs.lemmas.List.{with_items_is}
+use Rattle.std.proofs.lemmas.Result.{err_from_is_err_and}
 use Rattle.a2_device.specs.Device.{DeviceState, OnlyReads}
 use Rattle.a2_device.specs.Reading.{unread, then_reads}
 use Rattle.a2_device.specs.Stop.{is_device_stop, same_stop}
@@ -11,6 +12,67 @@ use Rattle.vol_check.specs.Walking.{IsWalking, None}
 use Rattle.vol_check.proofs.FileFaults.{files_below, zipped_on}
 use Rattle.vol_check.proofs.Files.{start_sound, start_walking}
 use Rattle.vol_check.proofs.walk.walk_files.Goals as goal
+
+pub returns-in_err-walk : goal.returns-in_err-walk
+returns-in_err-walk g c =
+    let given = err_from_is_err_and c.from_residual.result c.from_residual.ensures.1 in
+    rw (given.1, given.2) (record {
+      device = unread (g.D.Device.state c.args.device.now);
+      pending = tt;
+      sound = tt;
+      walking = λ _. tt;
+      entries = tt;
+      files = λ _. tt;
+    })
+
+pub returns-in_err-unit : goal.returns-in_err-unit
+returns-in_err-unit g c =
+    let given = err_from_is_err_and c.from_residual-in_err-unit.result c.from_residual-in_err-unit.ensures.1 in
+    rw (given.1, given.2) (record {
+      device = unread (g.D.Device.state c.args.device.now);
+      pending = tt;
+      sound = tt;
+      walking = λ _. tt;
+      entries = tt;
+      files = λ _. tt;
+    })
+
+pub walk_file-requires-clause-fits : goal.walk_file-requires-clause-fits
+walk_file-requires-clause-fits g c =
+    let same = c.loop-file.invariant.device.same in
+    record {
+      unit = same.unit_size ∙ c.requires.fits.unit;
+      places = subst (g.F.Format.meaning c.args.format.now).Takes (sym same.places) c.requires.fits.places;
+    }
+
+pub walk_file-requires-clause-places : goal.walk_file-requires-clause-places
+walk_file-requires-clause-places g c = c.requires.places ∙ sym c.loop-file.invariant.device.same.places
+
+pub walk_file-requires-clause-walking : goal.walk_file-requires-clause-walking
+walk_file-requires-clause-walking g c = λ still.
+    let format = g.F.Format.meaning c.args.format.now in
+    let directory = g.F.Format.directory c.args.format.now c.args.volume.now in
+    let before = c.loop-file.invariant in
+    let honest = subst IsTrue before.device.same.honest still in
+    subst (λ (d : DeviceState). IsWalking format directory d.store c.loop-file.file None (lists c.loop-file.walk)) (sym (before.device.kept honest refl)) (before.walking honest)
+
+pub returns-in_err-resize : goal.returns-in_err-resize
+returns-in_err-resize g c =
+    let given = err_from_is_err_and c.from_residual-in_err-resize.result c.from_residual-in_err-resize.ensures.1 in
+    rw (given.1, given.2) (record {
+      device = then_reads false (g.D.Device.state c.args.device.now) (g.D.Device.state c.loop-file.device) (g.D.Device.state c.walk_file.new.device) c.loop-file.invariant.device c.in_ok-walk_file.ensures.device;
+      pending = tt;
+      sound = tt;
+      walking = λ _. tt;
+      entries = tt;
+      files = λ _. tt;
+    })
+
+pub returns-clause-device : goal.returns-clause-device
+returns-clause-device g c = c.loop-file.invariant.device
+
+pub returns-clause-files : goal.returns-clause-files
+returns-clause-files g c = c.loop-file.invariant.files
 
 pub loop-file-init : goal.loop-file-init
 loop-file-init g c =

@@ -1,4 +1,4 @@
-use Rattle.std.proofs.Common.{subst}
+use Rattle.std.proofs.Common.{ap, arith, length, subst}
 use Rattle.vol_format.specs.Laws.{IsDirectory}
 use Rattle.vol_mover.specs.Optimizing.{HasWorked, StopsWork, IsNoFailure, IsRefused}
 use Rattle.vol_mover.specs.Report.{IsReported}
@@ -13,6 +13,11 @@ print-requires-clause-bound g c =
     small_claims (g.F.Format.meaning c.args.format.now) c.args.options (g.D.Device.state c.args.device) first c.in-Ok.ensures.begun
     (subst (λ f. IsDirectory (g.F.Format.meaning f) first.opening) c.in-Ok.ensures.format (g.met.F.Format.rooted session.format.now session.volume))
     c.in-Ok.begun.1 c.in-Ok.ensures.plan
+
+pub print-requires-clause-rings : goal.print-requires-clause-rings
+print-requires-clause-rings g c = λ k d within empty.
+    let ring = c.in-Ok.ensures.plan.rings.each k d within in
+    omega (arith, ring.long, ap length empty)
 
 pub returns-in-Ok-print-clause-reported : goal.returns-in-Ok-print-clause-reported
 returns-in-Ok-print-clause-reported g c =

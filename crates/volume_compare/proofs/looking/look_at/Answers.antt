@@ -1,5 +1,6 @@
 use Rattle.std.proofs.Common.{◌≡◌, ◌<◌, ℕ, List, Option, Some, None, sym, ap, ◌∙◌, arith, length}
 use Rattle.std.proofs.lemmas.List.{get_or_read, length-map}
+use Rattle.file_cmds.specs.lemmas.Reading.{none_read}
 use Rattle.vol_format.specs.Directory.{Directory, entries}
 use Rattle.file_formats.specs.Files.{FileMeaning}
 use Rattle.volume_compare.specs.Contents.{content_view}
@@ -89,3 +90,39 @@ returns-clause-found g c = λ honest other_honest.
     let unread = rw c.in-None.is at (c.in_ok-other.ensures.content other_honest) in
     unreadable_second compared c.args.file c.unreadable-in-None.result content is_content c.in-Some-index.partner partner unread
     (c.unreadable-in-None.ensures ∙ ap {B = Found} (λ (bytes : ℕ). record { finding = Unreadable Second; first_bytes = bytes; second_bytes = 0 }) bytes)
+
+pub returns-in_err-content-clause-reads : goal.returns-in_err-content-clause-reads
+returns-in_err-content-clause-reads g c = c.content_of.ensures.reads
+
+pub returns-in_err-content-clause-other_reads : goal.returns-in_err-content-clause-other_reads
+returns-in_err-content-clause-other_reads g c = none_read (g.E.Device.state c.args.second.now)
+
+pub returns-in_default-clause-reads : goal.returns-in_default-clause-reads
+returns-in_default-clause-reads g c = c.content_of.ensures.reads
+
+pub returns-in_default-clause-other_reads : goal.returns-in_default-clause-other_reads
+returns-in_default-clause-other_reads g c = none_read (g.E.Device.state c.args.second.now)
+
+pub returns-in_default-index-clause-reads : goal.returns-in_default-index-clause-reads
+returns-in_default-index-clause-reads g c = c.content_of.ensures.reads
+
+pub returns-in_default-index-clause-other_reads : goal.returns-in_default-index-clause-other_reads
+returns-in_default-index-clause-other_reads g c = none_read (g.E.Device.state c.args.second.now)
+
+pub returns-in_err-other-clause-reads : goal.returns-in_err-other-clause-reads
+returns-in_err-other-clause-reads g c = c.content_of.ensures.reads
+
+pub returns-in_err-other-clause-other_reads : goal.returns-in_err-other-clause-other_reads
+returns-in_err-other-clause-other_reads g c = c.content_of-2.ensures.reads
+
+pub returns-in-Some-other-clause-reads : goal.returns-in-Some-other-clause-reads
+returns-in-Some-other-clause-reads g c = c.content_of.ensures.reads
+
+pub returns-in-Some-other-clause-other_reads : goal.returns-in-Some-other-clause-other_reads
+returns-in-Some-other-clause-other_reads g c = c.content_of-2.ensures.reads
+
+pub returns-clause-reads : goal.returns-clause-reads
+returns-clause-reads g c = c.content_of.ensures.reads
+
+pub returns-clause-other_reads : goal.returns-clause-other_reads
+returns-clause-other_reads g c = c.content_of-2.ensures.reads

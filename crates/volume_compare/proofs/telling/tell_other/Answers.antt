@@ -1,10 +1,11 @@
-use Rattle.std.proofs.Common.{◌≡◌, ℕ, Some, None, ap, sym, ◌∙◌, List, true, false, length, arith, ◌<◌, inr}
+use Rattle.std.proofs.Common.{◌≡◌, ℕ, Some, None, ap, refl, sym, ◌∙◌, List, true, false, length, arith, ◌<◌, inr}
 use Rattle.std.proofs.lemmas.List.{get_or_read, length-map}
+use Rattle.file_cmds.specs.lemmas.Reading.{none_read}
 use Rattle.volume_compare.specs.Findings.{Told}
 use Rattle.volume_compare.specs.Pairs.{file_path, path_at, paths_of, taken_at}
 use Rattle.volume_compare.proofs.Free.{path_of_entry}
 use Rattle.volume_compare.proofs.Looks.{free_alone, taken_partner}
-use Rattle.volume_compare.proofs.NextTold.{tells}
+use Rattle.volume_compare.proofs.NextTold.{few_yet, tells}
 use Rattle.volume_compare.proofs.OtherTold.{none_told}
 use Rattle.volume_compare.proofs.telling.tell_other.Goals as goal
 
@@ -41,3 +42,57 @@ returns-clause-told g c = λ first first_now.
       free_alone (paths_of files one) (paths_of files two) pairs.partners.items pairs.taken.items c.requires.pairs c.args.other free,
       c.in_ok-found.ensures.found first first_now honest,
     ))
+
+pub returns-then-index-clause-reads : goal.returns-then-index-clause-reads
+returns-then-index-clause-reads g c = none_read (g.E.Device.state c.args.second.now)
+
+pub returns-then-index-clause-kept : goal.returns-then-index-clause-kept
+returns-then-index-clause-kept g c = c.requires.opened
+
+pub returns-then-index-clause-all : goal.returns-then-index-clause-all
+returns-then-index-clause-all g c = refl
+
+pub returns-then-index-clause-few : goal.returns-then-index-clause-few
+returns-then-index-clause-few g c = λ most few. few_yet c.args.progress.now.report.totals most few
+
+pub returns-in_err-path-clause-reads : goal.returns-in_err-path-clause-reads
+returns-in_err-path-clause-reads g c = none_read (g.E.Device.state c.args.second.now)
+
+pub returns-in_err-path-clause-kept : goal.returns-in_err-path-clause-kept
+returns-in_err-path-clause-kept g c = c.requires.opened
+
+pub returns-in_err-path-clause-all : goal.returns-in_err-path-clause-all
+returns-in_err-path-clause-all g c = refl
+
+pub returns-in_default-clause-reads : goal.returns-in_default-clause-reads
+returns-in_default-clause-reads g c = none_read (g.E.Device.state c.args.second.now)
+
+pub returns-in_default-clause-kept : goal.returns-in_default-clause-kept
+returns-in_default-clause-kept g c = c.requires.opened
+
+pub returns-in_default-clause-all : goal.returns-in_default-clause-all
+returns-in_default-clause-all g c = refl
+
+pub returns-in_default-clause-few : goal.returns-in_default-clause-few
+returns-in_default-clause-few g c = λ most few. few_yet c.args.progress.now.report.totals most few
+
+pub returns-in_err-found-clause-reads : goal.returns-in_err-found-clause-reads
+returns-in_err-found-clause-reads g c = c.look_at_other.ensures.reads
+
+pub returns-in_err-found-clause-kept : goal.returns-in_err-found-clause-kept
+returns-in_err-found-clause-kept g c = c.look_at_other.ensures.kept
+
+pub returns-in_err-found-clause-all : goal.returns-in_err-found-clause-all
+returns-in_err-found-clause-all g c = refl
+
+pub returns-clause-reads : goal.returns-clause-reads
+returns-clause-reads g c = c.look_at_other.ensures.reads
+
+pub returns-clause-kept : goal.returns-clause-kept
+returns-clause-kept g c = c.look_at_other.ensures.kept
+
+pub returns-clause-all : goal.returns-clause-all
+returns-clause-all g c = c.tell.ensures.all
+
+pub returns-clause-few : goal.returns-clause-few
+returns-clause-few g c = c.tell.ensures.few

@@ -129,3 +129,38 @@ returns-clause-done g c =
     (g.F.TreeFormat.own opened.format.now) (g.F.Format.directory opened.format.now opened.volume))
     opened.most start now folder (g.O.Folder.state c.loop-entry.folder) Tells)
     before.opened done
+
+pub returns-in_default-clause-reads : goal.returns-in_default-clause-reads
+returns-in_default-clause-reads g c = c.open.ensures.reads
+
+pub returns-in_default-clause-same : goal.returns-in_default-clause-same
+returns-in_default-clause-same g c = refl
+
+pub returns-in_default-clause-done : goal.returns-in_default-clause-done
+returns-in_default-clause-done g c = tt
+
+pub returns-in-Err-clause-reads : goal.returns-in-Err-clause-reads
+returns-in-Err-clause-reads g c = read_twice (g.D.Device.state c.args.device.now) (g.D.Device.state c.loop-entry.device) (g.D.Device.state c.extract_next-made.new.device) c.loop-entry.invariant.reads c.in-Err.ensures.reads
+
+pub returns-in-Err-clause-same : goal.returns-in-Err-clause-same
+returns-in-Err-clause-same g c = c.in-Err.ensures.same ∙ c.loop-entry.invariant.same
+
+pub returns-in-Err-clause-done : goal.returns-in-Err-clause-done
+returns-in-Err-clause-done g c = tt
+
+pub returns-clause-reads : goal.returns-clause-reads
+returns-clause-reads g c = c.loop-entry.invariant.reads
+
+pub returns-clause-same : goal.returns-clause-same
+returns-clause-same g c = c.loop-entry.invariant.same
+
+pub returns-clause-stopped : goal.returns-clause-stopped
+returns-clause-stopped g c = tt
+
+pub extract_next-made-requires-clause-opened : goal.extract_next-made-requires-clause-opened
+extract_next-made-requires-clause-opened g c = c.loop-entry.invariant.files
+
+pub extract_next-made-requires-clause-begun : goal.extract_next-made-requires-clause-begun
+extract_next-made-requires-clause-begun g c =
+    let items = c.loop-entry.invariant.items in
+    (g.D.Device.state c.args.device.now, g.O.Folder.state c.args.folder.now, items.0, items.2)

@@ -1,6 +1,6 @@
 use Rattle.std.proofs.Common.{◌≡◌, ◌∙◌, ap, inr, refl, sym, subst, arith, length, string_bytes}
 use Rattle.std.specs.declared.alloc.Global.{Global}
-use Rattle.file_cmds.specs.lemmas.Reading.{read_twice}
+use Rattle.file_cmds.specs.lemmas.Reading.{none_read, read_twice}
 use Rattle.file_formats.specs.declared.listing.ListEntry.{ListEntry}
 use Rattle.volume_extract.specs.Items.{IsAbove}
 use Rattle.volume_extract.specs.Keys.{keys_of}
@@ -76,3 +76,75 @@ returns-clause-next g c = λ start items reads are counted.
     (omega (arith, c.if-len-gt-MOST_HOST.false, c.len.ensures))
     (found_on source start now c.args.entry c.in_ok-early.early early last c.in_ok-seen.seen c.in_ok-head.head.text (head.text ∙ c.is_text.ensures)
     c.in_ok-seen.ensures.early (c.in_ok-seen.ensures.seen start reads_now early))
+
+pub returns-in_default-clause-reads : goal.returns-in_default-clause-reads
+returns-in_default-clause-reads g c = none_read (g.D.Device.state c.args.device.now)
+
+pub returns-in_default-clause-files : goal.returns-in_default-clause-files
+returns-in_default-clause-files g c = c.requires.opened
+
+pub returns-in_err-shown-clause-reads : goal.returns-in_err-shown-clause-reads
+returns-in_err-shown-clause-reads g c = none_read (g.D.Device.state c.args.device.now)
+
+pub returns-in_err-shown-clause-files : goal.returns-in_err-shown-clause-files
+returns-in_err-shown-clause-files g c = c.requires.opened
+
+pub returns-in_err-early-clause-reads : goal.returns-in_err-early-clause-reads
+returns-in_err-early-clause-reads g c = c.see_early.ensures.reads
+
+pub returns-in_err-early-clause-files : goal.returns-in_err-early-clause-files
+returns-in_err-early-clause-files g c = c.see_early.ensures.kept
+
+pub returns-in_err-head-clause-reads : goal.returns-in_err-head-clause-reads
+returns-in_err-head-clause-reads g c = c.see_early.ensures.reads
+
+pub returns-in_err-head-clause-files : goal.returns-in_err-head-clause-files
+returns-in_err-head-clause-files g c = c.see_early.ensures.kept
+
+pub returns-in_err-host-clause-reads : goal.returns-in_err-host-clause-reads
+returns-in_err-host-clause-reads g c = c.see_early.ensures.reads
+
+pub returns-in_err-host-clause-files : goal.returns-in_err-host-clause-files
+returns-in_err-host-clause-files g c = c.see_early.ensures.kept
+
+pub returns-then-len-gt-MOST_HOST-clause-reads : goal.returns-then-len-gt-MOST_HOST-clause-reads
+returns-then-len-gt-MOST_HOST-clause-reads g c = c.see_early.ensures.reads
+
+pub returns-then-len-gt-MOST_HOST-clause-files : goal.returns-then-len-gt-MOST_HOST-clause-files
+returns-then-len-gt-MOST_HOST-clause-files g c = c.see_early.ensures.kept
+
+pub returns-in_err-seen-clause-reads : goal.returns-in_err-seen-clause-reads
+returns-in_err-seen-clause-reads g c = read_twice (g.D.Device.state c.args.device.now) (g.D.Device.state c.see_early.new.device) (g.D.Device.state c.see_on.new.device) c.see_early.ensures.reads c.see_on.ensures.reads
+
+pub returns-in_err-seen-clause-files : goal.returns-in_err-seen-clause-files
+returns-in_err-seen-clause-files g c = c.see_on.ensures.kept
+
+pub returns-clause-reads : goal.returns-clause-reads
+returns-clause-reads g c = read_twice (g.D.Device.state c.args.device.now) (g.D.Device.state c.see_early.new.device) (g.D.Device.state c.see_on.new.device) c.see_early.ensures.reads c.see_on.ensures.reads
+
+pub returns-clause-files : goal.returns-clause-files
+returns-clause-files g c = c.see_on.ensures.kept
+
+pub see_on-requires-clause-opened : goal.see_on-requires-clause-opened
+see_on-requires-clause-opened g c = c.see_early.ensures.kept
+
+pub see_on-requires-clause-entry : goal.see_on-requires-clause-entry
+see_on-requires-clause-entry g c = c.requires.inside
+
+pub see_on-requires-clause-shown : goal.see_on-requires-clause-shown
+see_on-requires-clause-shown g c = c.in_ok-shown.ensures
+
+pub see_on-requires-clause-places : goal.see_on-requires-clause-places
+see_on-requires-clause-places g c = c.requires.places ∙ sym c.see_early.ensures.reads.same.places
+
+pub see_on-requires-clause-fits : goal.see_on-requires-clause-fits
+see_on-requires-clause-fits g c = record {
+  unit = c.see_early.ensures.reads.same.unit_size ∙ c.requires.fits.unit;
+  places = subst (g.F.Format.meaning c.args.opened.now.format.now).Takes (sym c.see_early.ensures.reads.same.places) c.requires.fits.places;
+}
+
+pub host_of-requires-clause-number : goal.host_of-requires-clause-number
+host_of-requires-clause-number g c = c.in_ok-head.ensures.some
+
+pub host_of-requires-clause-kept : goal.host_of-requires-clause-kept
+host_of-requires-clause-kept g c = c.requires.kept

@@ -11,13 +11,25 @@ use Rattle.edit_formats.specs.declared.error.EditError.TheVariants.{Check}
 use Rattle.edit_formats.specs.declared.writes.Prepared.{Prepared}
 use Rattle.edit_formats.specs.Prepared.{write_of}
 use Rattle.edit_formats.specs.ProErasing.{pro_erasing}
-use Rattle.edit_formats.proofs.ErasedEntries.{erases-pro, has_entry, no_fault, own_directory}
+use Rattle.edit_formats.proofs.ErasedEntries.{erases-pro, has_entry, in_slot, no_fault, own_directory}
 use Rattle.edit_formats.proofs.pro_edits.ProdosEditableFormat.erase.Goals as goal
 
 pub returns-in-Err-clause-described : goal.returns-in-Err-clause-described
 returns-in-Err-clause-described g c = λ honest described same.
     let is : c.refusal.result ≡ Check = cc in
     no_fault (g.D.Device.state c.args.device.now).store described.tree c.in-Err.error c.refusal.result described.described (c.in-Err.ensures.refused honest) c.refusal.ensures is
+
+pub erase_entry-requires-clause-place : goal.erase_entry-requires-clause-place
+erase_entry-requires-clause-place g c =
+    let entry = c.in-Some.entry in
+    let slot = in_slot (g.D.Device.state c.args.device.now).places (directory_of c.in-Ok.walked) c.args.file entry c.in-Ok.ensures.within
+    (ap (λ entries. slice_get entries c.args.file) (sym c.entries.ensures) ∙ sym c.entry_of.ensures ∙ c.in-Some.is) in
+    subst (λ n. entry.place < n) (sym c.in-Ok.ensures.device.same.places) slot.place
+
+pub erase_entry-requires-clause-slot : goal.erase_entry-requires-clause-slot
+erase_entry-requires-clause-slot g c =
+    (in_slot (g.D.Device.state c.args.device.now).places (directory_of c.in-Ok.walked) c.args.file c.in-Some.entry c.in-Ok.ensures.within
+    (ap (λ entries. slice_get entries c.args.file) (sym c.entries.ensures) ∙ sym c.entry_of.ensures ∙ c.in-Some.is)).slot
 
 pub returns-in-Some-clause-inside : goal.returns-in-Some-clause-inside
 returns-in-Some-clause-inside g c =

@@ -3,12 +3,12 @@ use Rattle.std.specs.Prelude.{IsTrue}
 use Rattle.std.specs.Option.{option_or}
 use Rattle.std.proofs.lemmas.Result.{err_from_is_err_and}
 use Rattle.a2_device.specs.Device.{DeviceState, unit_at}
-use Rattle.a2_device.specs.Reading.{then_reads}
+use Rattle.a2_device.specs.Reading.{then_reads, unread}
 use Rattle.a2_device.specs.declared.fault.Fault.TheVariants.{DirLink}
 use Rattle.pro_dir.specs.Tree.{HasBadLink}
 use Rattle.pro_dir.specs.Walk.{first_free_of}
 use Rattle.pro_dir.specs.Within.{IsReadWithin}
-use Rattle.pro_dir.proofs.Table.{and_more, one_more, tabled_on}
+use Rattle.pro_dir.proofs.Table.{and_more, none_more, one_more, tabled_on}
 use Rattle.pro_dir.proofs.Following.{followed_on, bad_link, read_out}
 use Rattle.pro_dir.proofs.tree.Tree.follow.Goals as goal
 
@@ -68,3 +68,45 @@ pub returns-in_err-read-clause-device : goal.returns-in_err-read-clause-device
 returns-in_err-read-clause-device g c =
     let given = err_from_is_err_and c.from_residual.result c.from_residual.ensures.1 in
     rw (given.1, given.2) (then_reads _ (g.D.Device.state c.args.device.now) (g.D.Device.state c.loop-next.device) (g.D.Device.state c.read.new.device) c.loop-next.invariant.device c.in_err-read.ensures.device)
+
+pub loop-next-init : goal.loop-next-init
+loop-next-init g c =
+    let self = c.args.self.now in
+    record {
+      device = unread (g.D.Device.state c.args.device.now);
+      next = c.next_block-next.ensures;
+      table = c.requires.table;
+      more = none_more self.met.items self.blocks.items;
+      within = λ first. first;
+      key = refl;
+      following = λ _ _ following. following;
+      entries = refl;
+      pending = refl;
+      free = refl;
+    }
+
+pub is_new-requires : goal.is_new-requires
+is_new-requires g c =
+    let now = c.loop-next.invariant in
+    now.table.size ∙ sym (c.places.ensures ∙ now.device.same.places)
+
+pub read-requires-clause-size : goal.read-requires-clause-size
+read-requires-clause-size g c = c.loop-next.invariant.device.same.unit_size ∙ c.requires.size
+
+pub read-requires-clause-met : goal.read-requires-clause-met
+read-requires-clause-met g c = c.loop-next.invariant.table.size ∙ sym c.loop-next.invariant.device.same.places
+
+pub read-requires-clause-block : goal.read-requires-clause-block
+read-requires-clause-block g c = subst (λ n. c.loop-next.next < n) c.places.ensures (c.if-not-is_new.ensures.0 refl).1
+
+pub returns-clause-device : goal.returns-clause-device
+returns-clause-device g c = c.loop-next.invariant.device
+
+pub returns-clause-table : goal.returns-clause-table
+returns-clause-table g c = c.loop-next.invariant.table
+
+pub returns-clause-more : goal.returns-clause-more
+returns-clause-more g c = c.loop-next.invariant.more
+
+pub returns-clause-same : goal.returns-clause-same
+returns-clause-same g c = (c.loop-next.invariant.entries, c.loop-next.invariant.pending, c.loop-next.invariant.free)

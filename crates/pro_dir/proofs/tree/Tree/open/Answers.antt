@@ -1,9 +1,10 @@
-use Rattle.std.proofs.Common.{◌≡◌, ◌<◌, List, ℕ, refl, sym, ◌∙◌, subst, arith, inr}
+use Rattle.std.proofs.Common.{◌≡◌, ◌<◌, List, ℕ, true, false, refl, sym, ◌∙◌, subst, arith, inr}
 use Rattle.std.specs.Prelude.{IsTrue}
-use Rattle.a2_device.specs.Reading.{then_reads}
+use Rattle.a2_device.specs.Reading.{then_reads, unread}
 use Rattle.std.proofs.lemmas.Result.{err_from_is_err_and}
 use Rattle.a2_device.specs.Device.{DeviceState, unit_at}
 use Rattle.a2_device.specs.declared.fault.Fault.{Fault}
+use Rattle.a2_device.specs.declared.fault.Fault.TheVariants.{DirLink, Geometry}
 use Rattle.a2_device.specs.declared.fault.WalkError.TheVariants.{Fault as AFault}
 use Rattle.pro_dir.specs.Entry.{key_of}
 use Rattle.pro_dir.specs.Tree.{CanLink, HasBadLink, HasKind, HasSizes, SubdirectoryFaultAt}
@@ -11,7 +12,7 @@ use Rattle.pro_dir.specs.Walk.{IsTable, IsFollowing, IsReadOut}
 use Rattle.pro_dir.specs.Within.{IsReadWithin}
 use Rattle.pro_dir.proofs.Table.{and_more, one_more, tabled_on}
 use Rattle.pro_dir.proofs.Within.{none_read}
-use Rattle.pro_dir.proofs.Following.{opened, refused_so}
+use Rattle.pro_dir.proofs.Following.{no_key, no_kind, no_sizes, opened, refused_so}
 use Rattle.pro_dir.proofs.tree.Tree.open.Goals as goal
 use Rattle.pro_dir.proofs.tree.Tree.open.Goals.{Else-not-has_sizes}
 
@@ -112,3 +113,76 @@ returns-clause-within g c =
     let rest = follow.within (subst (λ n. IsReadWithin n c.read.new.reading.key c.read.new.reading.free) (sym read.device.same.places) first) in
     subst (λ n. IsReadWithin n c.follow.new.reading.key c.follow.new.reading.free) read.device.same.places
     (subst (λ key. IsReadWithin (g.D.Device.state c.read.new.device).places key c.follow.new.reading.free) (sym follow.key) rest)
+
+pub returns-then-not-is_new : goal.returns-then-not-is_new
+returns-then-not-is_new g c = record {
+  device = unread (g.D.Device.state c.args.device.now);
+  table = tt;
+  more = tt;
+  within = tt;
+  key = tt;
+  found = λ _. tt;
+  refused = λ honest fault told.
+      let start = g.D.Device.state c.args.device.now in
+      let whole = g.met.D.Device.whole c.args.device.now honest in
+      let old = c.args.self.now in
+      let holder = c.args.entry.now.place in
+      let is : DirLink holder ≡ fault = cc in
+      subst (SubdirectoryFaultAt start.store old.blocks.items holder (key_of c.args.entry.now)) is
+      (no_key start.store start.places old.met.items old.blocks.items holder (key_of c.args.entry.now) c.key_block-key.result whole.all c.requires.table c.key_block-key.ensures
+      (λ new. let no_way : false ≡ true = c.if-not-is_new.ensures.1 (new.0, omega (arith, new.1, c.places.ensures), new.2) in cc));
+  same = (refl, refl, refl);
+}
+
+pub returns-then-not-has_kind : goal.returns-then-not-has_kind
+returns-then-not-has_kind g c = record {
+  device = c.in_ok-read.ensures.device;
+  table = tt;
+  more = tt;
+  within = tt;
+  key = tt;
+  found = λ _. tt;
+  refused = λ honest fault told.
+      let start = g.D.Device.state c.args.device.now in
+      let holder = c.args.entry.now.place in
+      let is : DirLink holder ≡ fault = cc in
+      subst (SubdirectoryFaultAt start.store c.args.self.now.blocks.items holder (key_of c.args.entry.now)) is
+      (no_kind start.store c.args.self.now.blocks.items holder (key_of c.args.entry.now) c.key_block-key.result c.read.new.unit c.key_block-key.ensures (c.in_ok-read.ensures.unit honest)
+      (λ kind. let no_way : false ≡ true = c.if-not-has_kind.ensures.1 kind in cc));
+  same = c.in_ok-read.ensures.same;
+}
+
+pub returns-then-not-has_sizes : goal.returns-then-not-has_sizes
+returns-then-not-has_sizes g c = record {
+  device = c.in_ok-read.ensures.device;
+  table = tt;
+  more = tt;
+  within = tt;
+  key = tt;
+  found = λ _. tt;
+  refused = λ honest fault told.
+      let start = g.D.Device.state c.args.device.now in
+      let whole = g.met.D.Device.whole c.args.device.now honest in
+      let new = c.if-not-is_new.ensures.0 refl in
+      let key = c.key_block-key.result in
+      let is : Geometry key ≡ fault = cc in
+      subst (SubdirectoryFaultAt start.store c.args.self.now.blocks.items c.args.entry.now.place (key_of c.args.entry.now)) is
+      (no_sizes start.store c.args.self.now.blocks.items c.args.entry.now.place (key_of c.args.entry.now) key c.read.new.unit c.key_block-key.ensures (c.in_ok-read.ensures.unit honest)
+      (new.0, omega (arith, new.1, c.places.ensures, whole.all)) (c.if-not-has_kind.ensures.0 refl)
+      (λ sizes. let no_way : false ≡ true = c.if-not-has_sizes.ensures.1 sizes in cc));
+  same = c.in_ok-read.ensures.same;
+}
+
+pub returns-in_err-read : goal.returns-in_err-read
+returns-in_err-read g c =
+    let given = err_from_is_err_and c.from_residual.result c.from_residual.ensures.1 in
+    rw (given.1, given.2) (record {
+      device = c.in_err-read.ensures.device;
+      table = tt;
+      more = tt;
+      within = tt;
+      key = tt;
+      found = λ _. tt;
+      refused = λ _ fault is. absurd (c.in_err-read.ensures.no_fault fault is);
+      same = c.in_err-read.ensures.same;
+    })

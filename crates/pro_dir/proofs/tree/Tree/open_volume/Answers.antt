@@ -1,4 +1,4 @@
-use Rattle.std.proofs.Common.{◌≡◌, ◌++◌, ◌+◌, ◌*◌, ◌≤◌, Bool, List, [], ℕ, sym, ◌∙◌, ap, subst, arith, Vec, length, replicate, false}
+use Rattle.std.proofs.Common.{◌≡◌, ◌++◌, ◌+◌, ◌*◌, ◌≤◌, Bool, List, [], ℕ, sym, ◌∙◌, ap, subst, arith, Vec, length, replicate, false, ◌<◌}
 use Rattle.std.specs.Prelude.{All, IfSome, map, reverse}
 use Rattle.std.proofs.lemmas.List.{length-replicate}
 use Rattle.std.proofs.lemmas.List.Elements.{All-nil}
@@ -10,12 +10,13 @@ use Rattle.pro_dir.specs.declared.entry.Entry.{Entry}
 use Rattle.pro_dir.specs.declared.reading.FreeSlot.{FreeSlot}
 use Rattle.pro_dir.specs.Tree.{HasBadLink, HasKind, HasSizes}
 use Rattle.pro_dir.specs.declared.waiting.Waiting.{Waiting}
-use Rattle.pro_dir.specs.Walk.{IsReadOut, kept_slots, whole_block, work}
+use Rattle.pro_dir.specs.Walk.{IsReadOut, kept_slots, whole_block, work, IsTable}
 use Rattle.pro_dir.specs.Within.{IsFreeWithin, IsInSlot, IsKeptWithin, IsReadWithin, IsWaitingWithin}
 use Rattle.pro_dir.proofs.Within.{blocks_within, first_work, kept_within, none_read}
 use Rattle.pro_dir.proofs.Table.{and_more, one_more, tabled_none, tabled_on, unmet_none}
 use Rattle.pro_dir.proofs.Following.{volume_opened, refused_so}
 use Rattle.pro_dir.proofs.Listing.{volume_listed}
+use Rattle.std.proofs.lemmas.Result.{err_from_is_err_and}
 use Rattle.pro_dir.proofs.tree.Tree.open_volume.Goals as goal
 
 pub follow-requires-clause-table : goal.follow-requires-clause-table
@@ -124,3 +125,28 @@ returns-clause-kept g c =
     let slot = subst (λ key. IfSome reading.free (IsFreeWithin places key)) (sym follow.key) (follow.within first).free in
     kept_within places reading.key c.follow.new.self.free.items c.wait.new.self.free.items reading.free c.in_ok-wait.ensures.free slot
     (subst (All (IsKeptWithin places)) (sym free) (All-nil (IsKeptWithin places)))
+
+marks_fit : (places told : ℕ) (met : List Bool) → met ≡ replicate told false → told ≡ places → 2 < places → 2 < length met
+marks_fit places told met is all many = omega (arith, ap length is, length-replicate {A = Bool})
+
+pub take-requires : goal.take-requires
+take-requires g c =
+    marks_fit (g.D.Device.state c.args.device.now).places c.places.result c.in_ok-tree.tree.met.items c.in_ok-tree.ensures.met c.places.ensures c.requires.places
+
+pub follow-requires-clause-size : goal.follow-requires-clause-size
+follow-requires-clause-size g c = c.requires.size
+
+pub returns-in_err-follow-clause-device : goal.returns-in_err-follow-clause-device
+returns-in_err-follow-clause-device g c =
+    let given = err_from_is_err_and c.from_residual-in_err-follow.result c.from_residual-in_err-follow.ensures.1 in
+    rw (given.1, given.2) c.in_err-follow.ensures.device
+
+pub returns-clause-device : goal.returns-clause-device
+returns-clause-device g c = c.in_ok-follow.ensures.device
+
+pub returns-clause-table : goal.returns-clause-table
+returns-clause-table g c =
+    let places = (g.D.Device.state c.args.device.now).places in
+    let new = c.wait.new.self in
+    subst (λ (v : Vec ℕ _). IsTable places new.met.items v.items) (sym c.in_ok-wait.ensures.same.0)
+    (subst (λ (v : Vec Bool _). IsTable places v.items c.follow.new.self.blocks.items) (sym c.in_ok-wait.ensures.same.1) c.in_ok-follow.ensures.table)

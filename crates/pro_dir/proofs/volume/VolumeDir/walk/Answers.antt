@@ -1,12 +1,14 @@
-use Rattle.std.proofs.Common.{◌≡◌, [], refl, sym, ◌∙◌, subst, true, false, inl, inr, length}
+use Rattle.std.proofs.Common.{◌≡◌, ◌<◌, ℕ, List, [], refl, sym, ◌∙◌, subst, true, false, inl, inr, length, arith}
 use Rattle.std.specs.Prelude.{IsTrue, is_err, All, ◌*◌, ◌≤◌}
 use Rattle.std.proofs.lemmas.Result.{err_from_is_err_and}
 use Rattle.a2_device.specs.Device.{DeviceState, OnlyReads}
 use Rattle.a2_device.specs.declared.fault.Fault.{Fault}
 use Rattle.a2_device.specs.declared.fault.Fault.TheVariants.{Geometry, MapPointer}
-use Rattle.a2_device.specs.declared.fault.WalkError.TheVariants.{Fault as AFault}
+use Rattle.a2_device.specs.declared.fault.WalkError.TheVariants.{Fault as AFault, Memory}
 use Rattle.a2_device.specs.Reading.{then_reads}
 use Rattle.a2_device.proofs.Results.{at_ok}
+use Rattle.pro_dir.specs.declared.entry.Entry.{Entry}
+use Rattle.pro_dir.specs.Parents.{KnowsDirectories}
 use Rattle.pro_dir.specs.Tree.{TreeFaultAt}
 use Rattle.pro_dir.specs.Volume.{Directory, Describes, VolumeFaultAt}
 use Rattle.pro_dir.specs.lemmas.VolumeLaws.{no_directory}
@@ -16,6 +18,61 @@ use Rattle.pro_dir.proofs.Described.{volume_key, has_geometry, no_geometry, bad_
 use Rattle.pro_dir.proofs.Following.{refused_so}
 use Rattle.pro_dir.proofs.Within.{kept_for_within, volume_within}
 use Rattle.pro_dir.proofs.volume.VolumeDir.walk.Goals as goal
+
+some_places : (places same : ℕ) → same ≡ places → 16 ≤ places → 2 < same
+some_places places same is many = omega arith
+
+few_entries : (places told entries : ℕ) → told ≡ places → told < 65536 → entries ≤ 14 * places → entries < 4294967296
+few_entries places told entries is low few = omega arith
+
+pub walk-requires-clause-size : goal.walk-requires-clause-size
+walk-requires-clause-size g c = c.read.ensures.device.same.unit_size ∙ c.requires.unit
+
+pub walk-requires-clause-places : goal.walk-requires-clause-places
+walk-requires-clause-places g c =
+    some_places (g.D.Device.state c.args.device.now).places (g.D.Device.state c.read.new.self).places c.read.ensures.device.same.places c.requires.places
+
+pub has_map-requires-clause-table : goal.has_map-requires-clause-table
+has_map-requires-clause-table g c =
+    subst (λ n. IsTable n c.in_ok-tree.tree.met.items c.in_ok-tree.tree.blocks.items) (sym c.places-places.ensures) c.in_ok-tree.ensures.table
+
+pub directories_of-requires : goal.directories_of-requires
+directories_of-requires g c =
+    few_entries (g.D.Device.state c.read.new.self).places c.places-places.result (length c.as_slice.result.now)
+    c.places-places.ensures (c.if-not-has_geometry.ensures.low refl)
+    (subst (λ (entries : List Entry). length entries ≤ 14 * (g.D.Device.state c.read.new.self).places) (sym c.as_slice.ensures.value) c.in_ok-tree.ensures.few)
+
+pub invariant_of-result : goal.invariant_of-result
+invariant_of-result g c = record {
+  related = subst (λ (entries : List Entry). KnowsDirectories entries c.in_ok-directories.directories.items) c.as_slice.ensures.value c.in_ok-directories.ensures;
+  few = few_entries (g.D.Device.state c.read.new.self).places c.places-places.result (length c.in_ok-tree.tree.entries.items)
+      c.places-places.ensures (c.if-not-has_geometry.ensures.low refl) c.in_ok-tree.ensures.few;
+}
+
+pub returns-then-not-has_map-clause-device : goal.returns-then-not-has_map-clause-device
+returns-then-not-has_map-clause-device g c =
+    let went : is_err c.read.result ≡ false = sym c.is_err.ensures.value ∙ c.if-is_err.false in
+    let first = subst (λ failed. OnlyReads failed (g.D.Device.state c.args.device.now) (g.D.Device.state c.read.new.self)) went c.read.ensures.device in
+    then_reads false (g.D.Device.state c.args.device.now) (g.D.Device.state c.read.new.self) (g.D.Device.state c.walk.new.device) first c.in_ok-tree.ensures.device
+
+pub returns-in_err-directories-clause-device : goal.returns-in_err-directories-clause-device
+returns-in_err-directories-clause-device g c =
+    let went : is_err c.read.result ≡ false = sym c.is_err.ensures.value ∙ c.if-is_err.false in
+    let first = subst (λ failed. OnlyReads failed (g.D.Device.state c.args.device.now) (g.D.Device.state c.read.new.self)) went c.read.ensures.device in
+    let given = err_from_is_err_and c.from_residual-in_err-directories.result c.from_residual-in_err-directories.ensures.1 in
+    rw (given.1, given.2) (then_reads false (g.D.Device.state c.args.device.now) (g.D.Device.state c.read.new.self) (g.D.Device.state c.walk.new.device) first c.in_ok-tree.ensures.device)
+
+pub returns-in_err-directories-clause-refused : goal.returns-in_err-directories-clause-refused
+returns-in_err-directories-clause-refused g c = λ honest.
+    let store = (g.D.Device.state c.args.device.now).store in
+    refused_so c.from_residual-in_err-directories.result Memory (λ e. (fault : Fault) → e ≡ AFault fault → VolumeFaultAt store fault × ((directory : Directory) → ¬ Describes store directory))
+    c.from_residual-in_err-directories.ensures.1 (λ fault is. absurd (cc))
+
+pub returns-clause-device : goal.returns-clause-device
+returns-clause-device g c =
+    let went : is_err c.read.result ≡ false = sym c.is_err.ensures.value ∙ c.if-is_err.false in
+    let first = subst (λ failed. OnlyReads failed (g.D.Device.state c.args.device.now) (g.D.Device.state c.read.new.self)) went c.read.ensures.device in
+    then_reads false (g.D.Device.state c.args.device.now) (g.D.Device.state c.read.new.self) (g.D.Device.state c.walk.new.device) first c.in_ok-tree.ensures.device
 
 pub returns-in_err-tree-clause-refused : goal.returns-in_err-tree-clause-refused
 returns-in_err-tree-clause-refused g c = λ honest.

@@ -1,4 +1,4 @@
-use Rattle.std.proofs.Common.{rules, ◌≡◌, ◌<◌, ◌∙◌, sym, ap, subst, length, All, ℕ}
+use Rattle.std.proofs.Common.{rules, refl, ◌≡◌, ◌<◌, ◌∙◌, sym, ap, subst, length, All, ℕ}
 use Rattle.std.proofs.lemmas.List.{with_items_is}
 use Rattle.std.specs.Vec.{with_items}
 use Rattle.vol_laws.specs.Marked.{with_marks}
@@ -8,7 +8,7 @@ use Rattle.vol_mover.specs.Agenda.{next_marks}
 use Rattle.vol_mover.specs.Tasks.{Map}
 use Rattle.vol_mover.proofs.Agendas.{map_first}
 use Rattle.vol_mover.proofs.NextWrites.{first_fits, map_next}
-use Rattle.vol_mover.proofs.Preparing.{prepared, marks_inside}
+use Rattle.vol_mover.proofs.Preparing.{prepared, marks_inside, read_failed, unprepared}
 use Rattle.vol_mover.proofs.session.Session.prepare_map.Goals as goal
 
 pub make_marks-requires-clause-places : goal.make_marks-requires-clause-places
@@ -19,6 +19,18 @@ make_marks-requires-clause-places g c =
     subst (λ marks. (places : ℕ) × (g.F.Format.meaning self.format.now).Takes places × All (λ (mark : Mark). mark.place < places) marks) (sym c.marks.ensures)
     (marks_inside (g.F.Format.meaning self.format.now) old c.requires.session.0 (g.met.F.Format.rooted self.format.now self.volume) c.requires.session.1 c.args.at
     (next_marks self.agenda) first.0 first.1)
+
+pub returns-in_err-read_unit-clause-prepares : goal.returns-in_err-read_unit-clause-prepares
+returns-in_err-read_unit-clause-prepares g c =
+    let self = c.args.self.now in
+    let unit = c.read_unit.new.unit in
+    let size : length unit ≡ self.unit.len = search rules in
+    let unit_is : (with_items self.unit unit).items ≡ unit = with_items_is self.unit unit size in
+    unprepared (g.F.Format.meaning self.format.now) (present g.D.Device.state g.F.Format.directory self) (g.D.Device.state c.read_unit.new.device)
+    (with_items self.unit unit).items (ap length unit_is ∙ size ∙ self.unit.ok.0) c.from_residual.result
+    (read_failed c.read_unit.result c.from_residual.result c.in_err-read_unit.field-0.0 c.from_residual.ensures.1 c.in_err-read_unit.was
+    (c.in_err-read_unit.was ∙ c.in_err-read_unit.ensures.error refl))
+    c.in_err-read_unit.ensures.device
 
 pub returns-clause-prepares : goal.returns-clause-prepares
 returns-clause-prepares g c =

@@ -1,4 +1,4 @@
-use Rattle.std.proofs.Common.{rules, ◌≡◌, ◌<◌, ◌∙◌, sym, ap, subst, length}
+use Rattle.std.proofs.Common.{rules, refl, ◌≡◌, ◌<◌, ◌∙◌, sym, ap, subst, length}
 use Rattle.std.proofs.lemmas.List.{with_items_is}
 use Rattle.std.specs.Vec.{with_items}
 use Rattle.vol_format.specs.Holding.{with_slot}
@@ -6,7 +6,7 @@ use Rattle.vol_mover.specs.Shown.{present}
 use Rattle.vol_mover.proofs.Agendas.{pointer_first}
 use Rattle.vol_mover.proofs.NextWrites.{FindsHolder, pointer_next}
 use Rattle.vol_mover.proofs.Numbers.{can_name}
-use Rattle.vol_mover.proofs.Preparing.{prepared}
+use Rattle.vol_mover.proofs.Preparing.{prepared, read_failed, unprepared}
 use Rattle.vol_mover.proofs.session.Session.prepare_pointer.Goals as goal
 
 pub put_pointer-requires-clause-place : goal.put_pointer-requires-clause-place
@@ -16,6 +16,18 @@ put_pointer-requires-clause-place g c =
     let opening = g.F.Format.directory format self.volume in
     let inside : c.args.step.to < length opening.available = search rules in
     (opening.places, can_name (g.F.Format.meaning format) opening (g.met.F.Format.rooted format self.volume) c.args.step.to c.place-to.result inside c.place-to.ensures.is)
+
+pub returns-in_err-read_unit-clause-prepares : goal.returns-in_err-read_unit-clause-prepares
+returns-in_err-read_unit-clause-prepares g c =
+    let self = c.args.self.now in
+    let unit = c.read_unit.new.unit in
+    let size : length unit ≡ self.unit.len = search rules in
+    let unit_is : (with_items self.unit unit).items ≡ unit = with_items_is self.unit unit size in
+    unprepared (g.F.Format.meaning self.format.now) (present g.D.Device.state g.F.Format.directory self) (g.D.Device.state c.read_unit.new.device)
+    (with_items self.unit unit).items (ap length unit_is ∙ size ∙ self.unit.ok.0) c.from_residual.result
+    (read_failed c.read_unit.result c.from_residual.result c.in_err-read_unit.field-0.0 c.from_residual.ensures.1 c.in_err-read_unit.was
+    (c.in_err-read_unit.was ∙ c.in_err-read_unit.ensures.error refl))
+    c.in_err-read_unit.ensures.device
 
 pub returns-clause-prepares : goal.returns-clause-prepares
 returns-clause-prepares g c =

@@ -1,11 +1,20 @@
-use Rattle.std.proofs.Common.{◌≡◌, ◌∙◌, ◌+◌, ◌++◌, ◌∷◌, [], ap, subst, arith, length, Ok}
+use Rattle.std.proofs.Common.{refl, ◌≡◌, ◌∙◌, ◌+◌, ◌++◌, ◌∷◌, [], ap, subst, arith, length, Ok}
 use Rattle.std.proofs.lemmas.List.{length-append}
 use Rattle.vol_mover.specs.Shown.{present}
 use Rattle.vol_mover.specs.Steps.{IsStep}
 use Rattle.vol_mover.specs.declared.progress.Progress.TheVariants.{Wrote}
 use Rattle.vol_mover.proofs.Fields.{with_work, format_of}
-use Rattle.vol_mover.proofs.Running.{run_on}
+use Rattle.vol_mover.proofs.Running.{nothing_run, run_on}
 use Rattle.vol_mover.proofs.session.Session.run.Goals as goal
+
+pub loop-made-init : goal.loop-made-init
+loop-made-init g c =
+    let self = c.args.self.now in
+    record {
+      only = refl;
+      run = ([], nothing_run (g.F.Format.meaning self.format.now) (g.met.F.Format.readable self.format.now) (present g.D.Device.state g.F.Format.directory self), refl);
+      within = omega arith;
+    }
 
 pub loop-made-preserved : goal.loop-made-preserved
 loop-made-preserved g c =
