@@ -32,10 +32,18 @@ use vol_format::Format;
 
 /// A volume of which many files are read. Where the checker accepts it, each file is read by its own run of the parts
 /// of all files, else by a walk of its own, on tables that are kept.
-#[derive(Drop)]
 pub struct VolumeFiles<A: Allocator = Global> {
     pub(crate) parts: Option<Vec<Part, A>>,
     pub(crate) walker: Option<FileWalker<A>>,
+}
+
+impl<A: Allocator> Drop for VolumeFiles<A> {
+    fn drop(self) {
+        let VolumeFiles {
+            parts: _,
+            walker: _,
+        } = self;
+    }
 }
 
 // The parts of the file of an entry, out of those of all files in their order.
