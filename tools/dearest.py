@@ -1,72 +1,68 @@
 #!/usr/bin/env python3
-"""Checks the crate in the current folder, and lists its functions by the processor seconds that their proofs took, the dearest first.
+"""Lists what the last check of a crate spent its time on, by function, the dearest first.
 
-dearest.py [WORD..]    the words go to `rt check`, as --only PATH
+dearest.py CRATE    reads crates/CRATE/out/incremental, in which the check has left a file for each thing that it proved, at the time
+                    when that was done; so the time between two files is what the second one took.
 
-What an earlier check kept is not proved again and is not listed: for all functions take out/incremental away first. The first function
-that is told has the seconds of reading on its account, and so has the first of each batch of a large crate.
+The check is to be one of a single job, from nothing:
+
+    cd crates/CRATE && rm -rf out/incremental && rt check --jobs 1
+
+The columns are seconds by the clock: in all; of types, borrows and what a function owns at its exits (`Lts`); of the goals that the
+tactics proved (`Proof`); of the answers that a person wrote (`Answers`). Answers to dear goals make `Proof` cheaper, and nothing but
+other code makes `Lts` cheaper.
 """
 
+import collections
 import os
 import re
-import subprocess
 import sys
 
-TICK = os.sysconf("SC_CLK_TCK")
+TOP = os.path.dirname(os.path.dirname(os.path.abspath(__file__)))
+KINDS = ("Lts", "Proof", "Answers")
 LEAST = 1.0
 
 
-def fields_of(process):
-    with open(f"/proc/{process}/stat", encoding="utf-8", errors="replace") as file:
-        return file.read().rpartition(")")[2].split()
+def files_of(folder):
+    """The files that a check has left, by the time when each was done."""
+    paths = [f"{at}/{name}" for at, _, names in os.walk(folder) for name in names if name.endswith(".oantt")]
+    return sorted((os.stat(path).st_mtime_ns / 1e9, path) for path in paths)
 
 
-def processes():
-    """Of each process who started it, and the seconds that it and what it has waited for have taken."""
-    found = {}
-    for process in filter(str.isdigit, os.listdir("/proc")):
-        try:
-            fields = fields_of(process)
-        except OSError:
-            continue
-        found[process] = fields[1], sum(map(int, fields[11:15])) / TICK
-    return found
+def module_of(crate, path):
+    """The function, or the file of definitions or of lemmas, that a file of the check is of, and its kind."""
+    name = os.path.basename(path)[: -len(".oantt")]
+    name = re.sub(r"\.decls$", "", re.sub(rf"^Rattle[-.]{crate}[-.](proofs\.|specs\.contracts\.)?", "", name))
+    of_what, _, kind = name.rpartition(".")
+    return (of_what, kind) if kind in KINDS else (name, "")
 
 
-def taken_by(ancestor):
-    """The seconds that a process and all below it have taken."""
-    found = processes()
-    below = {ancestor}
-    while True:
-        more = {process for process, (parent, _) in found.items() if parent in below} - below
-        if not more:
-            return sum(found[process][1] for process in below if process in found)
-        below |= more
+def seconds_of(crate):
+    """The seconds that each function took, by kind."""
+    taken = collections.defaultdict(collections.Counter)
+    files = files_of(f"{TOP}/crates/{crate}/out/incremental")
+    for (before, _), (at, path) in zip(files, files[1:]):
+        of_what, kind = module_of(crate, path)
+        taken[of_what][kind] += at - before
+    return taken
 
 
-def check(words):
-    """Runs the check, prints what it says, and returns its status and the seconds of each function."""
-    command = ["rt", "check", "--jobs", "1", *words]
-    seconds, before = [], 0.0
-    with subprocess.Popen(command, stdout=subprocess.PIPE, stderr=subprocess.STDOUT, text=True, errors="replace") as started:
-        for line in started.stdout:
-            found = re.match(r"checked (\S+), \d+ of \d+", line)
-            if not found:
-                print(line, end="", flush=True)
-                continue
-            now = taken_by(str(started.pid))
-            seconds.append((now - before, found[1]))
-            before = now
-    return started.returncode, seconds
+def line_of(kinds, of_what):
+    return f"{sum(kinds.values()):7.1f}  {'  '.join(f'{kinds[kind]:7.1f}' for kind in KINDS)}  {of_what}"
 
 
-def main(words):
-    status, seconds = check(words)
-    for taken, name in sorted(seconds, reverse=True):
-        if taken >= LEAST:
-            print(f"{taken:7.1f}  {name}")
-    return status
+def main(crate):
+    taken = seconds_of(crate)
+    if not taken:
+        sys.exit(f"no check has left anything in crates/{crate}/out/incremental")
+    print(f"    all  {'  '.join(f'{kind:>7}' for kind in KINDS)}")
+    print(line_of(sum(taken.values(), collections.Counter()), "the whole crate"))
+    for of_what, kinds in sorted(taken.items(), key=lambda it: -sum(it[1].values())):
+        if sum(kinds.values()) >= LEAST:
+            print(line_of(kinds, of_what))
 
 
 if __name__ == "__main__":
-    sys.exit(main(sys.argv[1:]))
+    if len(sys.argv) != 2:
+        sys.exit(__doc__)
+    main(sys.argv[1])

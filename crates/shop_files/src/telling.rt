@@ -334,14 +334,24 @@ fn tell_orders(rt: &HostRuntime, found: &Found, told: &[u8]) -> io::Result<()> {
     )
 }
 
+// Tells what each of the words means that begin a line of a refusal.
+fn tell_refusals(rt: &HostRuntime, found: &Found, told: &[u8]) -> io::Result<()> {
+    tell_rows(rt, found, &REFUSALS, told)
+}
+
+// Tells what each of the words means that begin a line of what was found.
+fn tell_findings(rt: &HostRuntime, found: &Found, told: &[u8]) -> io::Result<()> {
+    tell_rows(rt, found, &FINDINGS, told)
+}
+
 // Tells on standard error which image was read, and what each of the words means that begin a line of what was told.
 fn tell(rt: &HostRuntime, found: &Found, told: &[u8]) -> io::Result<()> {
     tell_image(rt, found)?;
     tell_fault(rt, found)?;
     tell_unwritten(rt, found)?;
     tell_orders(rt, found, told)?;
-    tell_rows(rt, found, &REFUSALS, told)?;
-    tell_rows(rt, found, &FINDINGS, told)
+    tell_refusals(rt, found, told)?;
+    tell_findings(rt, found, told)
 }
 
 /// Explains on standard error what was told. Where that can't be written, nothing else changes.
