@@ -8,13 +8,24 @@ use vol_layout::Layout;
 
 /// An accepted volume: its header, directory and map, how many files it has, their parts in order, where these stand
 /// among the available places, and which of these places are lost.
-#[derive(Drop)]
 pub struct Checked<V: Drop, A: Allocator = Global> {
     pub(crate) volume: V,
     pub(crate) files: u32,
     pub(crate) parts: Vec<Part, A>,
     pub(crate) layout: Layout<A>,
     pub(crate) lost: Vec<u32, A>,
+}
+
+impl<V: Drop, A: Allocator> Drop for Checked<V, A> {
+    fn drop(self) {
+        let Checked {
+            volume: _,
+            files: _,
+            parts: _,
+            layout: _,
+            lost: _,
+        } = self;
+    }
 }
 
 impl<V: Drop, A: Allocator> Checked<V, A> {
@@ -69,10 +80,10 @@ impl<V: Drop, A: Allocator> Checked<V, A> {
     {
         let Checked {
             volume,
+            files: _,
             parts,
             layout,
             lost,
-            ..
         } = self;
         (volume, parts, layout, lost)
     }
