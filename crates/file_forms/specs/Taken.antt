@@ -12,17 +12,17 @@ use Rattle.file_forms.specs.declared.form.GivenForm.{GivenForm}
 use Rattle.file_forms.specs.declared.form.GivenForm.TheVariants.{Text, Applesoft, Single}
 use Rattle.file_forms.specs.declared.taking.TakenFile.{TakenFile}
 
--- a new file: its type and aux type of ProDOS, and its bytes
+-- a new file: its type and aux type of ProDOS, where what is given says them, and its bytes
 pub record TakenView : Type 0 where
-  pub file_type : ℕ
-  pub aux_type : ℕ
+  pub file_type : Option ℕ
+  pub aux_type : Option ℕ
   pub bytes : List ℕ
 
 abbrev pub taken_view : {A : Type 0} → TakenFile A → TakenView
 taken_view file = record { file_type = file.file_type; aux_type = file.aux_type; bytes = file.bytes.items }
 
 -- a file with this type and aux type
-abbrev pub taken : ℕ → ℕ → List ℕ → TakenView
+abbrev pub taken : Option ℕ → Option ℕ → List ℕ → TakenView
 taken file_type aux_type bytes = record { file_type = file_type; aux_type = aux_type; bytes = bytes }
 
 -- in DOS 3.3 a $00 would end a text
@@ -33,18 +33,18 @@ may_be_zero Block = true
 abbrev pub text_form : PlaceForm → HighBit → TextForm
 text_form system high = record { high = high; zeros = may_be_zero system }
 
--- a file whose AppleSingle file says nothing of its type is a binary file
+-- an AppleSingle file may say nothing of the type
 abbrev pub of_single : Option FileInfo → List ℕ → TakenView
-of_single (Some info) fork = taken info.file_type info.aux_type fork
-of_single None fork = taken 0x06 0 fork
+of_single (Some info) fork = taken (Some info.file_type) (Some info.aux_type) fork
+of_single None fork = taken None None fork
 
--- The file that is given so: a text ($04), a program in Applesoft BASIC ($FC, for $0801), or what an AppleSingle file
--- has.
+-- The file that is given so: a text ($04), of which no aux type is said; a program in Applesoft BASIC ($FC, for $0801);
+-- or what an AppleSingle file has.
 abbrev pub IsTakenFrom : PlaceForm → GivenForm → List ℕ → TakenView → Type 0
 IsTakenFrom system (Text high) given file =
-    (bytes : List ℕ) × texts.IsTaken (text_form system high) given bytes × (file ≡ taken 0x04 0 bytes)
+    (bytes : List ℕ) × texts.IsTaken (text_form system high) given bytes × (file ≡ taken (Some 0x04) None bytes)
 IsTakenFrom system Applesoft given file =
-    (bytes : List ℕ) × programs.IsTokenized given bytes × (file ≡ taken 0xfc 0x0801 bytes)
+    (bytes : List ℕ) × programs.IsTokenized given bytes × (file ≡ taken (Some 0xfc) (Some 0x0801) bytes)
 IsTakenFrom system Single given file =
     (info : Option FileInfo) × (fork : List ℕ) × IsSingle given info fork × (file ≡ of_single info fork)
 

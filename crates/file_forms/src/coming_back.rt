@@ -4,12 +4,15 @@ ghost use Rattle.apple_text.specs.Taken.{IsAllowed};
 ghost use Rattle.applesoft.specs.Program.{IsListed};
 ghost use Rattle.applesoft.specs.Tokens.{IsTokenized};
 ghost use Rattle.file_forms.specs.Found.{file_view};
-ghost use Rattle.file_forms.specs.Readable.{AreZerosBehind, IsReadable, IsTextTakenBack, high_of};
+ghost use Rattle.file_forms.specs.Readable.{AreZerosBehind, IsReadable, IsTakenBack, IsTextTakenBack, high_of};
 ghost use Rattle.file_forms.specs.Shown.{IsInForm};
 
 use crate::form::FileForm;
 use crate::found::FoundFile;
-use apple_text::{HighBit, text_of, what_was_shown_is_taken_back};
+use apple_text::{
+    HighBit, TakeError, TextForm, a_text_is_taken_in_one_way, bytes_of, text_of,
+    what_was_shown_is_taken_back,
+};
 use applesoft::{
     ListError, TokenError, a_program_has_one_listing, a_text_is_one_program, list, tokens,
 };
@@ -119,6 +122,51 @@ fn readable_program<A: Allocator + Copy>(
         }
         Err(ListError::Form) => Ok(None),
         Err(ListError::Memory) => Err(AllocError),
+    }
+}
+
+// Whether a text is taken for the bytes of the file's text.
+fn is_text_of<A: Allocator>(
+    alloc: A,
+    file: &FoundFile<'_>,
+    given: &[u8],
+) -> Result<bool, AllocError>
+    ensures { IfOk result (λ is. IsTrue is ↔ IsTextTakenBack (file_view file.now) given.now) }
+{
+    a_text_is_taken_in_one_way();
+    let bytes = file.text();
+    if !are_zeros_behind(file, bytes) {
+        return Ok(false);
+    }
+    let form = TextForm {
+        high: high_of(bytes),
+        zeros: true,
+    };
+    match bytes_of(alloc, form, given) {
+        Ok(taken) => Ok(taken.as_slice() == bytes),
+        Err(TakeError::BadLine(_)) => Ok(false),
+        Err(TakeError::Memory) => Err(AllocError),
+    }
+}
+
+/// Whether just the bytes of a file are taken from what is given as a form of it: as a text, with the highest bit that
+/// the first byte of the file's text has, or as the listing of a program in Applesoft BASIC. From no other form are
+/// bytes taken back.
+///
+/// # Errors
+/// Want of memory alone.
+pub fn is_taken_back<A: Allocator + Copy>(
+    alloc: A,
+    form: FileForm,
+    file: &FoundFile<'_>,
+    given: &[u8],
+) -> Result<bool, AllocError>
+    ensures { IfOk result (λ is. IsTrue is ↔ IsTakenBack form (file_view file.now) given.now) }
+{
+    match form {
+        FileForm::Text => is_text_of(alloc, file, given),
+        FileForm::Applesoft => is_program(alloc, given, file.body),
+        FileForm::Integer | FileForm::Single => Ok(false),
     }
 }
 

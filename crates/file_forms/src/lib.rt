@@ -7,7 +7,7 @@
 //! bytes, type and aux type a new file gets that is given as a text, a listing or an AppleSingle file.
 //!
 //! `readable` is the form of a file of text or of a program in Applesoft, where that form is taken for just the bytes
-//! of the file (`specs/Readable.antt`).
+//! of the file (`specs/Readable.antt`), and `is_taken_back` says of any text whether it is taken so.
 #![tactic(auto)]
 
 mod coming_back;
@@ -17,7 +17,7 @@ mod found;
 mod showing;
 mod taking;
 
-pub use coming_back::readable;
+pub use coming_back::{is_taken_back, readable};
 pub use error::{FormError, TakingError};
 pub use form::{FileForm, GivenForm};
 pub use found::FoundFile;

@@ -9,11 +9,11 @@ use applesoft::{TokenError, tokens};
 use std::alloc::{Allocator, Global};
 use vol_layout::PlaceForm;
 
-/// A new file: its type and aux type of ProDOS, and its bytes.
+/// A new file: its type and aux type of ProDOS, where what is given says them, and its bytes.
 #[derive(Drop)]
 pub struct TakenFile<A: Allocator = Global> {
-    pub file_type: u8,
-    pub aux_type: u16,
+    pub file_type: Option<u8>,
+    pub aux_type: Option<u16>,
     pub bytes: Vec<u8, A>,
 }
 
@@ -47,8 +47,8 @@ fn taken_text<A: Allocator>(
     };
     let bytes = bytes_of(alloc, form, given)?;
     Ok(TakenFile {
-        file_type: 0x04,
-        aux_type: 0,
+        file_type: Some(0x04),
+        aux_type: None,
         bytes,
     })
 }
@@ -68,8 +68,8 @@ fn taken_program<A: Allocator + Copy>(
 {
     match tokens(alloc, given) {
         Ok(bytes) => Ok(TakenFile {
-            file_type: 0xfc,
-            aux_type: 0x0801,
+            file_type: Some(0xfc),
+            aux_type: Some(0x0801),
             bytes,
         }),
         Err(TokenError::BadLine(line)) => Err(TakingError::BadLine(line)),
@@ -91,8 +91,8 @@ fn taken_single<A: Allocator>(
         return Err(TakingError::Single);
     };
     let (file_type, aux_type) = match single.info {
-        Some(info) => (info.file_type, info.aux_type),
-        None => (0x06, 0),
+        Some(info) => (Some(info.file_type), Some(info.aux_type)),
+        None => (None, None),
     };
     Ok(TakenFile {
         file_type,

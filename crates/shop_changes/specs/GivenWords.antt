@@ -40,6 +40,11 @@ abbrev pub usual_kind : FileSystem → ℕ
 usual_kind Dos = 0x00
 usual_kind Prodos = 0x06
 
+-- the type of texts
+abbrev pub text_kind : FileSystem → ℕ
+text_kind Dos = 0x00
+text_kind Prodos = 0x04
+
 -- the type of DOS 3.3 for one of ProDOS: those that the letters name
 abbrev pub dos_kind_for : ℕ → Option ℕ
 dos_kind_for file_type =

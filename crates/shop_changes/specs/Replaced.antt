@@ -1,5 +1,6 @@
 -- A file that takes the place of another one: what is saved, once the other one is deleted.
-use Rattle.std.specs.Prelude.{◌≡◌, ◌⊎◌, ℕ, true, false, List, Option, Some, None, MatchOption, unwrap_or}
+use Rattle.std.specs.Prelude.{◌≡◌, ◌⊎◌, ℕ, ◌==◌, ◌&&◌, not, true, false, List, Option, Some, None, IsSome, MatchOption, option_and_then, unwrap_or, if◌then◌else◌}
+use Rattle.std.specs.Option.{option_or}
 use Rattle.std.specs.declared.alloc.Global.{Global}
 use Rattle.a2_device.specs.Device.{DeviceState, OnlyReads}
 use Rattle.vol_format.specs.Accepted.{IsAccepted, IsVolume}
@@ -13,6 +14,7 @@ use Rattle.edit_formats.specs.Writes.{StopsIn, device_after}
 use Rattle.edit_formats.specs.declared.error.EditError.{EditError}
 use Rattle.edit_formats.specs.declared.error.EditError.TheVariants.{Check, Locked, Device, Memory}
 use Rattle.file_cmds.specs.Text.{IsWholeTextOf}
+use Rattle.file_forms.specs.Taken.{IsTakenFrom, TakenView}
 use Rattle.file_forms.specs.declared.form.GivenForm.{GivenForm}
 use Rattle.file_formats.specs.DosFiles.{number_at}
 use Rattle.file_formats.specs.FileNames.{GivenPath}
@@ -20,25 +22,37 @@ use Rattle.file_formats.specs.Files.{FileMeaning, IsFirstNamed}
 use Rattle.file_formats.specs.declared.listing.ListEntry.{ListEntry}
 use Rattle.vol_layout.specs.declared.form.PlaceForm.{PlaceForm}
 use Rattle.volume_compare.specs.Contents.{is_binary}
+use Rattle.shop_jobs.specs.declared.job.FileSystem.{FileSystem}
 use Rattle.shop_replies.specs.Reply.{refused}
 use Rattle.shop_replies.specs.Volume.{form_of}
 use Rattle.shop_replies.specs.declared.refusal.Refusal.TheVariants as refusals
 use Rattle.shop_replies.specs.declared.reply.Reply.{Reply}
 use Rattle.shop_changes.specs.EditRules.{EditRules}
 use Rattle.shop_changes.specs.GivenFile.{GivenView, IsTooLongForHead}
-use Rattle.shop_changes.specs.GivenWords.{usual_kind}
+use Rattle.shop_changes.specs.GivenWords.{kind_for, text_kind, usual_kind}
 use Rattle.shop_changes.specs.Refusals.{reply_to_edit_refusal}
-use Rattle.shop_changes.specs.SaidFile.{IsGivenIn, SaidView, given_with}
+use Rattle.shop_changes.specs.SaidFile.{SaidView, given_with, kind_of}
 use Rattle.shop_changes.specs.declared.plain_file.PlainFile.{PlainFile}
 use Rattle.shop_changes.specs.declared.replaced_file.ReplacedFile.{ReplacedFile}
 
 -- ---- the bytes as they are
 
--- a file as it is said, once it is taken from the form in which it is given
-abbrev pub IsTakenSaid : SaidView → GivenForm → SaidView → Type 0
-IsTakenSaid said form plain =
-    (given : GivenView) × IsGivenIn said form given
-    × (plain ≡ record said { kind = Some given.kind; aux = Some given.aux; form = None; bytes = given.bytes })
+-- the type that is said, or that of the file system for what was taken, where that has one
+abbrev pub kind_left : SaidView → TakenView → Option ℕ
+kind_left said file = option_or said.kind (option_and_then (kind_for said.file_system) file.file_type)
+
+-- a file as it is said, once it is taken from the form in which it is given: the words come first, then what the form
+-- says, and what neither says is left open
+pub record IsTakenSaid (said : SaidView) (form : GivenForm) (plain : SaidView) : Type 0 where
+  pub file : TakenView
+  pub taken : IsTakenFrom (form_of said.file_system) form said.bytes file
+  pub kind : IsSome (kind_of said file)
+  pub is : plain ≡ record said {
+    kind = kind_left said file;
+    aux = option_or said.aux file.aux_type;
+    form = None;
+    bytes = file.bytes;
+  }
 
 -- that of a file that is given in a form or as it is
 abbrev pub IsPlainSaid : SaidView → Option GivenForm → SaidView → Type 0
@@ -49,8 +63,8 @@ IsPlainSaid said (Some form) plain = IsTakenSaid said form plain
 abbrev pub plain_view : PlainFile → SaidView
 plain_view plain = record {
   file_system = plain.file_system;
-  kind = Some plain.kind;
-  aux = Some plain.aux;
+  kind = plain.kind;
+  aux = plain.aux;
   date = plain.date;
   form = None;
   bytes = plain.bytes.items;
@@ -95,11 +109,17 @@ IsReplaced form format files store path said old =
 
 -- ---- what is saved
 
+-- the auxiliary type that stays: that of the old file, but of a file that becomes a text 0, as a text has no address
+abbrev pub aux_kept : FileSystem → ℕ → ReplacedFile → ℕ
+aux_kept file_system kind old =
+    if kind == text_kind file_system && not (old.kind == text_kind file_system) then 0 else old.aux
+
 -- the file that is given in the place of another one: what the words leave out is that file's, or the usual where there
 -- is none
 abbrev pub given_over : SaidView → Option ReplacedFile → GivenView
 given_over said None = given_with said (unwrap_or said.kind (usual_kind said.file_system)) 0 said.bytes
-given_over said (Some old) = given_with said (unwrap_or said.kind old.kind) old.aux said.bytes
+given_over said (Some old) = given_with said (unwrap_or said.kind old.kind)
+    (aux_kept said.file_system (unwrap_or said.kind old.kind) old) said.bytes
 
 -- the first file with a path is deleted, by the writes of that edit
 pub record IsWithout (path : List ℕ) (files : FileMeaning) (rules : EditRules) (format : Meaning)

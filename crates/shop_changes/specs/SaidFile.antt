@@ -52,16 +52,16 @@ given_with said kind aux bytes = record {
   bytes = bytes;
 }
 
--- the type that is said, or that of the file system for what was taken
+-- the type that is said, or that of the file system for what was taken: where that has none, a binary file's ($06)
 abbrev pub kind_of : SaidView → TakenView → Option ℕ
-kind_of said file = option_or said.kind (kind_for said.file_system file.file_type)
+kind_of said file = option_or said.kind (kind_for said.file_system (unwrap_or file.file_type 0x06))
 
 -- what is given in a form is such a file
 pub record IsGivenIn (said : SaidView) (form : GivenForm) (given : GivenView) : Type 0 where
   pub file : TakenView
   pub taken : IsTakenFrom (form_of said.file_system) form said.bytes file
   pub kind : kind_of said file ≡ Some given.kind
-  pub is : given ≡ given_with said given.kind file.aux_type file.bytes
+  pub is : given ≡ given_with said given.kind (unwrap_or file.aux_type 0) file.bytes
 
 -- the file that is given: the bytes as they are, or what is taken from the form
 abbrev pub IsGivenBy : SaidView → Option GivenForm → GivenView → Type 0

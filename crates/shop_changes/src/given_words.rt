@@ -9,6 +9,7 @@ ghost use Rattle.shop_changes.specs.GivenWords.{
   kind_for,
   kind_named,
   letter_kind,
+  text_kind,
   usual_kind,
 };
 
@@ -70,6 +71,16 @@ pub fn usual_kind(file_system: FileSystem) -> u8
     match file_system {
         FileSystem::Dos => 0x00,
         FileSystem::Prodos => 0x06,
+    }
+}
+
+/// The type of texts: T of DOS 3.3, 04 of ProDOS.
+pub(crate) fn text_kind(file_system: FileSystem) -> u8
+    ensures { result ≡ text_kind file_system }
+{
+    match file_system {
+        FileSystem::Dos => 0x00,
+        FileSystem::Prodos => 0x04,
     }
 }
 

@@ -1,10 +1,12 @@
 // A file that was taken from the form in which it is given.
 ghost use Rattle.std.specs.Prelude.{◌≡◌, IfErr, IfOk, Some};
-ghost use Rattle.shop_changes.specs.Replaced.{IsTakenSaid, plain_view};
+ghost use Rattle.file_forms.specs.Taken.{taken_view};
+ghost use Rattle.shop_changes.specs.Replaced.{IsTakenSaid, kind_left, plain_view};
 ghost use Rattle.shop_changes.specs.SaidFile.{IsNotGivenIn, said_view};
 
+use crate::given_words::kind_for;
 use crate::said_file::{SaidFile, taken_file};
-use file_forms::GivenForm;
+use file_forms::{GivenForm, TakenFile};
 use pro_dir::ProDate;
 use shop_jobs::FileSystem;
 use shop_replies::{Refusal, Reply};
@@ -14,8 +16,10 @@ use std::alloc::Global;
 #[derive(Drop)]
 pub struct PlainFile {
     pub file_system: FileSystem,
-    pub kind: u8,
-    pub aux: u16,
+    /// The type, where the words or the form say one.
+    pub kind: Option<u8>,
+    /// The aux type or the address, where the words or the form say one.
+    pub aux: Option<u16>,
     pub date: ProDate,
     pub bytes: Vec<u8>,
 }
@@ -27,8 +31,8 @@ impl PlainFile {
     {
         SaidFile {
             file_system: self.file_system,
-            kind: Some(self.kind),
-            aux: Some(self.aux),
+            kind: self.kind,
+            aux: self.aux,
             date: self.date,
             form: None,
             bytes: self.bytes.as_slice(),
@@ -36,7 +40,18 @@ impl PlainFile {
     }
 }
 
-/// The file that is given in a form.
+// The type that is said, or that of the file system for what was taken, where that has one.
+fn kind_left(said: SaidFile<'_>, file: &TakenFile) -> Option<u8>
+    ensures { result ≡ kind_left (said_view said.entry) (taken_view file.now) }
+{
+    match (said.kind, file.file_type) {
+        (Some(kind), _) => Some(kind),
+        (None, Some(file_type)) => kind_for(said.file_system, file_type),
+        (None, None) => None,
+    }
+}
+
+/// The file that is given in a form: what neither the words nor the form say is left open.
 ///
 /// # Errors
 /// The reply to what can't be taken from the form, or whose type the file system does not have.
@@ -46,13 +61,13 @@ pub fn taken_plain(alloc: Global, said: SaidFile<'_>, form: GivenForm) -> Result
     ensures refused { IfErr result (IsNotGivenIn (said_view said.entry) form) }
 {
     let file = taken_file(alloc, said, form)?;
-    let Some(kind) = said.kind_of(&file) else {
+    if said.kind_of(&file).is_none() {
         return Err(Reply::refused(Refusal::Type));
-    };
+    }
     Ok(PlainFile {
         file_system: said.file_system,
-        kind,
-        aux: said.aux.unwrap_or(file.aux_type),
+        kind: kind_left(said, &file),
+        aux: said.aux.or(file.aux_type),
         date: said.date,
         bytes: file.bytes,
     })

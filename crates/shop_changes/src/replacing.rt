@@ -9,6 +9,7 @@ ghost use Rattle.shop_changes.specs.Replaced.{
   IsNoWay,
   IsNotCleared,
   IsTooLongAsSaid,
+  aux_kept,
   given_over,
 };
 ghost use Rattle.shop_changes.specs.SaidFile.{said_view};
@@ -16,13 +17,14 @@ ghost use Rattle.vol_format.specs.Fits.{Fits};
 
 use crate::editing::edit_refusal_reply;
 use crate::given_file::{GivenFile, is_too_long};
-use crate::given_words::usual_kind;
+use crate::given_words::{text_kind, usual_kind};
 use crate::replaced_file::{ReplacedFile, find_replaced};
 use crate::said_file::SaidFile;
 use a2_device::Device;
 use edit_formats::{EditError, SavableFormat};
 use file_edits::delete;
 use file_formats::FileName;
+use shop_jobs::FileSystem;
 use shop_replies::{Refusal, Reply, form_of};
 use std::alloc::Global;
 
@@ -36,12 +38,28 @@ fn is_too_long_as_said(said: SaidFile<'_>) -> bool
     }
 }
 
+// The auxiliary type that stays: that of the old file, but of a file that becomes a text 0.
+fn aux_kept(file_system: FileSystem, kind: u8, old: ReplacedFile) -> u16
+    ensures { result ≡ aux_kept file_system kind old }
+{
+    let text = text_kind(file_system);
+    if kind == text && old.kind != text {
+        0
+    } else {
+        old.aux
+    }
+}
+
 // The file that is given in the place of another one.
 fn given_over<'a>(said: SaidFile<'a>, replaced: Option<ReplacedFile>) -> GivenFile<'a>
     ensures { given_view result ≡ given_over (said_view said.entry) replaced }
 {
     match replaced {
-        Some(old) => said.given_with(said.kind.unwrap_or(old.kind), old.aux, said.bytes),
+        Some(old) => {
+            let kind = said.kind.unwrap_or(old.kind);
+            let aux = aux_kept(said.file_system, kind, old);
+            said.given_with(kind, aux, said.bytes)
+        }
         None => {
             let kind = said.kind.unwrap_or(usual_kind(said.file_system));
             said.given_with(kind, 0, said.bytes)
@@ -105,8 +123,8 @@ fn clear<'a, D: Device, F: SavableFormat>(
 }
 
 /// Deletes the first file with a path, if there is one, and answers what is to be saved in its place: the bytes that
-/// are said, with the type and the auxiliary type of the old file where the words leave them out. Until that is saved,
-/// the volume has neither, so it is done on a device in memory alone.
+/// are said, with the type and the auxiliary type of the old file where the words leave them out; what becomes a text
+/// has no address. Until that is saved, the volume has neither, so it is done on a device in memory alone.
 ///
 /// # Errors
 /// The reply `REFUSED TooLong` for a file that is too long for the head of the type that is said; then what the

@@ -27,6 +27,9 @@ use shop_jobs::FileSystem;
 use shop_replies::{Failure, Refusal, Reply, form_of};
 use std::alloc::Global;
 
+/// The type of a binary file.
+const BINARY: u8 = 0x06;
+
 /// A new file as words and bytes say it.
 #[derive(Clone, Copy)]
 pub struct SaidFile<'a> {
@@ -55,13 +58,13 @@ impl SaidFile<'_> {
         }
     }
 
-    // The type that is said, or that of the file system for what was taken.
+    // The type that is said, or that of the file system for what was taken: where that has none, a binary file's.
     pub(crate) fn kind_of(self, file: &TakenFile) -> Option<u8>
         ensures { result ≡ kind_of (said_view self.entry) (taken_view file.now) }
     {
         match self.kind {
             Some(kind) => Some(kind),
-            None => kind_for(self.file_system, file.file_type),
+            None => kind_for(self.file_system, file.file_type.unwrap_or(BINARY)),
         }
     }
 }
@@ -119,7 +122,8 @@ fn save_from_form<D: Device, F: SavableFormat>(
     };
     match said.kind_of(&file) {
         Some(kind) => {
-            let given = said.given_with(kind, file.aux_type, file.bytes.as_slice());
+            let aux = file.aux_type.unwrap_or(0);
+            let given = said.given_with(kind, aux, file.bytes.as_slice());
             save_in_place(alloc, device, format, acceptance, path, given)
         }
         None => Outcome::Unfinished(Reply::refused(Refusal::Type)),

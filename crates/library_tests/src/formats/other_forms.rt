@@ -2,7 +2,8 @@
 use apple_single::{FileInfo, PrintError, Single, print, read};
 use apple_text::HighBit;
 use file_forms::{
-    FileForm, FormError, FoundFile, GivenForm, TakingError, in_form, readable, taken_from,
+    FileForm, FormError, FoundFile, GivenForm, TakingError, in_form, is_taken_back, readable,
+    taken_from,
 };
 use integer_basic::ListError;
 use std::alloc::Global;
@@ -188,14 +189,65 @@ fn a_form_gives_the_bytes_back_or_not(rt: HostRuntime) -> Result<(), Fail> {
     Ok(())
 }
 
+/// Whether just the bytes of a file are taken from a text.
+fn comes_back(
+    rt: &impl Abort,
+    alloc: Global,
+    form: FileForm,
+    file: &FoundFile<'_>,
+    given: &str,
+    wanted: bool,
+) -> Result<(), Fail> {
+    let is_taken = is_taken_back(alloc, form, file, given.as_bytes())?;
+    assert!(rt; is_taken == wanted, "{given}");
+    Ok(())
+}
+
+#[test]
+fn a_text_of_somebody_gives_the_bytes_back_or_not(rt: HostRuntime) -> Result<(), Fail> {
+    let mut behind = LETTER;
+    behind[7] = 1;
+    let letter = file_of(0x04, &LETTER, &LETTER);
+    let spoiled = file_of(0x04, &behind, &behind);
+    let home = file_of(0xfc, &HOME, &HOME);
+    let alloc = rt.alloc();
+    comes_back(&rt, alloc, FileForm::Text, &letter, SHOWN, true)?;
+    comes_back(
+        &rt,
+        alloc,
+        FileForm::Text,
+        &letter,
+        "HI \u{2404}D\r\n",
+        true,
+    )?;
+    comes_back(
+        &rt,
+        alloc,
+        FileForm::Text,
+        &letter,
+        "HI \u{2404}D\n\n",
+        false,
+    )?;
+    comes_back(&rt, alloc, FileForm::Text, &letter, "HI \u{2404}", false)?;
+    comes_back(&rt, alloc, FileForm::Text, &letter, "", false)?;
+    comes_back(&rt, alloc, FileForm::Text, &letter, "\u{e9}", false)?;
+    comes_back(&rt, alloc, FileForm::Text, &spoiled, SHOWN, false)?;
+    comes_back(&rt, alloc, FileForm::Applesoft, &home, "10 home", true)?;
+    comes_back(&rt, alloc, FileForm::Applesoft, &home, "20 HOME\n", false)?;
+    comes_back(&rt, alloc, FileForm::Applesoft, &home, "HOME", false)?;
+    let program = file_of(0xfa, &PROGRAM, &PROGRAM);
+    comes_back(&rt, alloc, FileForm::Integer, &program, LISTING, false)?;
+    Ok(())
+}
+
 /// What is given in a form gives such a file on a volume of DOS 3.3.
 fn gives(
     rt: &impl Abort,
     alloc: Global,
     form: GivenForm,
     given: &[u8],
-    file_type: u8,
-    aux_type: u16,
+    file_type: Option<u8>,
+    aux_type: Option<u16>,
     bytes: &[u8],
 ) -> Result<(), TakingError> {
     let file = taken_from(alloc, PlaceForm::Sector, form, given)?;
@@ -215,19 +267,27 @@ fn a_file_is_given_in_a_form(rt: HostRuntime) -> Result<(), Fail> {
         rt.alloc(),
         text,
         SHOWN.as_bytes(),
-        0x04,
-        0,
+        Some(0x04),
+        None,
         &LETTER[..6],
     )?;
     let program = GivenForm::Applesoft;
-    gives(&rt, rt.alloc(), program, b"10 home", 0xfc, 0x0801, &HOME)?;
+    gives(
+        &rt,
+        rt.alloc(),
+        program,
+        b"10 home",
+        Some(0xfc),
+        Some(0x0801),
+        &HOME,
+    )?;
     gives(
         &rt,
         rt.alloc(),
         GivenForm::Single,
         &HELLO,
-        0x06,
-        0x0300,
+        Some(0x06),
+        Some(0x0300),
         &BODY,
     )?;
     Ok(())
@@ -256,6 +316,7 @@ enum Call {
     Show,
     Read,
     Take,
+    TakeBack,
 }
 
 // Whether a call over a heap answers want of memory.
@@ -274,12 +335,20 @@ fn has_no_memory(call: Call, heap: &Refusing<Global>) -> bool {
             &taken_from(heap, PlaceForm::Sector, GivenForm::Single, &HELLO),
             Err(TakingError::Memory)
         ),
+        Call::TakeBack => is_taken_back(heap, FileForm::Applesoft, &home, b"10 HOME").is_err(),
     }
 }
 
 #[test]
 fn each_refused_block_is_told(rt: HostRuntime) {
-    for call in [Call::List, Call::Print, Call::Show, Call::Read, Call::Take] {
+    for call in [
+        Call::List,
+        Call::Print,
+        Call::Show,
+        Call::Read,
+        Call::Take,
+        Call::TakeBack,
+    ] {
         let heap = Refusing::none(rt.alloc());
         assert!(rt; !has_no_memory(call, &heap) && heap.asked() > 0, "{call:?}");
         for before in 0..heap.asked() {
