@@ -2,12 +2,14 @@
 use crate::stop::{Stop, failure_of};
 use crate::walking::{Finder, Kind, Root};
 use disk_container::MOST_BYTES;
-use image_survey::{Survey, SurveyError, Surveyed, survey_image};
-use shop_files::{Ending, Unwritten, foreign_of, tell_foreign};
+use image_survey::{FileId, Survey, SurveyError, Surveyed, survey_image};
+use shop_files::{Ending, ImageUse, OpenImage, Unwritten, foreign_of, tell_foreign};
 use shop_jobs::{Job, SurveyForm, is_on_standard_input};
-use shop_replies::{Failure, read_front};
-use std::fs::{self, File, Metadata};
+use shop_replies::Failure;
+use std::alloc::AllocError;
+use std::fs::{self, Metadata};
 use std::io::{Read, Write};
+use std::os::unix::fs::MetadataExt;
 
 /// A file that is told of, by its path; or a folder with a name in it that can't be read.
 #[derive(PartialEq, Eq, PartialOrd, Ord, Drop)]
@@ -16,12 +18,38 @@ struct Item {
     is_unread: bool,
 }
 
-// The bytes of a regular file, up to one past the most of a container.
-fn bytes_of(rt: &HostRuntime, path: &str) -> Result<Vec<u8>, Failure> {
-    match File::open(rt, path) {
-        Ok(mut file) => read_front(rt.alloc(), &mut file, MOST_BYTES as u32),
+/// A file that was read.
+#[derive(Drop)]
+struct FileRead {
+    /// Which file it is, whatever path leads to it.
+    file: Option<FileId>,
+    /// Its bytes, up to one past the most of a container.
+    bytes: Vec<u8>,
+}
+
+// Which file was opened.
+fn id_of(image: &OpenImage) -> Result<Option<FileId>, Failure> {
+    let OpenImage::File(file) = image else {
+        return Ok(None);
+    };
+    match file.metadata() {
+        Ok(found) => Ok(Some(FileId {
+            device: found.dev(),
+            number: found.ino(),
+        })),
         Err(error) => Err(failure_of(&error)),
     }
+}
+
+// Reads a regular file. It shares the lock with others that read: one that another program changes
+// is not read.
+fn read_regular(rt: &HostRuntime, path: &str) -> Result<FileRead, Failure> {
+    let Ok(mut image) = OpenImage::open(rt, path, ImageUse::Read) else {
+        return Err(Failure::Input);
+    };
+    let file = id_of(&image)?;
+    let bytes = image.bytes(rt, MOST_BYTES as u32)?;
+    Ok(FileRead { file, bytes })
 }
 
 // What a path leads to.
@@ -32,10 +60,10 @@ fn found_at(rt: &HostRuntime, path: &str) -> Result<Metadata, Failure> {
     }
 }
 
-// The bytes of a file, if it is a regular one: a pipe might wait for ever.
-fn regular_bytes(rt: &HostRuntime, path: &str) -> Result<Vec<u8>, Failure> {
+// Reads a file, if it is a regular one: a pipe might wait for ever.
+fn read_file(rt: &HostRuntime, path: &str) -> Result<FileRead, Failure> {
     if found_at(rt, path)?.is_file() {
-        bytes_of(rt, path)
+        read_regular(rt, path)
     } else {
         Err(Failure::Input)
     }
@@ -48,39 +76,73 @@ struct Surveying<'a> {
     survey: Survey,
     /// Whether it is explained of which other kinds files are.
     explains: bool,
+    /// Whether something was told.
+    has_told: bool,
+    /// How many things in the folder that are no files were passed over.
+    passed: u64,
 }
 
 impl Surveying<'_> {
-    // Tells of one more file what was found of it.
-    fn tell<T: Write>(&mut self, path: &str, found: &Surveyed, text: &mut T) -> Result<(), Stop> {
-        match self.survey.add(self.rt.alloc(), path, found, text) {
-            Ok(()) => Ok(()),
-            Err(SurveyError::Memory) => Err(Stop::Failed(Failure::Memory)),
-            Err(SurveyError::Output) => Err(Stop::Unwritten(Unwritten::Text)),
+    // Why a file is not told of. Behind the lines of others no line says so: what was told is the
+    // beginning of an answer, and nothing else.
+    fn stop(&self, error: SurveyError) -> Stop {
+        match error {
+            SurveyError::Memory if !self.has_told => Stop::Failed(Failure::Memory),
+            SurveyError::Memory | SurveyError::Output => Stop::Unwritten(Unwritten::Text),
         }
     }
 
-    // Tells of the bytes of one more file.
-    fn tell_bytes<T: Write>(
+    // Tells of one more file what was found of it.
+    fn tell<T: Write>(
         &mut self,
         path: &str,
-        bytes: Vec<u8>,
+        file: Option<FileId>,
+        found: &Surveyed,
         text: &mut T,
     ) -> Result<(), Stop> {
+        match self.survey.add(self.rt.alloc(), path, file, found, text) {
+            Ok(()) => {
+                self.has_told = true;
+                Ok(())
+            }
+            Err(error) => Err(self.stop(error)),
+        }
+    }
+
+    // Tells of one more file that it can't be read.
+    fn tell_unread<T: Write>(&mut self, path: &str, text: &mut T) -> Result<(), Stop> {
+        self.tell(path, None, &Surveyed::Unread, text)
+    }
+
+    // What is found of a file that was read.
+    fn look_at(&self, path: &str, bytes: Vec<u8>) -> Result<Surveyed, AllocError> {
         let foreign = foreign_of(bytes.as_slice());
         let found = survey_image(self.rt.alloc(), bytes)?;
         if let (Surveyed::Other, Some(foreign), true) = (&found, foreign, self.explains) {
             tell_foreign(self.rt, path, foreign);
         }
-        self.tell(path, &found, text)
+        Ok(found)
+    }
+
+    // Tells of one more file that was read, or that there is no memory to look at it.
+    fn tell_read<T: Write>(
+        &mut self,
+        path: &str,
+        read: FileRead,
+        text: &mut T,
+    ) -> Result<(), Stop> {
+        let FileRead { file, bytes } = read;
+        match self.look_at(path, bytes) {
+            Ok(found) => self.tell(path, file, &found, text),
+            Err(_) => self.tell_unread(path, text),
+        }
     }
 
     // Tells of one more file, or that it can't be read.
     fn tell_file<T: Write>(&mut self, path: &str, text: &mut T) -> Result<(), Stop> {
-        match regular_bytes(self.rt, path) {
-            Ok(bytes) => self.tell_bytes(path, bytes, text),
-            Err(Failure::Memory) => Err(Stop::Failed(Failure::Memory)),
-            Err(_) => self.tell(path, &Surveyed::Unread, text),
+        match read_file(self.rt, path) {
+            Ok(read) => self.tell_read(path, read, text),
+            Err(_) => self.tell_unread(path, text),
         }
     }
 }
@@ -94,7 +156,7 @@ fn tell_items<T: Write>(
     for item in items {
         let path = item.path.as_str();
         if item.is_unread {
-            surveying.tell(path, &Surveyed::Unread, text)?;
+            surveying.tell_unread(path, text)?;
         } else {
             surveying.tell_file(path, text)?;
         }
@@ -107,6 +169,8 @@ fn tell_items<T: Write>(
 struct Items<'r, 'a> {
     root: Root<'r, 'a>,
     found: Vec<Item>,
+    /// How many links, pipes and devices it has.
+    passed: u64,
 }
 
 impl Finder for Items<'_, '_> {
@@ -118,7 +182,11 @@ impl Finder for Items<'_, '_> {
         let is_unread = match kind {
             Kind::File => false,
             Kind::Unread | Kind::Unnamed => true,
-            Kind::Folder | Kind::Other => return Ok(()),
+            Kind::Folder => return Ok(()),
+            Kind::Other => {
+                self.passed = self.passed.saturating_add(1);
+                return Ok(());
+            }
         };
         self.found.push(Item {
             path: self.root.place_of(path.as_str())?,
@@ -129,15 +197,15 @@ impl Finder for Items<'_, '_> {
 }
 
 // The files of a folder and of all folders in it, in the order of their paths' bytes.
-fn items_of(root: Root<'_, '_>) -> Result<Vec<Item>, Stop> {
+fn items_of<'r, 'a>(root: Root<'r, 'a>) -> Result<Items<'r, 'a>, Stop> {
     let mut items = Items {
         root,
         found: Vec::new(root.rt.alloc()),
+        passed: 0,
     };
     root.look_through(&mut items)?;
-    let Items { mut found, .. } = items;
-    found.sort()?;
-    Ok(found)
+    items.found.sort()?;
+    Ok(items)
 }
 
 // What standard input has.
@@ -156,7 +224,7 @@ fn survey_list<T: Write>(surveying: &mut Surveying<'_>, text: &mut T) -> Result<
         match std::str::from_utf8(line) {
             Ok("") => {}
             Ok(path) => surveying.tell_file(path, text)?,
-            Err(_) => surveying.tell("-", &Surveyed::Unread, text)?,
+            Err(_) => surveying.tell_unread("-", text)?,
         }
     }
     Ok(())
@@ -172,7 +240,8 @@ fn survey_folder<T: Write>(
         rt: surveying.rt,
         path: path.trim_end_matches('/'),
     })?;
-    tell_items(surveying, items.as_slice(), text)
+    surveying.passed = items.passed;
+    tell_items(surveying, items.found.as_slice(), text)
 }
 
 // Tells of the file at a path, or of all files in the folder there.
@@ -184,8 +253,9 @@ fn survey_path<T: Write>(
     if found_at(surveying.rt, path)?.is_dir() {
         return survey_folder(surveying, path, text);
     }
-    let bytes = regular_bytes(surveying.rt, path)?;
-    surveying.tell_bytes(path, bytes, text)
+    let FileRead { file, bytes } = read_file(surveying.rt, path)?;
+    let found = surveying.look_at(path, bytes)?;
+    surveying.tell(path, file, &found, text)
 }
 
 /// Tells of the files that a job looks at, then which images are the same and how many files there
@@ -201,12 +271,14 @@ pub fn survey_job<T: Write>(
         rt,
         survey: Survey::new(rt.alloc(), form),
         explains,
+        has_told: false,
+        passed: 0,
     };
     if is_on_standard_input(job) {
         survey_list(&mut surveying, text)?;
     } else {
         survey_path(&mut surveying, job.image.as_str(), text)?;
     }
-    let Surveying { survey, .. } = surveying;
-    Ok(Ending::written(survey.end(rt.alloc(), text)))
+    let Surveying { survey, passed, .. } = surveying;
+    Ok(Ending::written(survey.end(rt.alloc(), passed, text)))
 }

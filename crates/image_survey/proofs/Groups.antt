@@ -1,14 +1,13 @@
 -- Groups of images that are the same.
-use Rattle.std.specs.Prelude.{Bool, true, false, IsTrue, ◌≡◌, ◌≢◌, ◌<◌, ◌≤◌, ◌+◌, ℕ, zero, suc, List, [], ◌∷◌, ◌++◌, Contains, length, slice_index, slice_index_or}
-use Rattle.std.proofs.Common.{refl, sym, ◌∙◌, ap, subst, arith, inl, inr, append-nil, append_assoc}
+use Rattle.std.specs.Prelude.{Bool, true, false, IsTrue, ◌≡◌, ◌≢◌, ◌<◌, ◌≤◌, ◌+◌, ℕ, zero, suc, List, [], ◌∷◌, ◌++◌, Option, Some, None, Contains, length, slice_index, slice_index_or}
+use Rattle.std.proofs.Common.{sym, ◌∙◌, ap, subst, arith, inl, inr, append-nil, append_assoc}
 use Rattle.std.proofs.lemmas.Bool.{cases_lt}
 use Rattle.std.proofs.lemmas.List.{length_push, get_or_default}
 use Rattle.std.proofs.lemmas.List.Elements.{All-contains, All-push, All-weaker, Contains-append_left, Contains-push}
 use Rattle.std.proofs.lemmas.List.Quantifiers.{all_pairs_push}
 use Rattle.vol_format.proofs.Lists.{element}
 use Rattle.image_survey.specs.Grouping.{AreGrouped}
-use Rattle.image_survey.specs.Same.{AreAlike, AreGroupsUpTo, AreSameLines, IsGroup, IsShared, content_at, group_lines, lines_from}
-use Rattle.image_survey.specs.Told.{Candidate}
+use Rattle.image_survey.specs.Same.{AreAlike, AreGroupsUpTo, AreSameLines, IsGroup, IsShared, group_lines, key_at, lines_from}
 use Rattle.image_survey.specs.declared.same.SameLine.{SameLine}
 
 -- the lines of one group more
@@ -20,15 +19,36 @@ lines_more number (first ∷ groups) group =
     ∙ sym (append_assoc (group_lines number first) (lines_from (number + 1) groups) (group_lines (number + 1 + length groups) group))
     ∙ ap (λ n. group_lines number first ++ lines_from (number + 1) groups ++ group_lines n group) (omega arith)
 
-module _ (images : List Candidate) (n : ℕ) (within : n < length images) (numbers : List ℕ) (alike : AreAlike images (content_at images n) numbers) where
+-- an image without a key is the same as none
+pub without_key : (keys : List (Option (List ℕ))) (n : ℕ) (groups : List (List ℕ)) → key_at keys n ≡ None → AreGroupsUpTo keys n groups
+    → AreGroupsUpTo keys (n + 1) groups
+without_key keys n groups none before = record {
+  each = before.each;
+  all = λ m shared. elim (cases_lt m n) [
+    | inl low ↦
+        before.all m (record { first = low; other = shared.other; within = shared.within; apart = shared.apart; key = shared.key; has = shared.has; same = shared.same })
+    | inr high ↦
+        let at : m ≡ n = omega (arith, high, shared.first) in
+        absurd (cc (none, subst (λ k. key_at keys k ≡ Some shared.key) at shared.has))
+  ];
+  begun = All-weaker (λ group. slice_index group 0 < n) (λ group. slice_index group 0 < n + 1) (λ group low. omega (arith, low)) groups before.begun;
+  in_order = before.in_order;
+}
+
+module _ (keys : List (Option (List ℕ))) (n : ℕ) (within : n < length keys) (key : List ℕ) (of : key_at keys n ≡ Some key) (numbers : List ℕ)
+    (alike : AreAlike keys key numbers) where
   itself : Contains numbers n
-  itself = (alike.members n).1 (within, refl)
+  itself = (alike.members n).1 (within, of)
+
+  -- another image with a key that this one has
+  key_of : (other : List ℕ) → key_at keys n ≡ Some other → other ≡ key
+  key_of other is = cc (of, is)
 
   -- the group that begins with this image
-  module _ (groups : List (List ℕ)) (before : AreGroupsUpTo images n groups) where
-    pub one_more : 2 ≤ length numbers → slice_index numbers 0 ≡ n → AreGroupsUpTo images (n + 1) (groups ++ numbers ∷ [])
+  module _ (groups : List (List ℕ)) (before : AreGroupsUpTo keys n groups) where
+    pub one_more : 2 ≤ length numbers → slice_index numbers 0 ≡ n → AreGroupsUpTo keys (n + 1) (groups ++ numbers ∷ [])
     one_more several first = record {
-      each = All-push (IsGroup images) groups numbers before.each (record { content = content_at images n; alike = alike; several = several });
+      each = All-push (IsGroup keys) groups numbers before.each (record { key = key; alike = alike; several = several });
       all = all;
       begun = All-push (λ group. slice_index group 0 < n + 1) groups numbers
           (All-weaker (λ group. slice_index group 0 < n) (λ group. slice_index group 0 < n + 1) (λ group low. omega (arith, low)) groups before.begun)
@@ -37,10 +57,10 @@ module _ (images : List Candidate) (n : ℕ) (within : n < length images) (numbe
           (λ k d low. omega (arith, before.begun k d low, first));
     }
       where
-        all : (m : ℕ) → IsShared images (n + 1) m → (group : List ℕ) × Contains (groups ++ numbers ∷ []) group × Contains group m
+        all : (m : ℕ) → IsShared keys (n + 1) m → (group : List ℕ) × Contains (groups ++ numbers ∷ []) group × Contains group m
         all m shared = elim (cases_lt m n) [
           | inl low ↦
-              let old = before.all m (record { first = low; other = shared.other; within = shared.within; apart = shared.apart; same = shared.same }) in
+              let old = before.all m (record { first = low; other = shared.other; within = shared.within; apart = shared.apart; key = shared.key; has = shared.has; same = shared.same }) in
               (old.0, Contains-append_left groups (numbers ∷ []) old.0 old.1, old.2)
           | inr high ↦
               let at : n ≡ m = omega (arith, high, shared.first) in
@@ -48,7 +68,7 @@ module _ (images : List Candidate) (n : ℕ) (within : n < length images) (numbe
         ]
 
     -- no group begins with it: it is the same as none, or as one before it
-    pub none_more : ((2 ≤ length numbers) × (slice_index numbers 0 ≡ n) → ⊥) → AreGroupsUpTo images (n + 1) groups
+    pub none_more : ((2 ≤ length numbers) × (slice_index numbers 0 ≡ n) → ⊥) → AreGroupsUpTo keys (n + 1) groups
     none_more none = record {
       each = before.each;
       all = all;
@@ -60,19 +80,20 @@ module _ (images : List Candidate) (n : ℕ) (within : n < length images) (numbe
         head : ℕ
         head = slice_index numbers 0
 
-        in_group : (m : ℕ) → m < n → content_at images m ≡ content_at images n → (group : List ℕ) × Contains groups group × Contains group n
-        in_group m low same =
-            let old = before.all m (record { first = low; other = n; within = within; apart = λ is. omega (arith, low, is); same = same }) in
-            let is = All-contains (IsGroup images) groups old.0 before.each old.1 in
-            let of = ((is.alike.members m).0 old.2).1 in
-            (old.0, old.1, (is.alike.members n).1 (within, sym same ∙ of))
+        in_group : (m : ℕ) → m < n → key_at keys m ≡ Some key → (group : List ℕ) × Contains groups group × Contains group n
+        in_group m low has =
+            let old = before.all m (record { first = low; other = n; within = within; apart = λ is. omega (arith, low, is); key = key; has = has; same = of }) in
+            let is = All-contains (IsGroup keys) groups old.0 before.each old.1 in
+            let same = ((is.alike.members m).0 old.2).1 in
+            (old.0, old.1, (is.alike.members n).1 (within, of ∙ sym has ∙ same))
 
-        all : (m : ℕ) → IsShared images (n + 1) m → (group : List ℕ) × Contains groups group × Contains group m
+        all : (m : ℕ) → IsShared keys (n + 1) m → (group : List ℕ) × Contains groups group × Contains group m
         all m shared = elim (cases_lt m n) [
-          | inl low ↦ before.all m (record { first = low; other = shared.other; within = shared.within; apart = shared.apart; same = shared.same })
+          | inl low ↦ before.all m (record { first = low; other = shared.other; within = shared.within; apart = shared.apart; key = shared.key; has = shared.has; same = shared.same })
           | inr high ↦
               let at : n ≡ m = omega (arith, high, shared.first) in
-              let other = (alike.members shared.other).1 (shared.within, sym shared.same ∙ ap (content_at images) (sym at)) in
+              let same = key_of shared.key (subst (λ k. key_at keys k ≡ Some shared.key) (sym at) shared.has) in
+              let other = (alike.members shared.other).1 (shared.within, shared.same ∙ ap (λ (k : List ℕ). Some k) same) in
               subst (λ k. (group : List ℕ) × Contains groups group × Contains group k) at (from_other shared.other other (λ is. shared.apart (sym at ∙ is)))
         ]
           where
@@ -102,20 +123,20 @@ module _ (images : List Candidate) (n : ℕ) (within : n < length images) (numbe
                     in_group head before_it ((alike.members head).0 here).1
 
 -- no groups begin before the first image
-pub none_yet : (images : List Candidate) → AreGroupsUpTo images 0 []
-none_yet images = record {
+pub none_yet : (keys : List (Option (List ℕ))) → AreGroupsUpTo keys 0 []
+none_yet keys = record {
   each = λ k d low. absurd (omega (arith, low));
   all = λ n shared. absurd (omega (arith, shared.first));
   begun = λ k d low. absurd (omega (arith, low));
   in_order = λ i j d less low. absurd (omega (arith, low));
 }
 
-module _ (images : List Candidate) (n : ℕ) (within : n < length images) (numbers : List ℕ) (alike : AreAlike images (content_at images n) numbers)
-    (count : ℕ) (lines : List SameLine) (before : AreGrouped images n count lines) where
-  pub grouped_more : 2 ≤ length numbers → slice_index numbers 0 ≡ n → AreGrouped images (n + 1) (count + 1) (lines ++ group_lines (count + 1) numbers)
+module _ (keys : List (Option (List ℕ))) (n : ℕ) (within : n < length keys) (key : List ℕ) (of : key_at keys n ≡ Some key) (numbers : List ℕ)
+    (alike : AreAlike keys key numbers) (count : ℕ) (lines : List SameLine) (before : AreGrouped keys n count lines) where
+  pub grouped_more : 2 ≤ length numbers → slice_index numbers 0 ≡ n → AreGrouped keys (n + 1) (count + 1) (lines ++ group_lines (count + 1) numbers)
   grouped_more several first = record {
     groups = before.groups ++ numbers ∷ [];
-    are = one_more images n within numbers alike before.groups before.are several first;
+    are = one_more keys n within key of numbers alike before.groups before.are several first;
     counted = omega (arith, before.counted, length_push before.groups numbers);
     few = omega (arith, before.few);
     is =
@@ -124,19 +145,30 @@ module _ (images : List Candidate) (n : ℕ) (within : n < length images) (numbe
         ∙ sym (lines_more 1 before.groups numbers);
   }
 
-  pub grouped_same : ((2 ≤ length numbers) × (slice_index numbers 0 ≡ n) → ⊥) → AreGrouped images (n + 1) count lines
+  pub grouped_same : ((2 ≤ length numbers) × (slice_index numbers 0 ≡ n) → ⊥) → AreGrouped keys (n + 1) count lines
   grouped_same none = record {
     groups = before.groups;
-    are = none_more images n within numbers alike before.groups before.are none;
+    are = none_more keys n within key of numbers alike before.groups before.are none;
     counted = before.counted;
     few = omega (arith, before.few);
     is = before.is;
   }
 
-pub same_lines_are : (images : List Candidate) (many count : ℕ) (lines : List SameLine) → many ≡ length images → AreGrouped images many count lines → AreSameLines images lines
-same_lines_are images many count lines all grouped = record {
+-- the group of an image without a key
+pub grouped_without : (keys : List (Option (List ℕ))) (n count : ℕ) (lines : List SameLine) → key_at keys n ≡ None → AreGrouped keys n count lines
+    → AreGrouped keys (n + 1) count lines
+grouped_without keys n count lines none before = record {
+  groups = before.groups;
+  are = without_key keys n before.groups none before.are;
+  counted = before.counted;
+  few = omega (arith, before.few);
+  is = before.is;
+}
+
+pub same_lines_are : (keys : List (Option (List ℕ))) (many count : ℕ) (lines : List SameLine) → many ≡ length keys → AreGrouped keys many count lines → AreSameLines keys lines
+same_lines_are keys many count lines all grouped = record {
   groups = grouped.groups;
-  are = subst (λ n. AreGroupsUpTo images n grouped.groups) all grouped.are;
+  are = subst (λ n. AreGroupsUpTo keys n grouped.groups) all grouped.are;
   is = grouped.is;
 }
 

@@ -10,3 +10,5 @@ mod Standings
 mod Told
 mod Chosen
 mod Shared
+mod Firsts
+mod Disks

@@ -1,10 +1,9 @@
 -- The images of which it is told that they are the same as another.
-use Rattle.std.specs.Prelude.{◌≡◌, ◌≢◌, ◌<◌, ◌+◌, ℕ, zero, suc, List, [], ◌∷◌, Contains, length, slice_index_or}
-use Rattle.std.proofs.Common.{sym, ◌∙◌, ap, subst, arith, ⊎_elim}
+use Rattle.std.specs.Prelude.{◌≡◌, ◌≢◌, ◌<◌, ◌+◌, ℕ, zero, suc, List, [], ◌∷◌, Contains, Option, length, slice_index_or}
+use Rattle.std.proofs.Common.{sym, ap, subst, arith, ⊎_elim}
 use Rattle.std.proofs.lemmas.List.Elements.{All-contains, Contains-append_cases, Contains-append_left, Contains-append_right}
 use Rattle.vol_format.proofs.Lists.{at_front, element, in_either, in_front, in_map, out_of_map}
 use Rattle.image_survey.specs.Same.{AreSameLines, IsGroup, IsShared, IsToldSame, group_lines, lines_from}
-use Rattle.image_survey.specs.Told.{Candidate}
 use Rattle.image_survey.specs.declared.same.SameLine.{SameLine}
 
 abbrev line_of : ℕ → ℕ → SameLine
@@ -39,14 +38,14 @@ line_in number (first ∷ groups) group n has inside =
     (in_either first groups group has)
 
 -- a group has another image with the content of each
-module _ (images : List Candidate) (group : List ℕ) (is : IsGroup images group) (n : ℕ) where
-  shares : (other : ℕ) → Contains group n → Contains group other → n ≢ other → IsShared images (length images) n
+module _ (keys : List (Option (List ℕ))) (group : List ℕ) (is : IsGroup keys group) (n : ℕ) where
+  shares : (other : ℕ) → Contains group n → Contains group other → n ≢ other → IsShared keys (length keys) n
   shares other inside has apart =
       let one = (is.alike.members n).0 inside in
       let two = (is.alike.members other).0 has in
-      record { first = one.0; other = other; within = two.0; apart = apart; same = one.1 ∙ sym two.1 }
+      record { first = one.0; other = other; within = two.0; apart = apart; key = is.key; has = one.1; same = two.1 }
 
-  another : (a : ℕ) → a < length group → slice_index_or group a n ≡ n → Contains group n → IsShared images (length images) n
+  another : (a : ℕ) → a < length group → slice_index_or group a n ≡ n → Contains group n → IsShared keys (length keys) n
   another zero low at inside =
       let more : 1 < length group = omega (arith, is.several) in
       let less = is.alike.rising 0 1 n (omega arith) more in
@@ -55,16 +54,16 @@ module _ (images : List Candidate) (group : List ℕ) (is : IsGroup images group
       let less = is.alike.rising 0 (suc a) n (omega arith) low in
       shares (slice_index_or group 0 n) inside (element group 0 n (omega (arith, low))) (λ same. omega (arith, less, at, same))
 
-pub told_is_shared : (images : List Candidate) (lines : List SameLine) (n : ℕ) → AreSameLines images lines → IsToldSame lines n
-    → IsShared images (length images) n
-told_is_shared images lines n are told =
+pub told_is_shared : (keys : List (Option (List ℕ))) (lines : List SameLine) (n : ℕ) → AreSameLines keys lines → IsToldSame lines n
+    → IsShared keys (length keys) n
+told_is_shared keys lines n are told =
     let from = group_of 1 are.groups told.0 n (subst (λ (some : List SameLine). Contains some (line_of told.0 n)) are.is told.1) in
-    let group = All-contains (IsGroup images) are.groups from.0 are.are.each from.1 in
-    another images from.0 group n from.2.0 from.2.1 from.2.2 from.2
+    let group = All-contains (IsGroup keys) are.groups from.0 are.are.each from.1 in
+    another keys from.0 group n from.2.0 from.2.1 from.2.2 from.2
 
-pub shared_is_told : (images : List Candidate) (lines : List SameLine) (n : ℕ) → AreSameLines images lines → IsShared images (length images) n
+pub shared_is_told : (keys : List (Option (List ℕ))) (lines : List SameLine) (n : ℕ) → AreSameLines keys lines → IsShared keys (length keys) n
     → IsToldSame lines n
-shared_is_told images lines n are shared =
+shared_is_told keys lines n are shared =
     let from = are.are.all n shared in
     let line = line_in 1 are.groups from.0 n from.1 from.2 in
     (line.0, subst (λ (some : List SameLine). Contains some (line_of line.0 n)) (sym are.is) line.1)

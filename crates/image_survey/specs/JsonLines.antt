@@ -7,9 +7,11 @@ use Rattle.row_text.specs.Row.{number_or_null, number_value}
 use Rattle.row_text.specs.Shown.{Text, lower_hex}
 use Rattle.image_readings.specs.IdentifyText.{file_system_word, order_word}
 use Rattle.image_survey.specs.Lines.{digest_in, total_of, volume_text}
-use Rattle.image_survey.specs.declared.counts.Counts.{Counts}
+use Rattle.image_survey.specs.declared.counts.Totals.{Totals}
 use Rattle.image_survey.specs.declared.json_row.VerdictWord.{VerdictWord}
 use Rattle.image_survey.specs.declared.json_row.VerdictWord.TheVariants as words
+use Rattle.image_survey.specs.declared.likeness.Likeness.{Likeness}
+use Rattle.image_survey.specs.declared.likeness.Likeness.TheVariants.{Files, Disk}
 use Rattle.image_survey.specs.declared.surveyed.BestReading.{BestReading}
 use Rattle.image_survey.specs.declared.surveyed.ImageVerdict.{ImageVerdict}
 use Rattle.image_survey.specs.declared.surveyed.ImageVerdict.TheVariants.{Best, Ambiguous, NoVolume}
@@ -26,6 +28,7 @@ word_text words.Unread = codes "UNREAD"
 -- what is told of a file, where it is there
 pub record RowView : Type 0 where
   pub content : Option (List ℕ)
+  pub disk : Option (List ℕ)
   pub files : Option ℕ
   pub free : Option ℕ
   pub file_system : Option FileSystem
@@ -41,6 +44,7 @@ pub record RowView : Type 0 where
 abbrev pub bare_row : VerdictWord → Option (List ℕ) → Bool → Text → RowView
 bare_row word image container path = record {
   content = None;
+  disk = None;
   files = None;
   free = None;
   file_system = None;
@@ -56,6 +60,7 @@ bare_row word image container path = record {
 abbrev pub best_row : BestReading → List ℕ → Bool → Text → RowView
 best_row best sha256 container path = record {
   content = digest_in best.facts.content;
+  disk = best.disk;
   files = Some best.facts.files;
   free = Some best.facts.free;
   file_system = Some best.file_system;
@@ -111,7 +116,8 @@ free_on r = member (codes "free") (number_or_null r.free)
 
 abbrev pub row_members : RowView → Members
 row_members r = member (codes "content") (digest_or_null r.content)
-    (member (codes "files") (number_or_null r.files) (free_on r))
+    (member (codes "disk") (digest_or_null r.disk)
+    (member (codes "files") (number_or_null r.files) (free_on r)))
 
 abbrev pub row_data : RowView → Data
 row_data r = object (row_members r)
@@ -121,17 +127,26 @@ file_data found path = row_data (row_of found path)
 
 -- ---- the line of an image that is the same as another, and the last line
 
-abbrev pub same_data : ℕ → Text → Data
-same_data group path = object (member (codes "path") (string path)
-    (member (codes "same") (number_value group) no_members))
+abbrev pub same_key : Likeness → Text
+same_key Files = codes "same"
+same_key Disk = codes "twin"
 
-abbrev pub none_on : Counts → ℕ → Members
-none_on counts same = member (codes "none") (number_value counts.none)
-    (member (codes "other") (number_value counts.other)
-    (member (codes "same") (number_value same)
-    (member (codes "unread") (number_value counts.unread) no_members)))
+abbrev pub same_data : Likeness → ℕ → Text → Data
+same_data likeness group path = object (member (codes "path") (string path)
+    (member (same_key likeness) (number_value group) no_members))
 
-abbrev pub totals_data : Counts → ℕ → Data
-totals_data counts same = object (member (codes "ambiguous") (number_value counts.ambiguous)
-    (member (codes "best") (number_value counts.best)
-    (member (codes "files") (number_value (total_of counts)) (none_on counts same))))
+abbrev pub passed_on : Totals → Members
+passed_on totals = member (codes "passed") (number_value totals.passed)
+    (member (codes "same") (number_value totals.same)
+    (member (codes "twin") (number_value totals.twins)
+    (member (codes "unread") (number_value totals.counts.unread) no_members)))
+
+abbrev pub totals_members : Totals → Members
+totals_members totals = member (codes "ambiguous") (number_value totals.counts.ambiguous)
+    (member (codes "best") (number_value totals.counts.best)
+    (member (codes "files") (number_value (total_of totals.counts))
+    (member (codes "none") (number_value totals.counts.none)
+    (member (codes "other") (number_value totals.counts.other) (passed_on totals)))))
+
+abbrev pub totals_data : Totals → Data
+totals_data totals = object (totals_members totals)

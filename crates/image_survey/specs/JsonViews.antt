@@ -6,6 +6,7 @@ use Rattle.image_survey.specs.declared.json_row.JsonRow.{JsonRow}
 abbrev pub row_view : JsonRow → RowView
 row_view r = record {
   content = r.content;
+  disk = r.disk;
   files = r.files;
   free = r.free;
   file_system = r.file_system;

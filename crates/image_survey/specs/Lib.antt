@@ -4,6 +4,8 @@ pub mod Naming
 pub mod Content
 pub mod Hashing
 pub mod Facts
+pub mod Disk
+pub mod DiskHashing
 pub mod Surveyed
 pub mod Told
 pub mod Lines

@@ -8,7 +8,10 @@ use Rattle.image_survey.specs.FileLine.{digest_text}
 use Rattle.image_survey.specs.declared.content.Content.{Content}
 use Rattle.image_survey.specs.declared.content.Content.TheVariants.{Of, TooLarge}
 use Rattle.image_survey.specs.declared.counts.Counts.{Counts}
+use Rattle.image_survey.specs.declared.counts.Totals.{Totals}
 use Rattle.image_survey.specs.declared.facts.VolumeFacts.{VolumeFacts}
+use Rattle.image_survey.specs.declared.likeness.Likeness.{Likeness}
+use Rattle.image_survey.specs.declared.likeness.Likeness.TheVariants.{Files, Disk}
 use Rattle.image_survey.specs.declared.surveyed.BestReading.{BestReading}
 use Rattle.image_survey.specs.declared.surveyed.ImageVerdict.{ImageVerdict}
 use Rattle.image_survey.specs.declared.surveyed.ImageVerdict.TheVariants.{Best, Ambiguous, NoVolume}
@@ -59,21 +62,29 @@ abbrev pub file_text : Surveyed → Text → Text
 file_text found path = found_text found ++ 32 ∷ path
 
 -- the line of an image that is the same as another: the number of the group, and the path
-abbrev pub same_text : ℕ → Text → Text
-same_text group path = codes "SAME " ++ decimal group ++ 32 ∷ path
+abbrev pub same_word : Likeness → Text
+same_word Files = codes "SAME "
+same_word Disk = codes "TWIN "
 
--- the last line
+abbrev pub same_text : Likeness → ℕ → Text → Text
+same_text likeness group path = same_word likeness ++ decimal group ++ 32 ∷ path
+
+-- the last line: how many files there are, and of each kind
 abbrev pub total_of : Counts → ℕ
 total_of counts = counts.best + counts.ambiguous + counts.none + counts.other + counts.unread
 
-abbrev pub later_text : Counts → ℕ → Text
-later_text counts same = codes "none " ++ decimal counts.none ++ codes " other " ++ decimal counts.other
-    ++ codes " unread " ++ decimal counts.unread
-    ++ codes " same " ++ decimal same
+abbrev pub images_text : Counts → Text
+images_text counts = codes "best " ++ decimal counts.best ++ codes " ambiguous " ++ decimal counts.ambiguous
+    ++ codes " none " ++ decimal counts.none
 
-abbrev pub counts_text : Counts → ℕ → Text
-counts_text counts same = codes "best " ++ decimal counts.best ++ codes " ambiguous " ++ decimal counts.ambiguous ++ 32
-    ∷ later_text counts same
+abbrev pub others_text : Counts → Text
+others_text counts = codes "other " ++ decimal counts.other ++ codes " unread " ++ decimal counts.unread
 
-abbrev pub totals_text : ℕ → Counts → ℕ → Text
-totals_text files counts same = codes "SURVEYED files " ++ decimal files ++ 32 ∷ counts_text counts same
+-- how many lines tell that an image is the same as another, and what was passed over
+abbrev pub same_counts_text : Totals → Text
+same_counts_text totals = codes "same " ++ decimal totals.same ++ codes " twin " ++ decimal totals.twins
+    ++ codes " passed " ++ decimal totals.passed
+
+abbrev pub totals_text : Totals → Text
+totals_text totals = codes "SURVEYED files " ++ decimal (total_of totals.counts) ++ 32 ∷ images_text totals.counts
+    ++ 32 ∷ others_text totals.counts ++ 32 ∷ same_counts_text totals

@@ -3,6 +3,7 @@ use Rattle.std.specs.Prelude.{◌≡◌, ◌+◌, ◌⊎◌, ℕ, Bool, true, fa
 use Rattle.sha2.specs.Sha256.{sha256}
 use Rattle.a2_device.specs.declared.order.Order.{Order}
 use Rattle.a2_device.specs.declared.order.Order.TheVariants as orders
+use Rattle.a2_image.specs.Image.{DiskImage}
 use Rattle.disk_container.specs.Container.{IsContainer}
 use Rattle.disk_container.specs.Format.{BeginsLikeContainer}
 use Rattle.disk_container.specs.declared.container.Container.{Container}
@@ -11,12 +12,13 @@ use Rattle.file_formats.specs.Files.{FileMeaning}
 use Rattle.file_formats.specs.ProFiles.{pro_files}
 use Rattle.shop_jobs.specs.declared.job.FileSystem.{FileSystem}
 use Rattle.shop_jobs.specs.declared.job.FileSystem.TheVariants.{Dos, Prodos}
-use Rattle.shop_replies.specs.Volume.{OfVolume, form_of}
+use Rattle.shop_replies.specs.Volume.{IsImageOf, OfVolume, form_of}
 use Rattle.image_readings.specs.BestReading.{IsChoice}
 use Rattle.image_readings.specs.IdentifyReply.{allows}
 use Rattle.image_readings.specs.Readings.{plain_meaning}
 use Rattle.image_readings.specs.declared.best.Choice.{Choice}
 use Rattle.image_readings.specs.declared.best.Choice.TheVariants as choices
+use Rattle.image_survey.specs.Disk.{IsDiskDigest}
 use Rattle.image_survey.specs.Facts.{AreFacts}
 use Rattle.image_survey.specs.declared.facts.VolumeFacts.{VolumeFacts}
 use Rattle.image_survey.specs.declared.surveyed.BestReading.{BestReading}
@@ -73,10 +75,15 @@ AreFactsIn payload file_system order facts =
     OfVolume file_system order payload
     (λ device. AreFacts (form_of file_system) (files_of file_system) (plain_meaning file_system) device facts)
 
+-- the digest of the disk that an image in this order has
+abbrev pub IsDiskIn : List ℕ → Order → Option (List ℕ) → Type 0
+IsDiskIn payload order disk = (image : DiskImage) × IsImageOf order payload image × IsDiskDigest image disk
+
 pub record IsBest (payload : List ℕ) (file_system : FileSystem) (order : Order) (best : BestReading) : Type 0 where
   pub in_system : best.file_system ≡ file_system
   pub in_order : best.order ≡ order
   pub facts : AreFactsIn payload file_system order best.facts
+  pub disk : IsDiskIn payload order best.disk
 
 -- the best reading, where the header of a container says no other order
 abbrev pub IsVerdictBy : List ℕ → Bool → Choice → ImageVerdict → Type 0

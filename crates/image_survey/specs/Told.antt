@@ -1,17 +1,25 @@
 -- The files that are surveyed, and how often each thing is found.
-use Rattle.std.specs.Prelude.{◌&&◌, ◌+◌, ℕ, nat_lt, Bool, true, false, List, [], ◌∷◌, Option, Some, None, count_by, flat_map, if◌then◌else◌, string_bytes}
+use Rattle.std.specs.Prelude.{◌≡◌, ◌==◌, ◌&&◌, ◌+◌, ℕ, nat_lt, Bool, true, false, List, [], ◌∷◌, ◌++◌, Option, Some, None, count_by, if◌then◌else◌, map, option_map, string_bytes}
+use Rattle.std.specs.HashSet.{contains_by}
+use Rattle.std.specs.List.{filter_map, list_any}
 use Rattle.image_survey.specs.declared.content.Content.{Content}
 use Rattle.image_survey.specs.declared.content.Content.TheVariants.{Of, TooLarge}
 use Rattle.image_survey.specs.declared.counts.Counts.{Counts}
+use Rattle.image_survey.specs.declared.file_id.FileId.{FileId}
+use Rattle.image_survey.specs.declared.kept.Images.{Images}
 use Rattle.image_survey.specs.declared.kept.Kept.{Kept}
+use Rattle.image_survey.specs.declared.likeness.Likeness.{Likeness}
+use Rattle.image_survey.specs.declared.likeness.Likeness.TheVariants.{Files, Disk}
+use Rattle.image_survey.specs.declared.surveyed.BestReading.{BestReading}
 use Rattle.image_survey.specs.declared.surveyed.ImageVerdict.{ImageVerdict}
 use Rattle.image_survey.specs.declared.surveyed.ImageVerdict.TheVariants.{Best, Ambiguous, NoVolume}
 use Rattle.image_survey.specs.declared.surveyed.Surveyed.{Surveyed}
 use Rattle.image_survey.specs.declared.surveyed.Surveyed.TheVariants.{Image, Other, Unread}
 
--- a file with its path, as bytes of UTF-8, and what was found of it
+-- a path, as bytes of UTF-8, the file that it leads to, where that is known, and what was found of it
 pub record Told : Type 0 where
   pub path : List ℕ
+  pub file : Option FileId
   pub found : Surveyed
 
 -- ---- counts
@@ -71,36 +79,84 @@ counts_with counts Unread = record counts { unread = counts.unread + 1 }
 
 -- ---- what may be the same
 
--- an image that may be the same as another, with its path and its content
+-- An image that may be the same as another: the content of its volume and the digest of its disk, where these are
+-- told, the file that it stands in, and its path.
 pub record Candidate : Type 0 where
-  pub content : List ℕ
+  pub content : Option (List ℕ)
+  pub disk : Option (List ℕ)
+  pub file : Option FileId
   pub path : List ℕ
 
 abbrev pub candidate_of : Kept → Candidate
-candidate_of kept = record { content = kept.content; path = string_bytes kept.path }
+candidate_of kept = record {
+  content = kept.content;
+  disk = kept.disk;
+  file = kept.file;
+  path = string_bytes kept.path;
+}
+
+-- what it has alike with those that are the same as it
+abbrev pub key_by : Likeness → Candidate → Option (List ℕ)
+key_by Files image = image.content
+key_by Disk image = image.disk
+
+abbrev pub keys_by : Likeness → List Candidate → List (Option (List ℕ))
+keys_by likeness images = map (key_by likeness) images
 
 -- The content of a volume by which it may be the same as another: one with files, each of which can be read.
 abbrev pub content_if : Bool → Content → Option (List ℕ)
 content_if has_files (Of digest whole) = if has_files && whole then Some digest else None
 content_if has_files TooLarge = None
 
-abbrev pub content_by : ImageVerdict → Option (List ℕ)
-content_by (Best best) = content_if (nat_lt 0 best.facts.files) best.facts.content
-content_by Ambiguous = None
-content_by NoVolume = None
+abbrev pub content_by : BestReading → Option (List ℕ)
+content_by best = content_if (nat_lt 0 best.facts.files) best.facts.content
 
-abbrev pub content_in : Surveyed → Option (List ℕ)
-content_in (Image image) = content_by image.verdict
-content_in Other = None
-content_in Unread = None
+-- an image with a best reading may be the same as another
+abbrev pub candidate_by : List ℕ → Option FileId → BestReading → Candidate
+candidate_by path file best = record { content = content_by best; disk = best.disk; file = file; path = path }
 
--- the image of a file, where it may be the same as another
-abbrev pub candidate_with : Option (List ℕ) → List ℕ → List Candidate
-candidate_with None path = []
-candidate_with (Some content) path = record { content = content; path = path } ∷ []
+abbrev pub best_by : ImageVerdict → Option BestReading
+best_by (Best best) = Some best
+best_by Ambiguous = None
+best_by NoVolume = None
 
-abbrev pub candidate : Told → List Candidate
-candidate one = candidate_with (content_in one.found) one.path
+abbrev pub best_in : Surveyed → Option BestReading
+best_in (Image image) = best_by image.verdict
+best_in Other = None
+best_in Unread = None
 
+abbrev pub candidate : Told → Option Candidate
+candidate one = option_map (candidate_by one.path one.file) (best_in one.found)
+
+-- ---- paths that lead to one file
+
+abbrev pub is_file : FileId → FileId → Bool
+is_file one other = one.device == other.device && one.number == other.number
+
+-- whether a file is this one; a file that is not known is none
+abbrev pub is_of_file : Option FileId → FileId → Bool
+is_of_file None other = false
+is_of_file (Some file) other = is_file file other
+
+abbrev pub is_known : List Candidate → FileId → Bool
+is_known images file = list_any (λ (image : Candidate). is_of_file image.file file) images
+
+-- whether one of these images stands in the file of another
+abbrev pub has_file_of : List Candidate → Option FileId → Bool
+has_file_of images None = false
+has_file_of images (Some file) = is_known images file
+
+-- of images that stand behind others those in whose files none before them stands
+abbrev pub firsts_behind : List Candidate → List Candidate → List Candidate
+firsts_behind before [] = []
+firsts_behind before (image ∷ later) =
+    (if has_file_of before image.file then [] else image ∷ []) ++ firsts_behind (before ++ image ∷ []) later
+
+-- the images that may be the same as another: paths that lead to one file are one image, the first of them
 abbrev pub candidates : List Told → List Candidate
-candidates told = flat_map candidate told
+candidates told = firsts_behind [] (filter_map candidate told)
+
+-- of these images the first of each file are kept, and their files are known
+pub record AreKept (found : List Candidate) (images : Images) : Type 0 where
+  pub kept : map candidate_of images.kept.items ≡ firsts_behind [] found
+  pub files : (file : FileId) → contains_by (is_file file) images.files ≡ is_known found file

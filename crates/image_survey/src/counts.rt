@@ -79,3 +79,15 @@ impl Counts {
         }
     }
 }
+
+/// What the last line tells.
+#[derive(Clone, Copy)]
+pub struct Totals {
+    pub counts: Counts,
+    /// How many lines tell that an image has the files of another.
+    pub same: usize,
+    /// How many lines tell that it has the disk of another.
+    pub twins: usize,
+    /// How many things that are no files were passed over.
+    pub passed: u64,
+}

@@ -1,20 +1,25 @@
 // What is found of the image in a file.
 ghost use Rattle.std.specs.Prelude.{◌≡◌, IfOk, length};
 ghost use Rattle.disk_container.specs.Format.{BeginsLikeContainer};
-ghost use Rattle.shop_replies.specs.Volume.{TakesBytes};
+ghost use Rattle.a2_image.specs.Image.{IsOfDisk};
+ghost use Rattle.image_readings.specs.Readings.{plain_meaning};
+ghost use Rattle.shop_replies.specs.Volume.{TakesBytes, device_of as device_by, form_of};
+ghost use Rattle.image_survey.specs.Facts.{AreFacts};
 ghost use Rattle.image_survey.specs.Surveyed.{
-  AreFactsIn,
+  IsBest,
   IsImageVerdict,
   IsSurveyed,
   agrees as agrees_with,
+  files_of,
   is_image_length as has_image_length,
   is_order as is_order_of,
 };
 
+use crate::disk::disk_digest;
 use crate::facts::{VolumeFacts, facts_on};
 use crate::surveyed::{BestReading, ImageFile, ImageVerdict, Surveyed};
 use a2_device::{BLOCK_BYTES, Order};
-use a2_image::ImageError;
+use a2_image::{Image, ImageError};
 use disk_container::{begins_like_container, container_of, keep_payload};
 use dos_format::Dos33;
 use image_readings::{Choice, best_reading};
@@ -60,21 +65,12 @@ fn agrees(said: Option<Order>, order: Order) -> bool
     }
 }
 
-// What is told of the volume that an image has in this way to read it.
-fn facts_in(
-    alloc: Global,
-    image: Vec<u8>,
-    file_system: FileSystem,
-    order: Order,
-) -> Result<VolumeFacts, AllocError>
-    requires { TakesBytes file_system order (length image.items) }
-    ensures { IfOk result (AreFactsIn image.items file_system order) }
+// What is told of the volume that an image has.
+fn facts_in(alloc: Global, image: Image, file_system: FileSystem) -> Result<VolumeFacts, AllocError>
+    requires { file_system ≡ FileSystem.Dos → IsOfDisk image }
+    ensures { IfOk result (AreFacts (form_of file_system) (files_of file_system) (plain_meaning file_system)
+        (device_by file_system image)) }
 {
-    let image = match open_volume(image, order, file_system) {
-        Ok(image) => image,
-        Err(ImageError::Memory) => return Err(AllocError),
-        Err(_) => unreachable!(),
-    };
     let mut device = device_of(image, file_system);
     match file_system {
         FileSystem::Dos => {
@@ -88,6 +84,31 @@ fn facts_in(
     }
 }
 
+// What is told of an image in the best way to read it.
+fn best_of(
+    alloc: Global,
+    image: Vec<u8>,
+    file_system: FileSystem,
+    order: Order,
+) -> Result<BestReading, AllocError>
+    requires { TakesBytes file_system order (length image.items) }
+    ensures { IfOk result (IsBest image.items file_system order) }
+{
+    let image = match open_volume(image, order, file_system) {
+        Ok(image) => image,
+        Err(ImageError::Memory) => return Err(AllocError),
+        Err(_) => unreachable!(),
+    };
+    let disk = disk_digest(&image);
+    let facts = facts_in(alloc, image, file_system)?;
+    Ok(BestReading {
+        file_system,
+        order,
+        facts,
+        disk,
+    })
+}
+
 // What is found of an image, in a container whose header says an order or in none.
 fn verdict_on(
     alloc: Global,
@@ -98,12 +119,8 @@ fn verdict_on(
 {
     match best_reading(alloc, &mut image, None, None)? {
         Choice::Way { file_system, order } if agrees(said, order) => {
-            let facts = facts_in(alloc, image, file_system, order)?;
-            Ok(ImageVerdict::Best(BestReading {
-                file_system,
-                order,
-                facts,
-            }))
+            let best = best_of(alloc, image, file_system, order)?;
+            Ok(ImageVerdict::Best(best))
         }
         Choice::Way { .. } | Choice::Ambiguous => Ok(ImageVerdict::Ambiguous),
         Choice::Unknown => Ok(ImageVerdict::NoVolume),

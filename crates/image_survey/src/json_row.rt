@@ -173,6 +173,7 @@ impl fmt::Display for StringOrNull<'_> {
 #[derive(Clone, Copy)]
 struct JsonRow<'a> {
     content: Option<[u8; 32]>,
+    disk: Option<[u8; 32]>,
     files: Option<u64>,
     free: Option<u64>,
     file_system: Option<FileSystem>,
@@ -247,9 +248,13 @@ impl fmt::Display for JsonRow<'_> {
     #[tactic(auto, unfolding(json::specs::Print::escape_byte))]
     fn fmt<W: fmt::Write>(&self, f: &mut fmt::Formatter<W>) -> fmt::Result {
         let content = DigestOrNull(self.content);
+        let disk = DigestOrNull(self.disk);
         let files = NumberOrNull(self.files);
         let free_on = FreeOn(self);
-        write!(f, "{{\"content\":{content},\"files\":{files}{free_on}")
+        write!(
+            f,
+            "{{\"content\":{content},\"disk\":{disk},\"files\":{files}{free_on}"
+        )
     }
 }
 
@@ -264,6 +269,7 @@ fn bare_row<'a>(
 {
     JsonRow {
         content: None,
+        disk: None,
         files: None,
         free: None,
         file_system: None,
@@ -301,6 +307,7 @@ fn best_row<'a>(
     let volume = Some(name);
     JsonRow {
         content: digest_in(best.facts.content),
+        disk: best.disk,
         files: Some(u64::from(best.facts.files)),
         free: Some(u64::from(best.facts.free)),
         file_system: Some(best.file_system),

@@ -1,66 +1,141 @@
 // The images that may be the same as another.
-ghost use Rattle.std.specs.Prelude.{◌≡◌, OnOk, OnErr, ◌++◌, map};
+ghost use Rattle.std.specs.Prelude.{
+  ◌≡◌,
+  ◌++◌,
+  ◌∷◌,
+  ◌||◌,
+  [],
+  IfOk,
+  List,
+  OnErr,
+  OnOk,
+};
+ghost use Rattle.std.specs.HashSet.{contains_by};
 ghost use Rattle.image_survey.specs.Told.{
+  AreKept,
+  Candidate,
+  candidate_by,
   candidate_of,
-  candidate_with,
   content_by,
-  content_in as content_found,
+  is_file,
+  is_of_file,
+  key_by,
 };
 
 use crate::content::Content;
-use crate::surveyed::{ImageVerdict, Surveyed};
+use crate::file_id::FileId;
+use crate::likeness::Likeness;
+use crate::surveyed::BestReading;
 use std::alloc::{AllocError, Global};
+use std::collections::HashSet;
 
-/// An image that may be the same as another: its path, and the content of its volume.
+/// An image that may be the same as another, with its path.
 #[derive(Drop)]
 pub struct Kept {
-    pub content: [u8; 32],
+    /// The content of its volume, where that has files and each can be read.
+    pub content: Option<[u8; 32]>,
+    /// The digest of its disk, where no sector and no block is missing.
+    pub disk: Option<[u8; 32]>,
+    /// The file that it stands in, where that is known.
+    pub file: Option<FileId>,
     pub path: String,
 }
 
 // The content of an image that may be the same as another.
-fn content_by(verdict: &ImageVerdict) -> Option<[u8; 32]>
-    ensures { result ≡ content_by verdict.now }
+fn content_by(best: &BestReading) -> Option<[u8; 32]>
+    ensures { result ≡ content_by best.now }
 {
-    match verdict {
-        ImageVerdict::Best(best) => match best.facts.content {
-            Content::Of {
-                sha256,
-                whole: true,
-            } if best.facts.files > 0 => Some(sha256),
-            Content::Of { .. } | Content::TooLarge => None,
-        },
-        ImageVerdict::Ambiguous | ImageVerdict::NoVolume => None,
+    match best.facts.content {
+        Content::Of {
+            sha256,
+            whole: true,
+        } if best.facts.files > 0 => Some(sha256),
+        Content::Of { .. } | Content::TooLarge => None,
     }
 }
 
-/// The content of the image of a file, where it may be the same as another: its volume has files, and each can be read.
-pub(crate) fn content_in(found: &Surveyed) -> Option<[u8; 32]>
-    ensures { result ≡ content_found found.now }
-{
-    match found {
-        Surveyed::Image(image) => content_by(&image.verdict),
-        Surveyed::Other | Surveyed::Unread => None,
-    }
-}
-
-/// Keeps a file with this path and this content, where it has one.
-///
-/// # Errors
-/// Want of memory; then none is kept.
-pub(crate) fn keep(
-    alloc: Global,
-    kept: &mut Vec<Kept>,
-    content: Option<[u8; 32]>,
-    path: &str,
-) -> Result<(), AllocError>
-    ensures kept { OnOk result (map candidate_of kept.new.items
-        ≡ map candidate_of kept.old.items ++ candidate_with content path.now) }
-    ensures unchanged { OnErr result (kept.new.items ≡ kept.old.items) }
-{
-    if let Some(content) = content {
+impl Kept {
+    // The image of a file with a best reading.
+    fn of(
+        alloc: Global,
+        path: &str,
+        file: Option<FileId>,
+        best: &BestReading,
+    ) -> Result<Kept, AllocError>
+        ensures { IfOk result (λ image. candidate_of image ≡ candidate_by path.now file best.now) }
+    {
         let path = String::from_str(alloc, path)?;
-        kept.push(Kept { content, path })?;
+        Ok(Kept {
+            content: content_by(best),
+            disk: best.disk,
+            file,
+            path,
+        })
     }
-    Ok(())
+
+    /// What an image and those that are the same as it have alike.
+    pub(crate) fn key(&self, likeness: Likeness) -> Option<[u8; 32]>
+        ensures { result ≡ key_by likeness (candidate_of self.now) }
+    {
+        match likeness {
+            Likeness::Files => self.content,
+            Likeness::Disk => self.disk,
+        }
+    }
+}
+
+/// The images that may be the same as another, of each file the first that was found.
+#[derive(Drop)]
+pub struct Images {
+    pub kept: Vec<Kept>,
+    pub files: HashSet<FileId>,
+}
+
+// Notes a file, and answers whether it is known and was noted before.
+fn is_again(files: &mut HashSet<FileId>, file: Option<FileId>) -> Result<bool, AllocError>
+    ensures again { IfOk result (λ again. again ≡ contains_by (is_of_file file) files.old) }
+    ensures noted { OnOk result ((other : FileId) → contains_by (is_file other) files.new
+        ≡ (contains_by (is_file other) files.old || is_of_file file other)) }
+    ensures same { OnErr result ((other : FileId) → contains_by (is_file other) files.new
+        ≡ contains_by (is_file other) files.old) }
+{
+    match file {
+        Some(file) => Ok(!files.insert(file)?),
+        None => Ok(false),
+    }
+}
+
+impl Images {
+    /// None.
+    pub(crate) fn none(alloc: Global) -> Images
+        ensures { AreKept [] result }
+    {
+        Images {
+            kept: Vec::new(alloc),
+            files: HashSet::new(alloc),
+        }
+    }
+
+    /// Adds the image of a file with a best reading, unless it is a file whose image was added before.
+    ///
+    /// # Errors
+    /// Want of memory; then none is added.
+    pub(crate) fn add(
+        &mut self,
+        alloc: Global,
+        path: &str,
+        file: Option<FileId>,
+        best: &BestReading,
+    ) -> Result<(), AllocError>
+        ensures added { OnOk result ((found : List Candidate) → AreKept found self.old
+            → AreKept (found ++ candidate_by path.now file best.now ∷ []) self.new) }
+        ensures same { OnErr result ((found : List Candidate) → AreKept found self.old → AreKept found self.new) }
+    {
+        let image = Kept::of(alloc, path, file, best)?;
+        self.kept.reserve(1)?;
+        if !is_again(&mut self.files, file)? {
+            self.kept.push(image)?;
+        }
+        Ok(())
+    }
 }

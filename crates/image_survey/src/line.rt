@@ -2,24 +2,26 @@
 ghost use Rattle.std.specs.Prelude.{◌≡◌, Some, slice_index};
 ghost use Rattle.image_survey.specs.Lines.{
   best_text,
-  counts_text,
   digest_in,
   file_text,
   found_text,
   image_text,
-  later_text,
+  images_text,
   number_text,
   numbers_text,
+  others_text,
   reading_text,
+  same_counts_text,
   same_text,
   totals_text,
   volume_text,
 };
 
 use crate::content::Content;
-use crate::counts::Counts;
+use crate::counts::{Counts, Totals};
 use crate::facts::VolumeFacts;
 use crate::file_line::DigestText;
+use crate::likeness::Likeness;
 use crate::surveyed::{BestReading, ImageVerdict, Surveyed};
 use image_readings::{file_system_word, order_word};
 use row_text::{LowerHex, ShownBytes};
@@ -205,83 +207,85 @@ impl fmt::Display for FileText<'_> {
 /// The line of an image that is the same as another, with its path as it is shown, without its end.
 #[derive(Clone, Copy)]
 pub(crate) struct SameText<'a> {
+    pub(crate) likeness: Likeness,
     pub(crate) group: usize,
     pub(crate) path: &'a str,
 }
 
 impl fmt::Display for SameText<'_> {
-    ghost output = { λ t. Some (same_text t.group t.path.now) };
+    ghost output = { λ t. Some (same_text t.likeness t.group t.path.now) };
 
     fn fmt<W: fmt::Write>(&self, f: &mut fmt::Formatter<W>) -> fmt::Result {
-        let SameText { group, path } = self;
-        write!(f, "SAME {group} {path}")
+        let SameText { group, path, .. } = self;
+        match self.likeness {
+            Likeness::Files => write!(f, "SAME {group} {path}"),
+            Likeness::Disk => write!(f, "TWIN {group} {path}"),
+        }
     }
 }
 
-// How many files there are of each kind but the first two, and how many are the same as another.
+// How many images there are of each kind.
 #[derive(Clone, Copy)]
-struct LaterText {
-    counts: Counts,
-    same: usize,
-}
+struct ImagesText(Counts);
 
-impl fmt::Display for LaterText {
-    ghost output = { λ t. Some (later_text t.counts t.same) };
-
-    fn fmt<W: fmt::Write>(&self, f: &mut fmt::Formatter<W>) -> fmt::Result {
-        let Counts {
-            none,
-            other,
-            unread,
-            ..
-        } = self.counts;
-        let same = self.same;
-        write!(f, "none {none} other {other} unread {unread} same {same}")
-    }
-}
-
-// How many files there are of each kind, and how many are the same as another.
-#[derive(Clone, Copy)]
-struct CountsText {
-    counts: Counts,
-    same: usize,
-}
-
-impl fmt::Display for CountsText {
-    ghost output = { λ t. Some (counts_text t.counts t.same) };
+impl fmt::Display for ImagesText {
+    ghost output = { λ t. Some (images_text t.0) };
 
     fn fmt<W: fmt::Write>(&self, f: &mut fmt::Formatter<W>) -> fmt::Result {
         let Counts {
             best,
             ambiguous,
+            none,
             ..
-        } = self.counts;
-        let later = LaterText {
-            counts: self.counts,
-            same: self.same,
-        };
-        write!(f, "best {best} ambiguous {ambiguous} {later}")
+        } = self.0;
+        write!(f, "best {best} ambiguous {ambiguous} none {none}")
+    }
+}
+
+// How many files are no images or can't be read.
+#[derive(Clone, Copy)]
+struct OthersText(Counts);
+
+impl fmt::Display for OthersText {
+    ghost output = { λ t. Some (others_text t.0) };
+
+    fn fmt<W: fmt::Write>(&self, f: &mut fmt::Formatter<W>) -> fmt::Result {
+        let Counts { other, unread, .. } = self.0;
+        write!(f, "other {other} unread {unread}")
+    }
+}
+
+// How many lines tell that an image is the same as another, and how much was passed over.
+#[derive(Clone, Copy)]
+struct SameCountsText(Totals);
+
+impl fmt::Display for SameCountsText {
+    ghost output = { λ t. Some (same_counts_text t.0) };
+
+    fn fmt<W: fmt::Write>(&self, f: &mut fmt::Formatter<W>) -> fmt::Result {
+        let Totals {
+            same,
+            twins,
+            passed,
+            ..
+        } = self.0;
+        write!(f, "same {same} twin {twins} passed {passed}")
     }
 }
 
 /// The last line, without its end.
 #[derive(Clone, Copy)]
-pub(crate) struct TotalsText {
-    /// How many files there are.
-    pub(crate) files: u128,
-    pub(crate) counts: Counts,
-    pub(crate) same: usize,
-}
+pub(crate) struct TotalsText(pub(crate) Totals);
 
 impl fmt::Display for TotalsText {
-    ghost output = { λ t. Some (totals_text t.files t.counts t.same) };
+    ghost output = { λ t. Some (totals_text t.0) };
 
     fn fmt<W: fmt::Write>(&self, f: &mut fmt::Formatter<W>) -> fmt::Result {
-        let files = self.files;
-        let counts = CountsText {
-            counts: self.counts,
-            same: self.same,
-        };
-        write!(f, "SURVEYED files {files} {counts}")
+        let counts = self.0.counts;
+        let files = counts.total();
+        let images = ImagesText(counts);
+        let others = OthersText(counts);
+        let same = SameCountsText(self.0);
+        write!(f, "SURVEYED files {files} {images} {others} {same}")
     }
 }

@@ -9,6 +9,7 @@ ghost use Rattle.std.specs.Prelude.{
   List,
   OnErr,
   OnOk,
+  Option,
   flat_map,
   map,
   string_bytes,
@@ -23,14 +24,17 @@ ghost use Rattle.image_survey.specs.Survey.{
   file_line as line_of_file,
   last_line as line_of_all,
   same_line as line_of_same,
+  same_lines_text,
 };
 ghost use Rattle.image_survey.specs.Told.{Told, candidate_of};
 
-use crate::counts::Counts;
+use crate::counts::{Counts, Totals};
 use crate::error::SurveyError;
+use crate::file_id::FileId;
 use crate::json_row::file_json;
 use crate::json_totals::{JsonTotals, same_json};
-use crate::kept::{Kept, content_in, keep};
+use crate::kept::{Images, Kept};
+use crate::likeness::Likeness;
 use crate::line::{FileText, SameText, TotalsText};
 use crate::same::{SameLine, same_lines};
 use crate::surveyed::Surveyed;
@@ -48,7 +52,7 @@ const FAILED: u8 = 4;
 pub struct Survey {
     form: SurveyForm,
     counts: Counts,
-    kept: Vec<Kept>,
+    images: Images,
 }
 
 // The line of a file.
@@ -58,8 +62,8 @@ fn file_line(
     path: &str,
     found: &Surveyed,
 ) -> Result<String, AllocError>
-    ensures { IfOk result (λ text. string_bytes text
-        ≡ line_of_file form (record { path = path.now; found = found.now })) }
+    ensures { (file : Option FileId) → IfOk result (λ text. string_bytes text
+        ≡ line_of_file form (record { path = path.now; file = file; found = found.now })) }
 {
     match form {
         SurveyForm::Lines => {
@@ -88,46 +92,38 @@ fn path_of(kept: &[Kept], image: usize) -> &str
 fn same_line(
     alloc: Global,
     form: SurveyForm,
+    likeness: Likeness,
     kept: &[Kept],
     same: SameLine,
 ) -> Result<String, AllocError>
-    ensures { IfOk result (λ text. string_bytes text ≡ line_of_same form (map candidate_of kept.now) same) }
+    ensures { IfOk result (λ text. string_bytes text ≡ line_of_same form likeness (map candidate_of kept.now) same) }
 {
     let path = path_of(kept, same.image);
     match form {
         SurveyForm::Lines => {
             let path = escaped(alloc, path)?;
             let told = SameText {
+                likeness,
                 group: same.group,
                 path: path.as_str(),
             };
             format!(in alloc; "{told}\n")
         }
-        SurveyForm::Json => same_json(alloc, same.group, path),
+        SurveyForm::Json => same_json(alloc, likeness, same.group, path),
     }
 }
 
 // The last line.
-fn last_line(
-    alloc: Global,
-    form: SurveyForm,
-    counts: Counts,
-    same: usize,
-) -> Result<String, AllocError>
-    ensures { IfOk result (λ text. string_bytes text ≡ line_of_all form counts same) }
+fn last_line(alloc: Global, form: SurveyForm, totals: Totals) -> Result<String, AllocError>
+    ensures { IfOk result (λ text. string_bytes text ≡ line_of_all form totals) }
 {
     match form {
         SurveyForm::Lines => {
-            let files = counts.total();
-            let told = TotalsText {
-                files,
-                counts,
-                same,
-            };
+            let told = TotalsText(totals);
             format!(in alloc; "{told}\n")
         }
         SurveyForm::Json => {
-            let told = JsonTotals { counts, same };
+            let told = JsonTotals(totals);
             format!(in alloc; "{told}\n")
         }
     }
@@ -138,16 +134,17 @@ fn last_line(
 fn write_same<T: Write>(
     alloc: Global,
     form: SurveyForm,
+    likeness: Likeness,
     kept: &[Kept],
     same: SameLine,
     text: &mut T,
 ) -> bool
     ensures whole { IsTrue result → Appends (T.contents text.old) (T.contents text.new)
-        (line_of_same form (map candidate_of kept.now) same) }
+        (line_of_same form likeness (map candidate_of kept.now) same) }
     ensures front { AppendsFront (T.contents text.old) (T.contents text.new)
-        (line_of_same form (map candidate_of kept.now) same) }
+        (line_of_same form likeness (map candidate_of kept.now) same) }
 {
-    match same_line(alloc, form, kept, same) {
+    match same_line(alloc, form, likeness, kept, same) {
         Ok(line) => write_whole(line.as_bytes(), text),
         Err(_) => false,
     }
@@ -158,21 +155,43 @@ fn write_same<T: Write>(
 fn write_lines<T: Write>(
     alloc: Global,
     form: SurveyForm,
+    likeness: Likeness,
     kept: &[Kept],
     lines: &[SameLine],
     text: &mut T,
 ) -> bool
     ensures whole { IsTrue result → Appends (T.contents text.old) (T.contents text.new)
-        (flat_map (line_of_same form (map candidate_of kept.now)) lines.now) }
+        (flat_map (line_of_same form likeness (map candidate_of kept.now)) lines.now) }
     ensures front { AppendsFront (T.contents text.old) (T.contents text.new)
-        (flat_map (line_of_same form (map candidate_of kept.now)) lines.now) }
+        (flat_map (line_of_same form likeness (map candidate_of kept.now)) lines.now) }
 {
     for same in lines {
-        if !write_same(alloc, form, kept, *same, text) {
+        if !write_same(alloc, form, likeness, kept, *same, text) {
             return false;
         }
     }
     true
+}
+
+// Writes the lines of the images that have the files of another, and behind them those of the images that have the disk
+// of another, or as much of them as the writer takes, and answers whether it took all.
+fn write_all_lines<T: Write>(
+    alloc: Global,
+    form: SurveyForm,
+    kept: &[Kept],
+    same: &[SameLine],
+    twins: &[SameLine],
+    text: &mut T,
+) -> bool
+    ensures whole { IsTrue result → Appends (T.contents text.old) (T.contents text.new)
+        (same_lines_text form (map candidate_of kept.now) same.now twins.now) }
+    ensures front { AppendsFront (T.contents text.old) (T.contents text.new)
+        (same_lines_text form (map candidate_of kept.now) same.now twins.now) }
+{
+    if !write_lines(alloc, form, Likeness::Files, kept, same, text) {
+        return false;
+    }
+    write_lines(alloc, form, Likeness::Disk, kept, twins, text)
 }
 
 impl Survey {
@@ -184,26 +203,35 @@ impl Survey {
         Survey {
             form,
             counts: Counts::none(),
-            kept: Vec::new(alloc),
+            images: Images::none(alloc),
         }
     }
 
     // Notes what was found of one more file.
-    fn note(&mut self, alloc: Global, path: &str, found: &Surveyed) -> Result<(), AllocError>
+    fn note(
+        &mut self,
+        alloc: Global,
+        path: &str,
+        file: Option<FileId>,
+        found: &Surveyed,
+    ) -> Result<(), AllocError>
         ensures form { self.new.form ≡ self.old.form }
         ensures noted { OnOk result ((told : List Told) → IsSurveyOf told self.old
-            → IsSurveyOf (told ++ (record { path = path.now; found = found.now }) ∷ []) self.new) }
+            → IsSurveyOf (told ++ (record { path = path.now; file = file; found = found.now }) ∷ []) self.new) }
         ensures same { OnErr result ((told : List Told) → IsSurveyOf told self.old → IsSurveyOf told self.new) }
     {
         let Some(counts) = self.counts.with(found) else {
             return Err(AllocError);
         };
-        keep(alloc, &mut self.kept, content_in(found), path)?;
+        if let Some(best) = found.best() {
+            self.images.add(alloc, path, file, best)?;
+        }
         self.counts = counts;
         Ok(())
     }
 
-    /// Tells what was found of one more file, with its path, on a line.
+    /// Tells what was found of one more file, with its path, on a line. Paths that lead to one file are told apart by
+    /// the file, where it is known: only the first of them may be told to be the same as another.
     ///
     /// # Errors
     /// `Memory`, and then nothing is told and the survey is as it was; more than 2^64 - 1 files of a kind count as
@@ -212,15 +240,16 @@ impl Survey {
         &mut self,
         alloc: Global,
         path: &str,
+        file: Option<FileId>,
         found: &Surveyed,
         text: &mut T,
     ) -> Result<(), SurveyError>
-        ensures told { IsTelling (record { path = path.now; found = found.now }) self.old self.new
+        ensures told { IsTelling (record { path = path.now; file = file; found = found.now }) self.old self.new
             (T.contents text.old) (T.contents text.new) result }
         ensures form { self.new.form ≡ self.old.form }
     {
         let line = file_line(alloc, self.form, path, found)?;
-        self.note(alloc, path, found)?;
+        self.note(alloc, path, file, found)?;
         if write_whole(line.as_bytes(), text) {
             Ok(())
         } else {
@@ -228,21 +257,37 @@ impl Survey {
         }
     }
 
-    /// Tells which images are the same as another and how many files there are of each kind, flushes the writer, and
-    /// answers the status: 0, or 1 where an image has no best reading or no volume, or a file could not be read; 4
-    /// where the writer fails or there is no memory.
-    pub fn end<T: Write>(self, alloc: Global, text: &mut T) -> u8
+    /// Tells which images have the files of another, which have the disk of another, how many files there are of each
+    /// kind, and that so many things were passed over; flushes the writer, and answers the status: 0, or 1 where an
+    /// image has no best reading or no volume, or a file could not be read; 4 where the writer fails or there is no
+    /// memory.
+    pub fn end<T: Write>(self, alloc: Global, passed: u64, text: &mut T) -> u8
         ensures { (told : List Told) → IsSurveyOf told self
-            → IsEnded self.form told result (T.contents text.old) (T.contents text.new) }
+            → IsEnded self.form told passed result (T.contents text.old) (T.contents text.new) }
     {
-        let Survey { form, counts, kept } = self;
-        let Ok(lines) = same_lines(alloc, kept.as_slice()) else {
+        let Survey {
+            form,
+            counts,
+            images,
+        } = self;
+        let Images { kept, .. } = images;
+        let Ok(same) = same_lines(alloc, kept.as_slice(), Likeness::Files) else {
             return FAILED;
         };
-        if !write_lines(alloc, form, kept.as_slice(), lines.as_slice(), text) {
+        let Ok(twins) = same_lines(alloc, kept.as_slice(), Likeness::Disk) else {
+            return FAILED;
+        };
+        let (same, twins) = (same.as_slice(), twins.as_slice());
+        if !write_all_lines(alloc, form, kept.as_slice(), same, twins, text) {
             return FAILED;
         }
-        match last_line(alloc, form, counts, lines.len()) {
+        let totals = Totals {
+            counts,
+            same: same.len(),
+            twins: twins.len(),
+            passed,
+        };
+        match last_line(alloc, form, totals) {
             Ok(line) => written(line.as_bytes(), counts.status(), text),
             Err(_) => FAILED,
         }

@@ -1,4 +1,7 @@
 // What is found of the bytes of a file.
+ghost use Rattle.std.specs.Prelude.{◌≡◌, option_map};
+ghost use Rattle.image_survey.specs.Told.{best_in};
+
 use crate::content::Content;
 use crate::facts::VolumeFacts;
 use a2_device::Order;
@@ -10,6 +13,8 @@ pub struct BestReading {
     pub file_system: FileSystem,
     pub order: Order,
     pub facts: VolumeFacts,
+    /// The digest of the disk, where no sector and no block of it is missing.
+    pub disk: Option<[u8; 32]>,
 }
 
 /// What is found of an image.
@@ -41,4 +46,21 @@ pub enum Surveyed {
     Other,
     /// It can't be read.
     Unread,
+}
+
+impl Surveyed {
+    /// The best way to read the image in the file, if there is one.
+    pub(crate) fn best(&self) -> Option<&BestReading>
+        ensures { best_in self.now ≡ option_map (λ best. best.now) result }
+    {
+        match self {
+            Surveyed::Image(
+                ImageFile {
+                    verdict: ImageVerdict::Best(best),
+                    ..
+                },
+            ) => Some(best),
+            _ => None,
+        }
+    }
 }

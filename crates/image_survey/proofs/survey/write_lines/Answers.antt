@@ -8,13 +8,13 @@ use Rattle.image_survey.proofs.survey.write_lines.Goals as goal
 
 pub returns-then-not-write_same-clause-front : goal.returns-then-not-write_same-clause-front
 returns-then-not-write_same-clause-front g c =
-    let line : SameLine → List _ = same_line c.args.form (map candidate_of c.args.kept.now) in
+    let line : SameLine → List _ = same_line c.args.form c.args.likeness (map candidate_of c.args.kept.now) in
     texts_stopped line c.args.lines.now (record { group = 0; image = 0 }) c.loop-same.same-index (g.T.Write.contents c.args.text.now)
     (g.T.Write.contents c.loop-same.text) (g.T.Write.contents c.write_same.new.text) c.loop-same-test.true c.loop-same.invariant c.write_same.ensures.front
 
 pub returns-clause-front : goal.returns-clause-front
 returns-clause-front g c =
-    let line : SameLine → List _ = same_line c.args.form (map candidate_of c.args.kept.now) in
+    let line : SameLine → List _ = same_line c.args.form c.args.likeness (map candidate_of c.args.kept.now) in
     let old = g.T.Write.contents c.args.text.now in
     let new = g.T.Write.contents c.loop-same.text in
     all_front old new (flat_map line c.args.lines.now)
