@@ -31,6 +31,8 @@ MOST_INPUT = 16_777_216
 # The kind of DOS 3.3 for each type that can be saved.
 KINDS = {0x04: 0x00, 0xFA: 0x01, 0xFC: 0x02, 0x06: 0x04, 0xF2: 0x08, 0xFE: 0x10}
 FORMS = {0x04: "text", 0xFC: "applesoft"}
+# The type of directories.
+DIRECTORY = 0x0F
 HEXADECIMAL, DIGITS = set("0123456789abcdefABCDEF"), set("0123456789")
 LETTERS = set("abcdefghijklmnopqrstuvwxyzABCDEFGHIJKLMNOPQRSTUVWXYZ0123456789")
 
@@ -425,7 +427,7 @@ class Adding:
 
     def weigh_file(self, entry, above, last):
         said, names = file_says(self.file_system, last), [folder_says(self.file_system, part) for part in above]
-        if said is None or None in names:
+        if said is None or None in names or said.type == DIRECTORY:
             refuse("Host", told_host(entry.host))
         if said.readable and entry.host[:-len(READABLE)] in self.files:
             self.passed.append(entry)
@@ -468,15 +470,27 @@ class Adding:
             refuse(str(reason), told_host(entry.host))
 
     # -- its bytes
-    def save(self, item):
+    def read(self, entry):
+        """The bytes of the file of an entry."""
         try:
-            with open(item.entry.path, "rb") as file:
+            with open(entry.path, "rb") as file:
                 data = file.read(MOST_INPUT + 1)
         except OSError:
             fail_input()
-        host = told_host(item.entry.host)
         if len(data) > MOST_INPUT:
-            refuse("InputTooLong", host)
+            refuse("InputTooLong", told_host(entry.host))
+        return data
+
+    def weigh_beside(self, item, data):
+        """Refuses the readable form that stands beside a file and does not give its bytes."""
+        for beside in self.passed:
+            if beside.host == item.entry.host + READABLE:
+                if not gives_back(self.file_system, FORMS[item.type], self.read(beside), data):
+                    refuse("Differs", told_host(beside.host))
+
+    def save(self, item):
+        data, host = self.read(item.entry), told_host(item.entry.host)
+        self.weigh_beside(item, data)
         if item.readable:
             data = self.taken(item, data, host)
         try:
@@ -493,6 +507,14 @@ class Adding:
         if isinstance(taken, int):
             refuse("Text", str(taken), host)
         return taken
+
+
+def gives_back(file_system, form, text, data):
+    """Whether just the bytes of a file are taken from a readable form of it."""
+    if form == "applesoft":
+        return texts.applesoft_tokens(text) == data
+    front = data.partition(b"\0")[0] if file_system == "dos" else data
+    return texts.taken_text(text, front[:1] >= b"\x80", True) == front and not any(data[len(front):])
 
 
 def low_letters(name):
@@ -525,6 +547,8 @@ class Maker:
     def __init__(self, chance, file_system, spoiled, places):
         self.chance, self.file_system, self.spoiled = chance, file_system, spoiled
         self.places = places
+        # How many of the readable forms that stand beside their files were changed.
+        self.changed = chance.choice([0, 0, 0.2, 1])
 
     def stem(self):
         chance = self.chance
@@ -583,6 +607,8 @@ class Maker:
                 self.put_file(folder, chance.choice(HIDDEN))
             elif kind < 0.06 + self.spoiled / 6:
                 self.put_odd(folder)
+            elif kind < 0.3 + self.spoiled / 6:
+                self.put_pair(folder)
             elif kind > 1 - (0.2 if self.file_system == "prodos" else self.spoiled / 8) / (depth + 1):
                 self.put_folder(folder, depth)
             else:
@@ -594,8 +620,21 @@ class Maker:
         if "/" in name or name in ("", ".", ".."):
             return
         self.put_file(folder, name)
-        if self.chance.random() < 0.15:
+        if self.chance.random() < 0.05:
             self.put_file(folder, name[:-len(READABLE)] if name.endswith(READABLE) else name + READABLE)
+
+    def put_pair(self, folder):
+        """A file with its readable form beside it, which now and then was changed."""
+        chance = self.chance
+        name = self.stem() + chance.choice(["#040000", "#04FFFF", "#fc0801", "#FC1000"])
+        path = os.path.join(folder, name)
+        if "/" in name or "\0" in name or os.path.lexists(path) or os.path.lexists(path + READABLE):
+            return
+        text = self.data(name + READABLE)
+        taken = texts.applesoft_tokens(text) if is_listing(name) else texts.taken_text(text, chance.random() < 0.5, True)
+        data = chance.randbytes(9) if isinstance(taken, int) else taken
+        put(path, data + bytes(chance.choice([0, 0, 1, 200])) if self.file_system == "dos" else data)
+        put(path + READABLE, changed_text(chance, text) if chance.random() < self.changed else text)
 
     def put_folder(self, folder, depth):
         chance = self.chance
@@ -606,6 +645,14 @@ class Maker:
         os.mkdir(path)
         if chance.random() < 0.75:
             self.fill(path, depth + 1)
+
+
+def changed_text(chance, text):
+    """A readable form as somebody has changed it: edited, cut, emptied, or that of another file."""
+    at = chance.randrange(len(text) + 1)
+    return chance.choice([
+        text[:at] + b"A" + text[at:], text[:at] + b"A" + text[at + 1:], text + b"\n", text[:at], text[at:], b"",
+        random_texts.a_text(chance), random_texts.a_program_text(chance), text.replace(b"\n", b"\r\n"), text.lower()])
 
 
 def is_listing(name):
@@ -771,6 +818,8 @@ class Trial:
         alone = forms and chance.random() < 0.3
         if alone:
             leave_readable()
+        elif forms and chance.random() < 0.3:
+            change_one(chance)
         sound = self.run("check", "source", *way)[0] == 0
         request = self.empty_target(chance, maker, order, sound)
         wrong, is_added = self.add(chance, request)
@@ -799,6 +848,14 @@ def leave_readable():
         for name in files:
             if name + READABLE in files:
                 os.remove(os.path.join(above, name))
+
+
+def change_one(chance):
+    """Changes one of the readable forms of a folder."""
+    paths = sorted(os.path.join(above, name) for above, _, files in os.walk("from") for name in files if name.endswith(READABLE))
+    if paths:
+        path = chance.choice(paths)
+        put(path, changed_text(chance, content(path)))
 
 
 def source_maker(chance):

@@ -1,7 +1,6 @@
 -- The files beside which others stand.
-use Rattle.std.proofs.Common.{◌≡◌, ◌≢◌, ◌<◌, ◌∙◌, ◌+◌, ℕ, List, [], ◌∷◌, ◌++◌, ap, ap₂, sym, refl, length, get_or, take, codes, true, false}
+use Rattle.std.proofs.Common.{◌≡◌, ◌≢◌, ◌<◌, ◌∙◌, ◌+◌, ℕ, List, [], ◌∷◌, ap, ap₂, sym, refl, length, get_or, take, codes, true, false}
 use Rattle.std.specs.Prelude.{◌&&◌, ◌||◌, Bool, cond, map, string_bytes}
-use Rattle.std.specs.List.{list_any}
 use Rattle.std.specs.Str.{bytes_eq}
 use Rattle.std.proofs.lemmas.Bool.{and_right, false_from_ne_true}
 use Rattle.std.proofs.lemmas.Bool.Decides.{Decides-like, same_from_decides}
@@ -14,7 +13,7 @@ use Rattle.folder_adding.specs.declared.host_entry.HostKind.{HostKind}
 use Rattle.folder_adding.specs.declared.host_entry.HostKind.TheVariants.{File, Folder, Other}
 
 -- two paths are equal where their readable forms are
-same_beside : (one other : List ℕ) → bytes_eq one other ≡ bytes_eq (readable_path one) (readable_path other)
+pub same_beside : (one other : List ℕ) → bytes_eq one other ≡ bytes_eq (readable_path one) (readable_path other)
 same_beside one other =
     same_from_decides (bytes_eq one other) (bytes_eq (readable_path one) (readable_path other)) (bytes_eq-Decides one other)
     (Decides-like (bytes_eq (readable_path one) (readable_path other)) (append_cancel_right one other (codes ".utf8.txt")) (ap readable_path)
@@ -36,7 +35,7 @@ beside_none (entry ∷ entries) path none =
     and_right (is_file entry.kind) (bytes_eq path (readable_path entry.path)) other in
     beside_none entries path none ∙ ap (λ (b : Bool). b || has_file_beside entries path) (sym here)
 
-turned : (one other : List ℕ) → bytes_eq one other ≡ bytes_eq other one
+pub turned : (one other : List ℕ) → bytes_eq one other ≡ bytes_eq other one
 turned one other =
     same_from_decides (bytes_eq one other) (bytes_eq other one) (bytes_eq-Decides one other)
     (Decides-like (bytes_eq other one) sym sym (bytes_eq-Decides other one))

@@ -1,6 +1,6 @@
 -- Directories that are there or are made, one after the other.
-use Rattle.std.proofs.Common.{◌≡◌, ◌≢◌, ◌∙◌, ◌+◌, ◌<◌, ◌≤◌, ℕ, Bool, suc, List, [], ◌∷◌, ◌++◌, refl, sym, ap, subst, arith, inl, inr, length, take, take_all}
-use Rattle.std.specs.Prelude.{true, false, IsTrue, OnOk, Result, Ok, drop, slice_index_or}
+use Rattle.std.proofs.Common.{◌≡◌, ◌∙◌, ◌+◌, ◌<◌, ◌≤◌, ℕ, Bool, suc, List, [], ◌∷◌, ◌++◌, refl, sym, ap, subst, arith, inl, inr, length, take, take_all}
+use Rattle.std.specs.Prelude.{true, false, IsTrue, OnOk, Result, drop, slice_index_or}
 use Rattle.std.proofs.lemmas.List.{length-take, take_more}
 use Rattle.std.proofs.Math.Seq.{split_at}
 use Rattle.a2_device.specs.Device.{DeviceState, IsSameDevice}
@@ -8,10 +8,8 @@ use Rattle.file_edits.specs.Directories.{DirectoryMeaning, KeepsFiles}
 use Rattle.edit_formats.specs.declared.error.EditError.{EditError}
 use Rattle.folder_adding.specs.Directories.{AreKept, HasDirectories, HasKept, HasNoDirectory, IsKept, IsLooked, IsMadeAnew, IsNotKept, KeepFiles, KeepsVolume, Making, making_by}
 use Rattle.folder_adding.specs.HostPaths.{Text}
-use Rattle.folder_adding.specs.declared.adding.Refused.{Refused}
 use Rattle.folder_adding.proofs.Outcomes.{tells_changed}
 use Rattle.folder_adding.proofs.Same.{same_on}
-use Rattle.pro_dir.specs.declared.date.ProDate.{ProDate}
 use Rattle.shop_replies.specs.declared.reply.Reply.{Reply}
 use Rattle.vol_format.specs.Accepted.{IsVolume}
 use Rattle.vol_format.specs.Meaning.{Meaning}
@@ -117,7 +115,7 @@ module _ (making : Making) (keeps : KeepsFiles making.format making.directories)
       volume = λ honest. (one_keeps making keeps path mid.store new.store (so_far.volume honest) (kept_stored making path mid new (still_honest honest) kept)).volume;
     }
 
-    pub stopped_at : (reply : Reply) → IsNotKept making path mid new reply → HasNoDirectory making paths old new (record { item = number; reply = reply })
+    pub stopped_at : (reply : Reply) → IsNotKept making path mid new reply → HasNoDirectory making paths old new (record { directory = number; reply = reply })
     stopped_at reply refusal = record {
       before = take number paths;
       path = path;

@@ -6,10 +6,13 @@ mod Looked
 mod KeptDirectories
 mod OneSaid
 mod Outcomes
+mod PassedBeside
 mod PathParts
+mod PathsBeside
 mod PlanSteps
 mod Replies
 mod SaidAlone
+mod SecondsBeside
 mod Same
 mod Shown
 mod Steps

@@ -1,11 +1,11 @@
 -- An entry is weighed in one way.
-use Rattle.std.proofs.Common.{◌≡◌, ◌⊎◌, ◌∙◌, inl, inr, ℕ, List, [], ◌∷◌, ap, ap₂, sym, subst, refl, true, false}
-use Rattle.std.specs.Prelude.{Bool, Option, Some, None, Ok, Err, cond}
-use Rattle.std.proofs.lemmas.Bool.{cond-false, cond-true}
+use Rattle.std.proofs.Common.{◌≡◌, ◌⊎◌, ◌∙◌, inl, inr, ℕ, List, [], ◌∷◌, ap, ap₂, sym, refl, false}
+use Rattle.std.specs.Prelude.{◌==◌, Option, Some, None, Ok, Err, cond}
+use Rattle.std.proofs.lemmas.Bool.{cond-false, cond-true, ne_eqb}
 use Rattle.folder_adding.specs.HostEntries.{EntryView}
 use Rattle.folder_adding.specs.HostPaths.{SaidDirectory, SaidPath, SayPartsIn, SaysDirectory, SaysPath, Text, are_pro_names, may_have, parts}
 use Rattle.folder_adding.specs.OneVerdict.{HasOneVerdict}
-use Rattle.folder_adding.specs.Verdicts.{AddedFolder, IsFileVerdict, IsFolderVerdict, Verdict, adds, passes, is_directory, is_item, is_second, item_said, making_said, no_directory, no_directory_name, no_name, no_path, no_type, second_form}
+use Rattle.folder_adding.specs.Verdicts.{AddedFolder, IsFileVerdict, IsFolderVerdict, Verdict, adds, passes, is_directory, SaysPlainFile, directory_type, is_item, is_second, item_said, making_said, no_directory, no_directory_name, no_name, no_path, no_plain_file, no_type, second_form}
 use Rattle.folder_adding.specs.Verdicts.{IsVerdictOf}
 use Rattle.folder_adding.specs.declared.host_entry.HostKind.{HostKind}
 use Rattle.folder_adding.specs.declared.host_entry.HostKind.TheVariants.{File, Folder, Other}
@@ -89,15 +89,24 @@ module _ (folder : AddedFolder) (path : Text) where
   -- what becomes of a file that gets this type, or none
   of_type : SaidPath → Option ℕ → Verdict
   of_type file None = Err refusals.Type
-  of_type file (Some kind) = cond (may_have folder.file_system file) (Ok (adds (item_said folder file kind))) (Err refusals.Name)
+  of_type file (Some kind) = cond (may_have folder.file_system file) (Ok (adds (item_said folder path file kind))) (Err refusals.Name)
+
+  -- what becomes of one whose path says this, and not the type of directories
+  of_plain : SaidPath → Verdict
+  of_plain file = cond (is_second folder path file) (Ok passes) (of_type file (kind_for folder.file_system file.file.file_type))
 
   -- what becomes of a file whose path says this
   of_path : SaidPath → Verdict
-  of_path file = cond (is_second folder path file) (Ok passes) (of_type file (kind_for folder.file_system file.file.file_type))
+  of_path file = cond (file.file.file_type == directory_type) (Err refusals.Host) (of_plain file)
+
+  plain : (file : SaidPath) → SaysPlainFile folder.file_system path file → of_path file ≡ of_plain file
+  unfolding of_path
+  plain file says =
+      cond-false (file.file.file_type == directory_type) (Err refusals.Host) (of_plain file) (ne_eqb file.file.file_type directory_type says.1)
 
   first_form : (file : SaidPath) (type : Option ℕ) → is_second folder path file ≡ false → kind_for folder.file_system file.file.file_type ≡ type
-      → of_path file ≡ of_type file type
-  unfolding of_path
+      → of_plain file ≡ of_type file type
+  unfolding of_plain
   first_form file type first typed =
       cond-false (is_second folder path file) (Ok passes) (of_type file (kind_for folder.file_system file.file.file_type)) first
       ∙ ap (of_type file) typed
@@ -105,24 +114,31 @@ module _ (folder : AddedFolder) (path : Text) where
   file_case : (verdict : Verdict) → IsFileVerdict folder path verdict
       → (((file : SaidPath) → ¬ SaysPath folder.file_system path file) × (verdict ≡ Err refusals.Host))
       ⊎ ((file : SaidPath) × SaysPath folder.file_system path file × (verdict ≡ of_path file))
-  unfolding of_path of_type
+  unfolding of_path of_plain of_type
   file_case _ (no_path none) = inl (none, refl)
+  file_case _ (no_plain_file file says is) =
+      inr (file, says, sym (ap (λ (type : ℕ). cond (type == directory_type) (Err refusals.Host) (of_plain file)) is))
   file_case _ (second_form file says second) =
-      inr (file, says, sym (cond-true (is_second folder path file) (Ok passes) (of_type file (kind_for folder.file_system file.file.file_type)) second))
-  file_case _ (no_type file says first typed) = inr (file, says, sym (first_form file None first typed))
+      inr (
+        file,
+        says.0,
+        sym (plain file says
+            ∙ cond-true (is_second folder path file) (Ok passes) (of_type file (kind_for folder.file_system file.file.file_type)) second),
+      )
+  file_case _ (no_type file says first typed) = inr (file, says.0, sym (plain file says ∙ first_form file None first typed))
   file_case _ (no_name file kind says first typed named) =
       inr (
         file,
-        says,
-        sym (first_form file (Some kind) first typed
-            ∙ cond-false (may_have folder.file_system file) (Ok (adds (item_said folder file kind))) (Err refusals.Name) named),
+        says.0,
+        sym (plain file says ∙ first_form file (Some kind) first typed
+            ∙ cond-false (may_have folder.file_system file) (Ok (adds (item_said folder path file kind))) (Err refusals.Name) named),
       )
   file_case _ (is_item file kind says first typed named) =
       inr (
         file,
-        says,
-        sym (first_form file (Some kind) first typed
-            ∙ cond-true (may_have folder.file_system file) (Ok (adds (item_said folder file kind))) (Err refusals.Name) named),
+        says.0,
+        sym (plain file says ∙ first_form file (Some kind) first typed
+            ∙ cond-true (may_have folder.file_system file) (Ok (adds (item_said folder path file kind))) (Err refusals.Name) named),
       )
 
   one_file_verdict : (one other : Verdict) → IsFileVerdict folder path one → IsFileVerdict folder path other → one ≡ other

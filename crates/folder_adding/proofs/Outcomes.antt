@@ -13,7 +13,7 @@ use Rattle.shop_changes.specs.GivenFile.{GivenView, most_input}
 use Rattle.shop_changes.specs.SaidFile.{Gives, IsNotGivenBy, IsSaidOutcome, SaidView, TellsBadLine}
 use Rattle.shop_changes.specs.SaveOutcome.{IsSaveOutcome, IsSaveTriedOutcome}
 use Rattle.shop_changes.specs.declared.outcome.Outcome.{Outcome}
-use Rattle.shop_changes.specs.declared.outcome.Outcome.TheVariants.{Optimized, Changed, Stopped, Unfinished}
+use Rattle.shop_changes.specs.declared.outcome.Outcome.TheVariants.{Changed, Unfinished}
 use Rattle.shop_replies.specs.declared.refusal.Failure.TheVariants as failures
 use Rattle.shop_replies.specs.declared.refusal.Refusal.{Refusal}
 use Rattle.shop_replies.specs.declared.refusal.Refusal.TheVariants as refusals
@@ -40,10 +40,10 @@ pub record IsTried (path : List ℕ) (said : SaidView) (saves : SaveMeaning) (fo
   pub gives : Gives said given
   pub tried : IsSaveTriedOutcome path given saves format old new outcome
 
-refused_quiet : (refusal : Refusal) (reply : Reply) → reply ≡ refused refusal → reply ≢ failed failures.Device
+pub refused_quiet : (refusal : Refusal) (reply : Reply) → reply ≡ refused refusal → reply ≢ failed failures.Device
 refused_quiet refusal reply is told = let e : Refused ≡ Failed = ap (λ (r : Reply). r.status) (sym is ∙ told) in cc
 
-memory_quiet : (reply : Reply) → reply ≡ failed failures.Memory → reply ≢ failed failures.Device
+pub memory_quiet : (reply : Reply) → reply ≡ failed failures.Memory → reply ≢ failed failures.Device
 memory_quiet reply is told = let e : Told.Failure failures.Memory ≡ Told.Failure failures.Device = ap (λ (r : Reply). r.told) (sym is ∙ told) in cc
 
 line_quiet : (line : ℕ) (reply : Reply) → TellsBadLine line reply → reply ≢ failed failures.Device

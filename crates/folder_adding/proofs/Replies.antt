@@ -1,21 +1,31 @@
 -- What is told of the files of a folder, by what became of them.
-use Rattle.std.proofs.Common.{◌≡◌, ◌∙◌, ℕ, Global, List, String, Vec, ap, inl, inr, refl, subst, sym}
-use Rattle.std.specs.Prelude.{Bool, Option, Some, slice_index_or, string_bytes}
+use Rattle.std.proofs.Common.{◌≡◌, ◌∙◌, ℕ, Global, List, String, Vec, ap, inl, inr, length, refl, subst, sym}
+use Rattle.std.specs.Prelude.{Bool, IfSome, Option, Some, string_bytes}
 use Rattle.a2_device.specs.Device.{DeviceState}
-use Rattle.folder_adding.specs.AddReply.{AdditionTo, AreToldItems, TellsAdded, TellsAt, batch_of, items_hold, path_of}
+use Rattle.folder_adding.specs.AddReply.{AdditionTo, AreToldItems, TellsAdded, TellsAt, batch_of, path_of}
 use Rattle.folder_adding.specs.AddedText.{added_text}
-use Rattle.folder_adding.specs.Items.{BatchView}
+use Rattle.folder_adding.specs.Added.{AreAdded, HasAdded}
+use Rattle.folder_adding.specs.Items.{BatchView, new_files}
+use Rattle.folder_adding.specs.Reads.{AreGivenBack}
 use Rattle.folder_adding.specs.Refused.{HasRefused}
 use Rattle.folder_adding.specs.declared.adding.Refused.{Refused}
 use Rattle.edit_formats.specs.Saves.{SaveMeaning}
-use Rattle.shop_changes.specs.ImageBytes.{AreBytesOf}
+use Rattle.shop_changes.specs.ImageBytes.{AreBytesOf, KeepsBytes}
 use Rattle.shop_changes.specs.VolumeReply.{IsVolumeIn, IsVolumeReply}
 use Rattle.shop_jobs.specs.declared.job.VolumeOptions.{VolumeOptions}
 use Rattle.shop_replies.specs.declared.refusal.Failure.{Failure}
+use Rattle.shop_replies.specs.Reply.{made_of}
 use Rattle.shop_replies.specs.declared.reply.Reply.{Reply}
 use Rattle.shop_replies.specs.declared.reply.Status.TheVariants.{Done}
 use Rattle.shop_replies.specs.declared.reply.Told.TheVariants.{Text}
 use Rattle.vol_format.specs.Meaning.{Meaning}
+
+-- the image under a device is still of the form that it had at first
+keeps_bytes : (old new : DeviceState) (bytes : List ℕ) → new.image ≡ old.image → AreBytesOf new bytes → KeepsBytes old bytes
+keeps_bytes old new bytes same (image, is, holds, kept, form, units) first of =
+    let one : Some first ≡ Some (record { order = image.order; bytes = length image.bytes; kept = image.kept }) = sym of ∙ sym same ∙ form in
+    let that : first ≡ record { order = image.order; bytes = length image.bytes; kept = image.kept } = cc in
+    rw (that, is) kept
 
 module _ (adding : AdditionTo) where
   -- the text and the image of a reply tell that all were added
@@ -26,16 +36,30 @@ module _ (adding : AdditionTo) where
       subst (λ (r : Reply). TellsAdded adding device r) (sym same)
       (record { done = (refl, refl); told = told ∙ ap (λ (b : BatchView). added_text b adding.folder.entries adding.plan.passed) is; made = made })
 
+  -- what became of all items is told, where that is told
+  pub told_all : {H : Type 0} (may_fail : H → ℕ → Failure → Type 0) (holds : Option (ℕ → List ℕ)) (batch : BatchView) (saves : SaveMeaning) (format : Meaning) (old new : DeviceState)
+      (reply : Reply) → batch ≡ batch_of adding → new.image ≡ old.image → AreAdded batch holds saves format 0 batch.items old new
+      → IfSome holds (λ contents. HasAdded saves format (new_files batch contents 0 batch.items) old.store new.store) → IfSome holds (λ contents. AreGivenBack batch contents)
+      → TellsAdded adding new reply → AreToldItems may_fail adding holds saves format old reply
+  told_all may_fail holds batch saves format old new reply is same added stored alike tells =
+      inl (record {
+        left = new;
+        added = subst (λ (b : BatchView). AreAdded b holds saves format 0 b.items old new) is added;
+        stored = subst (λ (b : BatchView). IfSome holds (λ contents. HasAdded saves format (new_files b contents 0 b.items) old.store new.store)) is stored;
+        alike = subst (λ (b : BatchView). IfSome holds (λ contents. AreGivenBack b contents)) is alike;
+        tells = tells;
+        kept = keeps_bytes old new (made_of reply) same tells.made;
+      })
+
   -- and why an item was not
-  pub told_refused : {H : Type 0} (may_fail : H → ℕ → Failure → Type 0) (holds held : Option (ℕ → List ℕ)) (batch : BatchView) (saves : SaveMeaning) (format : Meaning) (old new : DeviceState)
-      (refused : Refused) (reply : Reply) → batch ≡ batch_of adding → held ≡ items_hold adding holds → HasRefused may_fail batch held saves format old new refused
-      → TellsAt (path_of adding.folder.entries (slice_index_or adding.plan.files refused.item 0)) refused.reply reply → AreToldItems may_fail adding holds saves format old reply
-  told_refused may_fail holds held batch saves format old new refused reply is holding was told =
+  pub told_refused : {H : Type 0} (may_fail : H → ℕ → Failure → Type 0) (holds : Option (ℕ → List ℕ)) (batch : BatchView) (saves : SaveMeaning) (format : Meaning) (old new : DeviceState)
+      (refused : Refused) (reply : Reply) → batch ≡ batch_of adding → HasRefused may_fail batch holds saves format old new refused
+      → TellsAt (path_of adding.folder.entries refused.file) refused.reply reply → AreToldItems may_fail adding holds saves format old reply
+  told_refused may_fail holds batch saves format old new refused reply is was told =
       inr (record {
         left = new;
         item = refused;
-        refused = subst (λ (b : BatchView). HasRefused may_fail b (items_hold adding holds) saves format old new refused) is
-            (subst (λ (h : Option (ℕ → List ℕ)). HasRefused may_fail batch h saves format old new refused) holding was);
+        refused = subst (λ (b : BatchView). HasRefused may_fail b holds saves format old new refused) is was;
         told = told;
       })
 

@@ -1,5 +1,5 @@
 -- What is told of the files of a folder that are added to the volume of an image.
-use Rattle.std.specs.Prelude.{◌≡◌, ◌≢◌, ◌⊎◌, ◌-◌, ℕ, ◌++◌, List, Option, None, Some, IfSome, codes, length, option_map, slice_index_or, take}
+use Rattle.std.specs.Prelude.{◌≡◌, ◌≢◌, ◌⊎◌, ◌-◌, ℕ, ◌++◌, List, Option, None, Some, IfSome, codes, length, slice_index_or, take}
 use Rattle.std.specs.declared.alloc.Global.{Global}
 use Rattle.a2_device.specs.Device.{DeviceState}
 use Rattle.disk_container.specs.declared.shell.Shell.{Shell}
@@ -9,12 +9,13 @@ use Rattle.folder_adding.specs.AddedText.{added_text}
 use Rattle.folder_adding.specs.Directories.{AreKept, HasDirectories, HasNoDirectory, Making, making_by}
 use Rattle.folder_adding.specs.HostEntries.{EntryView}
 use Rattle.folder_adding.specs.Items.{BatchView, new_files}
-use Rattle.folder_adding.specs.Numbered.{contents_of}
 use Rattle.folder_adding.specs.Plan.{IsFirstRefused, IsPlan, PlanView}
+use Rattle.folder_adding.specs.Reads.{AreGivenBack}
 use Rattle.folder_adding.specs.Refused.{HasRefused}
 use Rattle.folder_adding.specs.Verdicts.{AddedFolder}
 use Rattle.folder_adding.specs.declared.adding.Refused.{Refused as RefusedItem}
 use Rattle.folder_adding.specs.declared.host_entry.HostKind.TheVariants.{Other}
+use Rattle.folder_adding.specs.declared.making.Unmade.{Unmade}
 use Rattle.pro_dates.specs.SaidDates.{IsDateOf, NamesDate}
 use Rattle.pro_dir.specs.declared.date.ProDate.{ProDate}
 use Rattle.edit_formats.specs.Saves.{SaveMeaning}
@@ -72,11 +73,12 @@ pub record AdditionTo : Type 0 where
   pub date : ProDate
 
 abbrev pub batch_of : AdditionTo → BatchView
-batch_of adding = record { file_system = adding.folder.file_system; date = adding.date; items = adding.plan.items }
-
--- what the files of the items hold, by what those of the entries do
-abbrev pub items_hold : AdditionTo → Option (ℕ → List ℕ) → Option (ℕ → List ℕ)
-items_hold adding holds = option_map (contents_of adding.plan.files) holds
+batch_of adding = record {
+  file_system = adding.folder.file_system;
+  date = adding.date;
+  items = adding.plan.items;
+  files = adding.plan.files;
+}
 
 -- What is told where all were saved, with the image that is now under the device.
 pub record TellsAdded (adding : AdditionTo) (device : DeviceState) (reply : Reply) : Type 0 where
@@ -84,25 +86,28 @@ pub record TellsAdded (adding : AdditionTo) (device : DeviceState) (reply : Repl
   pub told : text_of reply ≡ added_text (batch_of adding) adding.folder.entries adding.plan.passed
   pub made : AreBytesOf device (made_of reply)
 
--- All items were saved, one after the other, and nothing else was done to the device; the text tells them and what was
--- passed over, and the image is the one under the device.
+-- All items were saved, one after the other, and nothing else was done to the device. From each readable form that
+-- stands beside a file just the bytes of that are taken. The text tells the items and what was passed over, and the
+-- image is the one under the device.
 pub record IsAllAdded (adding : AdditionTo) (holds : Option (ℕ → List ℕ)) (saves : SaveMeaning) (format : Meaning)
     (device : DeviceState) (reply : Reply) : Type 0 where
   pub left : DeviceState
-  pub added : AreAdded (batch_of adding) (items_hold adding holds) saves format 0 adding.plan.items device left
-  pub stored : IfSome (items_hold adding holds) (λ contents. HasAdded saves format
+  pub added : AreAdded (batch_of adding) holds saves format 0 adding.plan.items device left
+  pub stored : IfSome holds (λ contents. HasAdded saves format
       (new_files (batch_of adding) contents 0 adding.plan.items) device.store left.store)
+  pub alike : IfSome holds (λ contents. AreGivenBack (batch_of adding) contents)
   pub tells : TellsAdded adding left reply
   pub kept : KeepsBytes device (made_of reply)
 
--- An item was not saved: those before it were, and it is told why, with the path of its entry.
+-- An item was not saved: those before it were, and it is told why, with the path of its entry, or of the readable form
+-- beside it.
 pub record IsNotAllAdded {H : Type 0} (may_fail : H → ℕ → Failure → Type 0) (adding : AdditionTo)
     (holds : Option (ℕ → List ℕ))
     (saves : SaveMeaning) (format : Meaning) (device : DeviceState) (reply : Reply) : Type 0 where
   pub left : DeviceState
   pub item : RefusedItem
-  pub refused : HasRefused may_fail (batch_of adding) (items_hold adding holds) saves format device left item
-  pub told : TellsAt (path_of adding.folder.entries (slice_index_or adding.plan.files item.item 0)) item.reply reply
+  pub refused : HasRefused may_fail (batch_of adding) holds saves format device left item
+  pub told : TellsAt (path_of adding.folder.entries item.file) item.reply reply
 
 -- what became of the items of a plan on a volume that has its directories
 abbrev pub AreToldItems : {H : Type 0} → (H → ℕ → Failure → Type 0) → AdditionTo → Option (ℕ → List ℕ) → SaveMeaning
@@ -129,10 +134,10 @@ pub record IsToldBehind {H : Type 0} (may_fail : H → ℕ → Failure → Type 
 pub record IsNotAllMade (adding : AdditionTo) (format : ChangedMeaning) (device : DeviceState)
     (reply : Reply) : Type 0 where
   pub left : DeviceState
-  pub directory : RefusedItem
-  pub refused : HasNoDirectory (making_of adding format) adding.plan.directories device left directory
-  pub told : TellsAt (path_of adding.folder.entries (slice_index_or adding.plan.folders directory.item 0))
-      directory.reply reply
+  pub unmade : Unmade
+  pub refused : HasNoDirectory (making_of adding format) adding.plan.directories device left unmade
+  pub told : TellsAt (path_of adding.folder.entries (slice_index_or adding.plan.folders unmade.directory 0))
+      unmade.reply reply
 
 abbrev pub IsPlanTold : {H : Type 0} → (H → ℕ → Failure → Type 0) → AdditionTo → Option (ℕ → List ℕ) → ChangedMeaning
     → DeviceState → Reply → Type 0

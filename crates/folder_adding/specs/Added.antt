@@ -1,8 +1,8 @@
 -- Files that were saved to a volume, one after the other.
 use Rattle.std.specs.Prelude.{◌≡◌, ℕ, ◌+◌, List, [], ◌∷◌, Option}
 use Rattle.a2_device.specs.Device.{DeviceState}
-use Rattle.folder_adding.specs.Files.{IsReadOf}
-use Rattle.folder_adding.specs.Items.{BatchView, ItemView, NewFile, new_file}
+use Rattle.folder_adding.specs.Items.{BatchView, ItemView, NewFile, file_at, new_file}
+use Rattle.folder_adding.specs.Reads.{IsItemRead}
 use Rattle.edit_formats.specs.Saves.{SaveMeaning}
 use Rattle.shop_changes.specs.GivenFile.{GivenView}
 use Rattle.shop_changes.specs.SaidFile.{Gives, IsSaidOutcome}
@@ -17,11 +17,11 @@ IsNewFileOutcome saves format file old new outcome = IsSaidOutcome file.path fil
 
 -- ---- on every device
 
--- bytes were read of the file with this number, and with these the item was saved
+-- bytes were read of the item's file, which has this number, and with these the item was saved
 pub record IsItemAdded (batch : BatchView) (holds : Option (ℕ → List ℕ)) (saves : SaveMeaning) (format : Meaning)
-    (number : ℕ) (item : ItemView) (old new : DeviceState) : Type 0 where
+    (file : ℕ) (item : ItemView) (old new : DeviceState) : Type 0 where
   pub bytes : List ℕ
-  pub read : IsReadOf holds number bytes
+  pub read : IsItemRead batch.file_system holds file item bytes
   pub saved : IsNewFileOutcome saves format (new_file batch item bytes) old new Changed
 
 -- The items, of which the first has this number, were saved one after the other: each to the device that the one before
@@ -30,7 +30,7 @@ abbrev pub AreAdded : BatchView → Option (ℕ → List ℕ) → SaveMeaning �
     → DeviceState → Type 0
 AreAdded batch holds saves format number [] old new = new ≡ old
 AreAdded batch holds saves format number (item ∷ items) old new =
-    (mid : DeviceState) × IsItemAdded batch holds saves format number item old mid
+    (mid : DeviceState) × IsItemAdded batch holds saves format (file_at batch number) item old mid
     × AreAdded batch holds saves format (number + 1) items mid new
 
 -- ---- on an honest device

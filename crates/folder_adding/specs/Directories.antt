@@ -7,7 +7,7 @@ use Rattle.edit_formats.specs.Renamed.{IsReadRefusal}
 use Rattle.edit_formats.specs.declared.error.EditError.{EditError}
 use Rattle.edit_formats.specs.declared.error.EditError.TheVariants.{Check}
 use Rattle.folder_adding.specs.HostPaths.{Text}
-use Rattle.folder_adding.specs.declared.adding.Refused.{Refused}
+use Rattle.folder_adding.specs.declared.making.Unmade.{Unmade}
 use Rattle.pro_dir.specs.declared.date.ProDate.{ProDate}
 use Rattle.shop_changes.specs.MakingOutcome.{IsMakingOutcome}
 use Rattle.shop_changes.specs.Refusals.{reply_to_edit_refusal}
@@ -68,15 +68,15 @@ IsNotKept making path old new reply = IsNotLooked old new reply ⊎ IsNotMade ma
 
 -- Behind directories that are there comes the one that is told, which is not; nothing was done after that.
 pub record HasNoDirectory (making : Making) (paths : List Text) (old new : DeviceState)
-    (refused : Refused) : Type 0 where
+    (unmade : Unmade) : Type 0 where
   pub before : List Text
   pub path : Text
   pub behind : List Text
   pub all : paths ≡ before ++ path ∷ behind
-  pub number : refused.item ≡ length before
+  pub number : unmade.directory ≡ length before
   pub mid : DeviceState
   pub kept : AreKept making before old mid
-  pub refusal : IsNotKept making path mid new refused.reply
+  pub refusal : IsNotKept making path mid new unmade.reply
 
 -- ---- on an honest device
 

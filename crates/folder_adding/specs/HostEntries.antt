@@ -1,6 +1,6 @@
 -- The entries of a folder of the host.
-use Rattle.std.specs.Prelude.{ℕ, ◌&&◌, Bool, true, false, List, ◌++◌, codes, string_bytes}
-use Rattle.std.specs.List.{list_any}
+use Rattle.std.specs.Prelude.{ℕ, ◌&&◌, Bool, true, false, List, ◌++◌, Option, codes, string_bytes}
+use Rattle.std.specs.List.{list_any, position}
 use Rattle.std.specs.Str.{bytes_eq}
 use Rattle.folder_adding.specs.declared.host_entry.HostEntry.{HostEntry}
 use Rattle.folder_adding.specs.declared.host_entry.HostKind.{HostKind}
@@ -32,3 +32,11 @@ readable_path path = path ++ codes ".utf8.txt"
 abbrev pub has_file_beside : List EntryView → List ℕ → Bool
 has_file_beside entries path =
     list_any (λ entry. is_file entry.kind && bytes_eq path (readable_path entry.path)) entries
+
+-- whether an entry is a file that has the path of the readable form of the file of a path
+abbrev pub stands_beside : List ℕ → EntryView → Bool
+stands_beside path entry = is_file entry.kind && bytes_eq (readable_path path) entry.path
+
+-- the number of the first such entry
+abbrev pub second_at : List EntryView → List ℕ → Option ℕ
+second_at entries path = position (stands_beside path) entries

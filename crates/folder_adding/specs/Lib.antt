@@ -9,9 +9,10 @@ pub mod HostPaths
 pub mod Items
 pub mod Listed
 pub mod Memory
-pub mod Numbered
 pub mod OneVerdict
+pub mod Passed
 pub mod Plan
+pub mod Reads
 pub mod Refused
 pub mod Replying
 pub mod Steps

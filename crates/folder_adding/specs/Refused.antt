@@ -2,39 +2,32 @@
 use Rattle.std.specs.Prelude.{◌≡◌, ◌≢◌, ◌⊎◌, ℕ, List, ◌∷◌, ◌++◌, Option, IfSome, IsTrue, length}
 use Rattle.a2_device.specs.Device.{DeviceState, counted}
 use Rattle.folder_adding.specs.Added.{AreAdded, HasAdded, IsNewFileOutcome}
-use Rattle.folder_adding.specs.Files.{IsReadOf}
-use Rattle.folder_adding.specs.Items.{BatchView, ItemView, new_file, new_files}
+use Rattle.folder_adding.specs.Items.{BatchView, ItemView, file_at, new_file, new_files}
+use Rattle.folder_adding.specs.Reads.{IsItemRead, IsItemUnread}
 use Rattle.folder_adding.specs.declared.adding.Refused.{Refused}
 use Rattle.edit_formats.specs.Saves.{SaveMeaning}
 use Rattle.shop_changes.specs.declared.outcome.Outcome.TheVariants.{Unfinished}
 use Rattle.shop_replies.specs.declared.refusal.Failure.{Failure}
 use Rattle.shop_replies.specs.declared.refusal.Failure.TheVariants.{Device}
 use Rattle.shop_replies.specs.declared.reply.Reply.{Reply}
-use Rattle.shop_replies.specs.Reading.{IsReadFailure}
 use Rattle.shop_replies.specs.Reply.{failed}
 use Rattle.vol_format.specs.Meaning.{Meaning}
 
--- the file with this number could not be read, as it may not, and nothing was done to the device
-pub record IsUnread {H : Type 0} (may_fail : H → ℕ → Failure → Type 0) (number : ℕ) (old new : DeviceState)
-    (reply : Reply) : Type 0 where
-  pub failure : Failure
-  pub is : IsReadFailure failure
-  pub files : H
-  pub cause : may_fail files number failure
-  pub told : reply ≡ failed failure
-  pub device : new ≡ old
-
--- bytes were read of the file with this number, and what they give was not saved, for the cause that is told
+-- bytes were read of the item's file, which has this number, and what they give was not saved, for the cause that is
+-- told of that file
 pub record IsUnsaved (batch : BatchView) (holds : Option (ℕ → List ℕ)) (saves : SaveMeaning) (format : Meaning)
-    (number : ℕ) (item : ItemView) (old new : DeviceState) (reply : Reply) : Type 0 where
+    (file : ℕ) (item : ItemView) (old new : DeviceState) (told : ℕ) (reply : Reply) : Type 0 where
   pub bytes : List ℕ
-  pub read : IsReadOf holds number bytes
+  pub read : IsItemRead batch.file_system holds file item bytes
+  pub of : told ≡ file
   pub unsaved : IsNewFileOutcome saves format (new_file batch item bytes) old new (Unfinished reply)
 
+-- an item was not read, and nothing was done to the device; or it was, and was not saved
 abbrev pub IsItemRefused : {H : Type 0} → (H → ℕ → Failure → Type 0) → BatchView → Option (ℕ → List ℕ) → SaveMeaning
-    → Meaning → ℕ → ItemView → DeviceState → DeviceState → Reply → Type 0
-IsItemRefused may_fail batch holds saves format number item old new reply =
-    IsUnread may_fail number old new reply ⊎ IsUnsaved batch holds saves format number item old new reply
+    → Meaning → ℕ → ItemView → DeviceState → DeviceState → ℕ → Reply → Type 0
+IsItemRefused may_fail batch holds saves format file item old new told reply =
+    (IsItemUnread may_fail batch.file_system holds file item told reply × (new ≡ old))
+    ⊎ IsUnsaved batch holds saves format file item old new told reply
 
 -- one refusal of the device was counted where its failure is told, and none where none is
 abbrev pub CountsFailure : Reply → DeviceState → DeviceState → Type 0
@@ -55,7 +48,8 @@ pub record HasRefused {H : Type 0} (may_fail : H → ℕ → Failure → Type 0)
   pub number : refused.item ≡ length before
   pub mid : DeviceState
   pub added : AreAdded batch holds saves format 0 before old mid
-  pub refusal : IsItemRefused may_fail batch holds saves format (length before) item mid new refused.reply
+  pub refusal : IsItemRefused may_fail batch holds saves format (file_at batch (length before)) item mid new
+      refused.file refused.reply
   pub volume : IsTrue old.honest
       → IfSome holds (λ contents. HasAdded saves format (new_files batch contents 0 before) old.store mid.store)
   pub kept : IsTrue old.honest → refused.reply ≢ failed Device → new ≡ mid

@@ -1,15 +1,12 @@
 -- What the code of the reply speaks of.
-use Rattle.std.specs.Prelude.{ℕ, Bool, false, Result, Ok, Err, map}
+use Rattle.std.specs.Prelude.{Bool, false, Result, Ok, Err, map}
 use Rattle.std.specs.Option.{option_copied}
 use Rattle.folder_adding.specs.AddReply.{AdditionTo}
 use Rattle.folder_adding.specs.HostEntries.{entry_view}
-use Rattle.folder_adding.specs.Numbered.{MayFail}
 use Rattle.folder_adding.specs.Plan.{PlanView}
 use Rattle.folder_adding.specs.Verdicts.{AddedFolder}
-use Rattle.folder_adding.specs.declared.numbered.NumberedFiles.{NumberedFiles}
 use Rattle.folder_adding.specs.declared.replying.Folder.{Folder}
 use Rattle.shop_reads.specs.TellingFailures.{tells_device as reply_tells_device}
-use Rattle.shop_replies.specs.declared.refusal.Failure.{Failure}
 use Rattle.shop_replies.specs.declared.reply.Reply.{Reply}
 
 -- a folder as contracts see it
@@ -23,10 +20,6 @@ folder_view folder = record {
 -- and with its plan
 abbrev pub adding_view : Folder → PlanView → AdditionTo
 adding_view folder plan = record { folder = folder_view folder; plan = plan; date = folder.date }
-
--- the failures that the reading of the file of an item may answer
-abbrev pub numbered_may_fail : {H : Type 0} → (H → ℕ → Failure → Type 0) → NumberedFiles H → ℕ → Failure → Type 0
-numbered_may_fail within files number failure = MayFail within files.numbers.now files.files.now number failure
 
 -- a failure of the device is told
 abbrev pub tells_device : {T : Type 0} → Result T Reply → Bool

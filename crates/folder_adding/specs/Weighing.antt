@@ -1,14 +1,17 @@
 -- What the functions that weigh an entry answer.
-use Rattle.std.specs.Prelude.{◌≡◌, ◌≢◌, ℕ, All, List, [], ◌∷◌, ◌++◌, Ok, Err, map}
+use Rattle.std.specs.Prelude.{◌≡◌, ◌≢◌, ℕ, All, List, [], ◌∷◌, ◌++◌, Option, Some, None, Ok, Err, if◌then◌else◌, map}
+use Rattle.std.specs.HashMap.{get_by}
 use Rattle.std.specs.HashSet.{contains_by}
-use Rattle.std.specs.Option.{option_copied}
+use Rattle.std.specs.Option.{option_copied, option_or}
 use Rattle.std.specs.Str.{bytes_eq}
-use Rattle.folder_adding.specs.HostEntries.{EntryView, entry_view, has_file}
+use Rattle.folder_adding.specs.HostEntries.{EntryView, has_file, second_at}
 use Rattle.folder_adding.specs.HostPaths.{SaidDirectory, SaidPath, SayFolders, SayParts, Text, parts}
 use Rattle.folder_adding.specs.Items.{item_view}
 use Rattle.folder_adding.specs.Plan.{PlanView}
 use Rattle.folder_adding.specs.Verdicts.{AddedFolder, Step, Verdict, adds, makes, passes}
 use Rattle.folder_adding.specs.declared.beside.FilePaths.{FilePaths}
+use Rattle.folder_adding.specs.declared.seconds.FolderFiles.{FolderFiles}
+use Rattle.folder_adding.specs.declared.seconds.FormNumbers.{FormNumbers}
 use Rattle.folder_adding.specs.declared.step.Destination.{Destination}
 use Rattle.folder_adding.specs.declared.said_path.HostDirectory.{HostDirectory}
 use Rattle.folder_adding.specs.declared.said_path.HostPath.{HostPath}
@@ -23,6 +26,24 @@ use Rattle.vol_layout.specs.declared.form.PlaceForm.TheVariants.{Block}
 abbrev pub ArePathsOf : List EntryView → FilePaths → Type 0
 ArePathsOf entries files = (path : List ℕ)
     → contains_by (λ file. bytes_eq path file.now) files.paths ≡ has_file entries path
+
+-- the number at a path
+abbrev pub number_by : FormNumbers → List ℕ → Option ℕ
+number_by forms path = get_by (λ file. bytes_eq path file.now) forms.numbers
+
+-- a number was put at a path, where none was, and at each other path stands what stood there
+abbrev pub PutsFirst : List ℕ → ℕ → FormNumbers → FormNumbers → Type 0
+PutsFirst path number old new = (other : List ℕ)
+    → number_by new other ≡ option_or (number_by old other) (if bytes_eq other path then Some number else None)
+
+-- these are the numbers of the readable forms among the entries
+abbrev pub AreNumbersOf : List EntryView → FormNumbers → Type 0
+AreNumbersOf entries forms = (path : List ℕ) → number_by forms path ≡ second_at entries path
+
+-- these are the files among the entries
+pub record AreFilesOf (entries : List EntryView) (files : FolderFiles) : Type 0 where
+  pub paths : ArePathsOf entries files.paths
+  pub forms : AreNumbersOf entries files.forms
 
 -- what stands before and behind the first `/` of a path
 pub record IsCut (path folder behind : Text) : Type 0 where

@@ -4,6 +4,8 @@ ghost use Rattle.folder_adding.specs.Entered.{AreEnteredInTurn};
 ghost use Rattle.folder_adding.specs.HostEntries.{EntryView};
 ghost use Rattle.folder_adding.specs.Listed.{IsToldAsListed};
 ghost use Rattle.folder_adding.specs.OneVerdict.{HasOneVerdict};
+ghost use Rattle.folder_adding.specs.Passed.{PassesSeconds};
+ghost use Rattle.folder_adding.specs.Plan.{IsPlan, PlanView};
 ghost use Rattle.folder_adding.specs.Verdicts.{AddedFolder};
 
 use edit_formats::SavableFormat;
@@ -29,4 +31,9 @@ pub fn a_saved_file_is_told_as_it_is_listed()
 /// A law: an entry of a folder makes one step at most, is refused for one cause at most, and never both.
 pub fn an_entry_makes_one_step()
     ensures { (folder : AddedFolder) (entry : EntryView) → HasOneVerdict folder entry }
+{}
+
+/// A law: an entry that a plan passes over is the readable form beside the file of an item, or has the path of that.
+pub fn what_is_passed_over_stands_beside_an_item()
+    ensures { (folder : AddedFolder) (plan : PlanView) → IsPlan folder plan → PassesSeconds folder plan }
 {}

@@ -14,9 +14,13 @@
 //! The model of what is saved. `specs/Items.antt` has a `Batch`: its `Item`s, each with its path on the volume, what is
 //! said of it and the form in which its bytes are given, and what all of them share, the file system and the date. An
 //! item and the bytes of its file are a new file, as `shop_changes` saves it. The bytes are asked of `HostFiles` by the
-//! number of the item (`specs/Files.antt`): where it is known what the files hold, it is known what is read of each.
-//! `MemoryFiles` are files in memory, `FailingFiles` refuse one reading of others, and `NumberedFiles` are some of
-//! others, as those of the items of a plan are among those of all entries (`specs/Numbered.antt`).
+//! number of the file (`specs/Files.antt`), which in a plan is that of its entry: where it is known what the files
+//! hold, it is known what is read of each. `MemoryFiles` are files in memory, and `FailingFiles` refuse one reading of
+//! others.
+//!
+//! The model of readable forms. One that stands beside the file of an item is its `Second`, and what is in it is not
+//! saved: it is read behind the file, and just the bytes of that have to be taken from it (`specs/Reads.antt`). That an
+//! entry of a plan is passed over for no other cause is a law (`specs/Passed.antt`).
 //!
 //! `add_all` saves the items in order, each to the volume that the one before it left (`specs/Added.antt`): on every
 //! device there is a chain of states, `AreAdded`, and on an honest one, of known files, a chain of volumes, `HasAdded`.
@@ -30,8 +34,9 @@
 //! saved on the volume of the image, and the image handed out where all of that was done. A refusal for an entry is
 //! told with the entry's path.
 //!
-//! What always holds: one file is in memory at a time; after a failure of the device nothing of it is called again; and
-//! where no failure of the device is told and an item is not saved, the volume is that of the items before it.
+//! What always holds: the files of one item are in memory at a time; after a failure of the device nothing of it is
+//! called again; and where no failure of the device is told and an item is not saved, the volume is that of the items
+//! before it.
 #![tactic(auto)]
 
 mod adding;
@@ -43,13 +48,14 @@ mod item;
 mod law;
 mod making;
 mod memory;
-mod numbered;
 mod passing;
 mod planned;
 mod planning;
+mod reading;
 mod refusing;
 mod replying;
 mod said_path;
+mod seconds;
 mod step;
 mod telling;
 mod volume_path;
@@ -59,14 +65,13 @@ pub use adding::{Refused, add_all};
 pub use failing::FailingFiles;
 pub use host_entry::{HostEntry, HostKind, is_hidden};
 pub use host_files::HostFiles;
-pub use item::{Batch, Item};
+pub use item::{Batch, Item, Second};
 pub use law::{
     a_saved_file_is_told_as_it_is_listed, added_files_are_entered, an_entry_makes_one_step,
-    directories_keep_the_files,
+    directories_keep_the_files, what_is_passed_over_stands_beside_an_item,
 };
-pub use making::make_all;
+pub use making::{Unmade, make_all};
 pub use memory::MemoryFiles;
-pub use numbered::NumberedFiles;
 pub use planned::{Plan, PlanError};
 pub use planning::plan;
 pub use replying::{add_reply, adds_files};

@@ -12,13 +12,20 @@ ghost use Rattle.folder_adding.specs.Directories.{
 ghost use Rattle.vol_format.specs.Accepted.{IsVolume};
 ghost use Rattle.vol_format.specs.Fits.{Fits};
 
-use crate::adding::Refused;
 use a2_device::Device;
 use file_edits::{Acceptance, DirectoryFormat};
 use pro_dir::ProDate;
 use shop_changes::{Outcome, edit_refusal_reply, make_in_place};
 use shop_replies::Reply;
 use std::alloc::Global;
+
+/// The first directory that was not made, and why; those before it are there.
+#[derive(Drop)]
+pub struct Unmade {
+    /// The number of its path, counted from 0.
+    pub directory: usize,
+    pub reply: Reply,
+}
 
 // Makes the directory of a path, where none is there.
 fn keep_directory<D: Device, F: DirectoryFormat>(
@@ -60,7 +67,7 @@ pub fn make_all<D: Device, F: DirectoryFormat>(
     format: &F,
     paths: &[Vec<u8>],
     date: ProDate,
-) -> Result<(), Refused>
+) -> Result<(), Unmade>
     requires fits { Fits (F.meaning format.now) (D.state device.old) }
     requires accepted { IsTrue (D.state device.old).honest
         → IsVolume (F.meaning format.now) (D.state device.old).store }
@@ -82,8 +89,8 @@ pub fn make_all<D: Device, F: DirectoryFormat>(
     for number in 0..paths.len() {
         let path = &paths[number];
         if let Err(reply) = keep_directory(alloc, device, format, path.as_slice(), date) {
-            return Err(Refused {
-                item: number,
+            return Err(Unmade {
+                directory: number,
                 reply,
             });
         }

@@ -5,9 +5,9 @@ ghost use Rattle.folder_adding.specs.HostEntries.{entry_view};
 ghost use Rattle.folder_adding.specs.Plan.{HasNoPlan, IsPlan, plan_view};
 ghost use Rattle.folder_adding.specs.Weighing.{step_view, with_step};
 
-use crate::beside::file_paths;
 use crate::host_entry::HostEntry;
 use crate::planned::{Plan, PlanError};
+use crate::seconds::folder_files;
 use crate::step::{Destination, Step, Weighed};
 use crate::weighing::weigh;
 use shop_jobs::FileSystem;
@@ -53,7 +53,7 @@ pub fn plan(
       entries = map entry_view entries.now;
     })) }
 {
-    let files = file_paths(alloc, entries)?;
+    let files = folder_files(alloc, entries)?;
     let destination = Destination { file_system, into };
     let mut plan = Plan {
         directories: Vec::new(alloc),

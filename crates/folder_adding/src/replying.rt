@@ -18,7 +18,7 @@ ghost use Rattle.folder_adding.specs.AddReply.{
 ghost use Rattle.folder_adding.specs.HostEntries.{entry_view};
 ghost use Rattle.folder_adding.specs.Items.{batch_view};
 ghost use Rattle.folder_adding.specs.Plan.{plan_view};
-ghost use Rattle.folder_adding.specs.Replying.{adding_view, folder_view, numbered_may_fail, tells_device};
+ghost use Rattle.folder_adding.specs.Replying.{adding_view, folder_view, tells_device};
 ghost use Rattle.shop_changes.specs.EditRules.{changed_by, changed_in, edit_rules};
 ghost use Rattle.shop_changes.specs.ReplaceReply.{IsOpened};
 ghost use Rattle.shop_jobs.specs.Job.{addition_view, ask_view};
@@ -33,9 +33,8 @@ ghost use Rattle.vol_format.specs.Fits.{Fits};
 use crate::adding::{Refused, add_all};
 use crate::host_entry::HostEntry;
 use crate::host_files::HostFiles;
-use crate::item::Batch;
-use crate::making::make_all;
-use crate::numbered::NumberedFiles;
+use crate::item::{Batch, number_at};
+use crate::making::{Unmade, make_all};
 use crate::planned::{Plan, PlanError};
 use crate::planning::plan;
 use crate::refusing::reply_at;
@@ -108,6 +107,7 @@ fn batch_of<'a>(folder: &Folder<'_>, plan: &'a Plan) -> Batch<'a>
         file_system: folder.file_system,
         date: folder.date,
         items: plan.items.as_slice(),
+        files: plan.files.as_slice(),
     }
 }
 
@@ -133,23 +133,25 @@ fn path_at(entries: &[HostEntry], number: usize) -> &str
     }
 }
 
-// The number of the entry of an item.
-fn entry_of(files: &[usize], item: usize) -> usize
-    ensures { result ≡ slice_index_or files.now item 0 }
+// What is told of an item that was not saved.
+fn refused_reply(alloc: Global, refused: Refused, entries: &[HostEntry]) -> Reply
+    ensures { TellsAt (path_of (map entry_view entries.now) refused.file) refused.reply result }
 {
-    match files.get(item) {
-        Some(entry) => *entry,
-        None => 0,
-    }
+    let Refused { file, reply, .. } = refused;
+    reply_at(alloc, path_at(entries, file), reply)
 }
 
-// What is told of an item that was not saved.
-fn refused_reply(alloc: Global, refused: Refused, entries: &[HostEntry], files: &[usize]) -> Reply
-    ensures { TellsAt (path_of (map entry_view entries.now) (slice_index_or files.now refused.item 0)) refused.reply
-        result }
+// What is told of a directory that was not made.
+fn unmade_reply(alloc: Global, unmade: Unmade, entries: &[HostEntry], folders: &[usize]) -> Reply
+    ensures { TellsAt (path_of (map entry_view entries.now) (slice_index_or folders.now unmade.directory 0))
+        unmade.reply result }
 {
-    let Refused { item, reply } = refused;
-    reply_at(alloc, path_at(entries, entry_of(files, item)), reply)
+    let Unmade { directory, reply } = unmade;
+    reply_at(
+        alloc,
+        path_at(entries, number_at(folders, directory)),
+        reply,
+    )
 }
 
 // Saves the items of a plan to the accepted volume of an image, one after the other, and tells of them.
@@ -165,17 +167,16 @@ fn save_items<F: SavableFormat, H: HostFiles>(
     requires size { 0 < (⟦<ImageDevice as Device>⟧.state device).unit_size }
     requires honest { IsTrue (⟦<ImageDevice as Device>⟧.state device).honest }
     requires accepted { IsVolume (F.meaning format.now) (⟦<ImageDevice as Device>⟧.state device).store }
-    ensures told { (result ≡ failed failures.Memory) ⊎ AreToldItems (numbered_may_fail H.may_fail)
+    ensures told { (result ≡ failed failures.Memory) ⊎ AreToldItems H.may_fail
         (adding_view folder.now (plan_view plan.now)) (H.holds files.old) (F.saves format.now) (F.meaning format.now)
         (⟦<ImageDevice as Device>⟧.state device) result }
 {
     let mut device = device;
     let batch = batch_of(folder, plan);
-    let mut numbered = NumberedFiles::new(plan.files.as_slice(), files);
     let known = Acceptance::Known;
-    match add_all(alloc, &mut device, format, known, &batch, &mut numbered) {
+    match add_all(alloc, &mut device, format, known, &batch, files) {
         Ok(()) => added_reply(alloc, device, folder, plan),
-        Err(refused) => refused_reply(alloc, refused, folder.entries, plan.files.as_slice()),
+        Err(refused) => refused_reply(alloc, refused, folder.entries),
     }
 }
 
@@ -192,7 +193,7 @@ fn save_plan<F: DirectoryFormat, H: HostFiles>(
     requires size { 0 < (⟦<ImageDevice as Device>⟧.state device).unit_size }
     requires honest { IsTrue (⟦<ImageDevice as Device>⟧.state device).honest }
     requires accepted { IsVolume (F.meaning format.now) (⟦<ImageDevice as Device>⟧.state device).store }
-    ensures told { (result ≡ failed failures.Memory) ⊎ IsPlanTold (numbered_may_fail H.may_fail)
+    ensures told { (result ≡ failed failures.Memory) ⊎ IsPlanTold H.may_fail
         (adding_view folder.now (plan_view plan.now)) (H.holds files.old) (record {
           files = F.files format.now;
           directories = F.directories format.now;
@@ -205,7 +206,7 @@ fn save_plan<F: DirectoryFormat, H: HostFiles>(
     let folders = plan.folders.as_slice();
     match make_all(alloc, &mut device, format, paths, folder.date) {
         Ok(()) => save_items(alloc, device, format, folder, plan, files),
-        Err(refused) => refused_reply(alloc, refused, folder.entries, folders),
+        Err(unmade) => unmade_reply(alloc, unmade, folder.entries, folders),
     }
 }
 
@@ -221,7 +222,7 @@ fn add_plan<F: DirectoryFormat, H: HostFiles>(
     requires fits { Fits (F.meaning format.now) (⟦<ImageDevice as Device>⟧.state device) }
     requires size { 0 < (⟦<ImageDevice as Device>⟧.state device).unit_size }
     requires opened { IsOpened folder.now.file_system (⟦<ImageDevice as Device>⟧.state device) }
-    ensures told { IsPlanReply (numbered_may_fail H.may_fail) (adding_view folder.now (plan_view plan.now))
+    ensures told { IsPlanReply H.may_fail (adding_view folder.now (plan_view plan.now))
         (H.holds files.old) (record {
           files = F.files format.now;
           directories = F.directories format.now;
@@ -248,7 +249,7 @@ fn add_to_dos<H: HostFiles>(
 ) -> Reply
     requires units { HasUnitsOf OfDos (⟦<ImageDevice as Device>⟧.state device) }
     requires opened { IsOpened folder.now.file_system (⟦<ImageDevice as Device>⟧.state device) }
-    ensures told { IsPlanReply (numbered_may_fail H.may_fail) (adding_view folder.now (plan_view plan.now))
+    ensures told { IsPlanReply H.may_fail (adding_view folder.now (plan_view plan.now))
         (H.holds files.old) (changed_in OfDos data_disk reserved) (⟦<ImageDevice as Device>⟧.state device) result }
 {
     let Ok(format) = Dos33::new(alloc, data_disk, reserved) else {
@@ -269,7 +270,7 @@ fn add_to_prodos<H: HostFiles>(
 ) -> Reply
     requires units { HasUnitsOf OfProdos (⟦<ImageDevice as Device>⟧.state device) }
     requires opened { IsOpened folder.now.file_system (⟦<ImageDevice as Device>⟧.state device) }
-    ensures told { IsPlanReply (numbered_may_fail H.may_fail) (adding_view folder.now (plan_view plan.now))
+    ensures told { IsPlanReply H.may_fail (adding_view folder.now (plan_view plan.now))
         (H.holds files.old) (changed_in OfProdos data_disk reserved) (⟦<ImageDevice as Device>⟧.state device)
         result }
 {
@@ -289,7 +290,7 @@ fn add_folder<H: HostFiles>(
     requires units { HasUnitsOf volume.file_system (⟦<ImageDevice as Device>⟧.state device) }
     requires opened { IsOpened volume.file_system (⟦<ImageDevice as Device>⟧.state device) }
     requires same { folder.now.file_system ≡ volume.file_system }
-    ensures told { IsFolderReply (numbered_may_fail H.may_fail) (folder_view folder.now) folder.now.date
+    ensures told { IsFolderReply H.may_fail (folder_view folder.now) folder.now.date
         (H.holds files.old) (changed_by volume reserved) (⟦<ImageDevice as Device>⟧.state device) result }
 {
     match plan(alloc, folder.file_system, folder.into, folder.entries) {
@@ -334,7 +335,7 @@ fn add_to_image<H: HostFiles>(
     entries: &[HostEntry],
     files: &mut H,
 ) -> Reply
-    ensures told { IsAddReply (numbered_may_fail H.may_fail) volume (option_map (λ s. s.now) reserve.entry)
+    ensures told { IsAddReply H.may_fail volume (option_map (λ s. s.now) reserve.entry)
         (addition_view options.now) (map entry_view entries.now) (H.holds files.old) image.items result }
 {
     let Some(date) = date(options.date.as_deref()) else {
@@ -364,13 +365,14 @@ fn in_shell(alloc: Global, shell: Option<&Shell>, reply: Reply) -> Reply
 
 /// The reply to a job that adds the files of a folder to the volume of an image, with the bytes of that, or of the
 /// payload of a container with this shell. These are the entries of the folder, and `files` has a file for each number
-/// of an entry; one of them is in memory at a time. Of ProDOS each folder in it is a directory, which is made where
-/// none is there, before a file is read.
+/// of an entry; one of them is in memory at a time, with the readable form beside it. Of ProDOS each folder in it is a
+/// directory, which is made where none is there, before a file is read.
 ///
 /// Of several refusals the first comes in this order: `Date`; `Reserve`; `Length`; `Host`, `Type` or `Name` of the
 /// first entry that is refused; `Check`; of each folder in turn `Exists`, `DirFull` and the others of a directory that
-/// is made; of each file in turn `InputTooLong`, `Text` and those of a saving. Those of an entry have its path behind
-/// them. An image comes where all were added.
+/// is made; of each file in turn `InputTooLong`, of the readable form beside it `InputTooLong` and `Differs`, and of
+/// the file again `Text` and those of a saving. Those of an entry have its path behind them, `Differs` that of the
+/// readable form. An image comes where all were added.
 pub fn add_reply<H: HostFiles>(
     alloc: Global,
     job: &Job,
@@ -380,7 +382,7 @@ pub fn add_reply<H: HostFiles>(
     shell: Option<&Shell>,
 ) -> Reply
     requires job { AddsFiles (ask_view job.now.ask) }
-    ensures told { IsAddAnswer (numbered_may_fail H.may_fail) (ask_view job.now.ask) (map entry_view entries.now)
+    ensures told { IsAddAnswer H.may_fail (ask_view job.now.ask) (map entry_view entries.now)
         (H.holds files.old) image.items (option_map (λ s. s.now) shell.entry) result }
 {
     match &job.ask {

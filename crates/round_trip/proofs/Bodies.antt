@@ -1,7 +1,7 @@
 -- The bytes of the items of a plan.
-use Rattle.std.proofs.Common.{◌≡◌, ◌<◌, ◌∙◌, ℕ, true, List, [], length, refl, sym, ap, arith, inl, inr}
-use Rattle.std.specs.Prelude.{Contains, Option}
-use Rattle.std.specs.Option.{option_map_or}
+use Rattle.std.proofs.Common.{◌≡◌, ◌<◌, ◌∙◌, ℕ, true, List, length, refl, sym, ap, arith, inl, inr}
+use Rattle.std.specs.Prelude.{Contains}
+use Rattle.std.proofs.lemmas.Option.{get_or_from_slice_get}
 use Rattle.folder_adding.specs.Plan.{PlanView}
 use Rattle.folder_adding.specs.Verdicts.{AddedFolder}
 use Rattle.host_folders.specs.Folder.{file, folder as made_folder}
@@ -48,5 +48,5 @@ module _ (e : Extracted) (is : IsExtracted e) (number : ℕ) (inside : number < 
 pub bodies : (e : Extracted) (folder : AddedFolder) (plan : PlanView) (contents : ℕ → List ℕ) → IsExtracted e
     → HoldWhatWasMade (made_in e.items) folder.entries contents → AreBodies folder e plan contents
 bodies e folder plan contents is hold = λ place number at.
-    ap (λ (found : Option ℕ). option_map_or contents found []) at.entry.numbered
+    ap contents (get_or_from_slice_get plan.files place at.entry.number 0 at.entry.numbered)
     ∙ body_is e is number at.of.0 at.of.1 (contents at.entry.number) (hold at.entry.number (item_in e number).host at.entry.there)

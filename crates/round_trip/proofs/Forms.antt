@@ -1,5 +1,5 @@
 -- Readable forms and folders that were extracted.
-use Rattle.std.proofs.Common.{◌≡◌, ◌<◌, ◌⊎◌, ◌∙◌, ℕ, suc, zero, ◌+◌, true, false, List, [], ◌∷◌, Option, Some, None, codes, length, refl, sym, ap, ap₂, subst, arith, inl, inr}
+use Rattle.std.proofs.Common.{◌≡◌, ◌≢◌, ◌<◌, ◌⊎◌, ◌∙◌, ℕ, suc, zero, ◌+◌, true, false, List, [], ◌∷◌, Option, Some, None, codes, length, refl, sym, ap, ap₂, subst, arith, inl, inr}
 use Rattle.std.specs.Prelude.{◌&&◌, ◌||◌, Bool, Ok, if◌then◌else◌, nat_lt, slice_index_or}
 use Rattle.std.specs.Str.{bytes_eq}
 use Rattle.std.proofs.lemmas.Bool.{false≢true}
@@ -19,10 +19,11 @@ use Rattle.file_forms.specs.declared.form.FileForm.{FileForm}
 use Rattle.file_forms.specs.declared.form.FileForm.TheVariants as forms
 use Rattle.folder_adding.specs.HostEntries.{EntryView, has_file, has_file_beside, is_file as is_file_entry, readable_path}
 use Rattle.folder_adding.specs.HostPaths.{SayFolders, SaysDirectory, Text, parts, pro_path}
-use Rattle.folder_adding.specs.Verdicts.{AddedFolder, IsVerdict, is_directory as is_directory_verdict, is_readable, is_second, makes, no_directory_name, second_form}
-use Rattle.host_folders.specs.HostEntries.{SaysFile, SaysFolder}
+use Rattle.folder_adding.specs.Verdicts.{AddedFolder, IsVerdict, directory_type, is_directory as is_directory_verdict, is_readable, is_second, makes, no_directory_name, second_form, second_of}
+use Rattle.host_folders.specs.HostEntries.{FileView, SaysFile, SaysFolder}
 use Rattle.host_folders.specs.ReadBack.{entry_file}
-use Rattle.host_folders.specs.declared.said.Content.TheVariants.{Text as AText, Program}
+use Rattle.host_folders.specs.declared.said.Content.{Content}
+use Rattle.host_folders.specs.declared.said.Content.TheVariants.{Bytes, Text as AText, Program}
 use Rattle.host_folders.proofs.ReadBack.{text_read_back}
 use Rattle.host_folders.specs.HostNames.{Entry as HostEntry, host_name, text_beside, type_in, type_of}
 use Rattle.host_folders.specs.declared.entry.Naming.TheVariants.{Naps}
@@ -52,10 +53,10 @@ use Rattle.volume_extract.proofs.SafeHosts.{beside_below}
 abbrev HasForm : ℕ → Type 0
 HasForm type = (type ≡ 0x04) ⊎ (type ≡ 0xfc)
 
-text_type : (type : ℕ) → file_form type ≡ Some forms.Text → type ≡ 0x04
+pub text_type : (type : ℕ) → file_form type ≡ Some forms.Text → type ≡ 0x04
 text_type type is = grind (arith, is)
 
-program_type : (type : ℕ) → file_form type ≡ Some forms.Applesoft → type ≡ 0xfc
+pub program_type : (type : ℕ) → file_form type ≡ Some forms.Applesoft → type ≡ 0xfc
 program_type type is = grind (arith, is)
 
 readable_type : (file : FormView) (text : List ℕ) (form : FileForm) → file_form file.info.file_type ≡ Some form → IsTakenBack form file text
@@ -95,6 +96,18 @@ text_says e name type of_type text program (inl is) =
     subst (λ (t : ℕ). SaysFile e.form (text_beside name) (entry_file e (content_of t))) (sym is) (text is)
 text_says e name type of_type text program (inr is) =
     subst (λ (t : ℕ). SaysFile e.form (text_beside name) (entry_file e (content_of t))) (sym is) (program is)
+
+-- a readable form has none beside it
+none_beside : (entries : List EntryView) (path other : Text) (file : FileView) (content : Content) → is_readable content ≡ true
+    → second_of entries path (record file { content = content }) ≡ second_of entries other (record file { content = content })
+none_beside entries path other file Bytes is = absurd cc
+none_beside entries path other file AText is = refl
+none_beside entries path other file Program is = refl
+
+-- nor has a directory one
+plain_type : (type : ℕ) → HasForm type → type ≢ directory_type
+plain_type type (inl is) same = absurd (omega (arith, is, same))
+plain_type type (inr is) same = absurd (omega (arith, is, same))
 
 readable_content : (type : ℕ) → HasForm type → is_readable (content_of type) ≡ true
 readable_content type (inl is) = subst (λ (t : ℕ). is_readable (content_of t) ≡ true) (sym is) refl
@@ -151,8 +164,10 @@ module _ (e : Extracted) (is : IsExtracted e) (number : ℕ) (inside : number < 
       (ap text_beside k.host ∙ beside_below e.items item.above host) in
       record {
         says = says;
-        passed = λ there. second_form (said_of e number content) says (is_second_form folder true there);
-        alone = λ none may. planned e all number inside folder same path content says (is_second_form folder false none) may;
+        passed = λ there. second_form (said_of e number content) (says, plain_type type form_has.0) (is_second_form folder true there);
+        alone = λ none may.
+            planned e all number inside folder same path content says (is_second_form folder false none)
+            (none_beside folder.entries path item.host (said_of e number content).file content (readable_content type form_has.0)) may;
       }
 
 -- ---- folders

@@ -1,4 +1,5 @@
 mod Above
+mod Alike
 mod Bodies
 mod Entries
 mod Forms

@@ -4,7 +4,8 @@ use Rattle.std.specs.Prelude.{IsSome, Ok}
 use Rattle.file_forms.specs.declared.form.GivenForm.{GivenForm}
 use Rattle.folder_adding.specs.HostPaths.{SaysPath, Text, may_have}
 use Rattle.folder_adding.specs.Items.{ItemView}
-use Rattle.folder_adding.specs.Verdicts.{AddedFolder, IsVerdict, adds, form_given, is_item, is_second, item_said, no_name, no_type}
+use Rattle.folder_adding.specs.declared.item.Second.{Second}
+use Rattle.folder_adding.specs.Verdicts.{AddedFolder, IsVerdict, adds, form_given, is_item, is_second, item_said, no_name, no_plain_file, no_type, second_of}
 use Rattle.host_folders.specs.declared.said.Content.{Content}
 use Rattle.host_folders.specs.declared.said.Content.TheVariants.{Bytes}
 use Rattle.host_folders.proofs.ReadBack.{file_read_back}
@@ -12,7 +13,7 @@ use Rattle.host_folders.specs.HostNames.{dos_type, host_name, type_in, type_of}
 use Rattle.host_folders.specs.declared.entry.Naming.TheVariants.{Naps}
 use Rattle.vol_layout.specs.declared.form.PlaceForm.{PlaceForm}
 use Rattle.round_trip.specs.Extracted.{Extracted, IsExtracted, item_in, said_of}
-use Rattle.round_trip.specs.Planned.{IsPlannedAgain, MayBeNew, file_at, item_again}
+use Rattle.round_trip.specs.Planned.{IsPlannedAgain, MayBeNew, file_at, item_again, path_in}
 use Rattle.round_trip.specs.Whole.{IsFileIn}
 use Rattle.round_trip.proofs.Above.{host_no_slash}
 use Rattle.round_trip.proofs.Items.{IsKnown, file_found, known}
@@ -36,8 +37,8 @@ kind_back : (file_system : FileSystem) (kind new : ℕ) → kind_for file_system
 kind_back Dos kind new is = dos_kind_back kind new is
 kind_back Prodos kind new is = cc
 
-abbrev item_of : Text → ℕ → ℕ → Option GivenForm → ItemView
-item_of path kind aux form = record { path = path; kind = Some kind; aux = Some aux; form = form }
+abbrev item_of : Text → ℕ → ℕ → Option GivenForm → Option Second → ItemView
+item_of path kind aux form second = record { path = path; kind = Some kind; aux = Some aux; form = form; second = second }
 
 module _ (e : Extracted) (all : (number : ℕ) → number < length e.items → IsKnown e number) (number : ℕ) (inside : number < length e.items)
     (folder : AddedFolder) (same : folder.file_system ≡ e.volume.file_system) where
@@ -46,9 +47,11 @@ module _ (e : Extracted) (all : (number : ℕ) → number < length e.items → I
       ap (λ (form : PlaceForm). type_in form (item_in e number).entry.kind) ((all number inside).form ∙ ap form_of (sym same))
 
   pub planned : (path : Text) (content : Content) → SaysPath folder.file_system path (said_of e number content)
-      → is_second folder path (said_of e number content) ≡ false → MayBeNew e number
+      → is_second folder path (said_of e number content) ≡ false
+      → second_of folder.entries path (said_of e number content).file ≡ second_of folder.entries (item_in e number).host (said_of e number content).file
+      → MayBeNew e number
       → IsVerdict folder (file_at path) (Ok (adds (item_again folder e number content)))
-  planned path content says first may =
+  planned path content says first beside may =
       let said = said_of e number content in
       let type = type_of (item_in e number).entry in
       let found = some_value (kind_for folder.file_system type)
@@ -58,11 +61,12 @@ module _ (e : Extracted) (all : (number : ℕ) → number < length e.items → I
       ∙ ap (λ (file_system : FileSystem). may_have file_system (said_of e number Bytes)) same ∙ may.names in
       let kind : found.0 ≡ (item_in e number).entry.kind =
       kind_back folder.file_system (item_in e number).entry.kind found.0 (ap (kind_for folder.file_system) (sym type_by) ∙ found.1) in
-      let item : item_said folder said found.0 ≡ item_again folder e number content =
-      ap₂ (λ (path : Text) (kind : ℕ). item_of path kind said.file.aux_type (form_given folder.file_system content))
-      (again e all number inside folder.file_system same folder.into content) kind in
+      let item : item_said folder path said found.0 ≡ item_again folder e number content =
+      ap₂ (λ (stored : Text) (kind : ℕ). item_of stored kind said.file.aux_type (form_given folder.file_system content) (second_of folder.entries path said.file))
+      (again e all number inside folder.file_system same folder.into content) kind
+      ∙ ap (item_of (path_in folder e number) (item_in e number).entry.kind said.file.aux_type (form_given folder.file_system content)) beside in
       subst (λ (item : ItemView). IsVerdict folder (file_at path) (Ok (adds item))) item
-      (is_item said found.0 says first found.1 names)
+      (is_item said found.0 (says, may.plain) first found.1 names)
 
 pub planned_again : (e : Extracted) (folder : AddedFolder) (number : ℕ) → IsExtracted e → folder.file_system ≡ e.volume.file_system
     → IsFileIn e number → IsPlannedAgain folder e number
@@ -80,11 +84,12 @@ planned_again e folder number is same of =
     let type = type_of item.entry in
     record {
       says = says;
-      planned = λ may. planned e all number inside folder same item.host Bytes says refl may;
-      no_type = λ none.
-          no_type said says refl (ap (λ (file_system : FileSystem). kind_for file_system type) same ∙ none);
-      no_name = λ typed named.
+      planned = λ may. planned e all number inside folder same item.host Bytes says refl refl may;
+      directory_type = λ directory. no_plain_file said says directory;
+      no_type = λ plain none.
+          no_type said (says, plain) refl (ap (λ (file_system : FileSystem). kind_for file_system type) same ∙ none);
+      no_name = λ plain typed named.
           let found = some_value (kind_for folder.file_system type)
           (subst (λ (file_system : FileSystem). IsSome (kind_for file_system type)) (sym same) typed) in
-          no_name said found.0 says refl found.1 (ap (λ (file_system : FileSystem). may_have file_system said) same ∙ named);
+          no_name said found.0 (says, plain) refl found.1 (ap (λ (file_system : FileSystem). may_have file_system said) same ∙ named);
     }

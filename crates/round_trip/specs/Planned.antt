@@ -1,10 +1,10 @@
 -- Files and directories that were extracted, planned as what they were.
-use Rattle.std.specs.Prelude.{◌≡◌, ◌==◌, true, false, ℕ, Bool, ◌++◌, Option, None, Some, Err, Ok, IsSome, flat_map, if◌then◌else◌}
+use Rattle.std.specs.Prelude.{◌≡◌, ◌≢◌, ◌==◌, true, false, ℕ, Bool, ◌++◌, Option, None, Some, Err, Ok, IsSome, flat_map, if◌then◌else◌}
 use Rattle.std.specs.Option.{option_to_list}
 use Rattle.folder_adding.specs.HostEntries.{EntryView, has_file}
 use Rattle.folder_adding.specs.HostPaths.{SaysDirectory, SaysPath, Text, are_pro_names, before, characters, may_have}
 use Rattle.folder_adding.specs.Items.{ItemView}
-use Rattle.folder_adding.specs.Verdicts.{AddedFolder, IsVerdict, adds, form_given, makes, passes}
+use Rattle.folder_adding.specs.Verdicts.{AddedFolder, IsVerdict, adds, directory_type, form_given, makes, passes, second_of}
 use Rattle.folder_adding.specs.declared.host_entry.HostKind.TheVariants.{File, Folder}
 use Rattle.host_folders.specs.declared.said.Content.{Content}
 use Rattle.host_folders.specs.declared.said.Content.TheVariants.{Bytes, Text as AText, Program}
@@ -28,13 +28,15 @@ path_again Prodos into entry = flat_map before (option_to_list into) ++ entry.pa
 abbrev pub path_in : AddedFolder → Extracted → ℕ → Text
 path_in folder e number = path_again folder.file_system folder.into (entry_in e number)
 
--- the item with the path, the kind and the aux type that a file had, whose bytes give it so
+-- the item with the path, the kind and the aux type that a file had, whose bytes give it so, with the readable form
+-- that stands beside these in the folder
 abbrev pub item_again : AddedFolder → Extracted → ℕ → Content → ItemView
 item_again folder e number content = record {
   path = path_in folder e number;
   kind = Some (item_in e number).entry.kind;
   aux = Some (aux_of (item_in e number).entry);
   form = form_given folder.file_system content;
+  second = second_of folder.entries (item_in e number).host (said_of e number content).file;
 }
 
 -- a file, and a folder, among the entries of a folder
@@ -50,20 +52,28 @@ folder_at path = record { path = path; kind = Folder }
 abbrev pub HasKind : Extracted → ℕ → Type 0
 HasKind e number = IsSome (kind_for e.volume.file_system (type_of (item_in e number).entry))
 
+-- a file does not have the type of directories
+abbrev pub IsPlain : Extracted → ℕ → Type 0
+IsPlain e number = type_of (item_in e number).entry ≢ directory_type
+
 -- a new file may have the type of a file, its name and the names of its directories
 pub record MayBeNew (e : Extracted) (number : ℕ) : Type 0 where
+  pub plain : IsPlain e number
   pub kind : HasKind e number
   pub names : may_have e.volume.file_system (said_of e number Bytes) ≡ true
 
 -- A file: its path says its names, its type and its aux type. Where a new file may have them, it is added as what it
--- was, with its bytes as they are; and else it is refused for its type or for a name, and for nothing else.
+-- was, with its bytes as they are; and else it is refused for its path, where it has the type of directories, for
+-- another type or for a name, and for nothing else.
 pub record IsPlannedAgain (folder : AddedFolder) (e : Extracted) (number : ℕ) : Type 0 where
   pub says : SaysPath folder.file_system (item_in e number).host (said_of e number Bytes)
   pub planned : MayBeNew e number
       → IsVerdict folder (file_at (item_in e number).host) (Ok (adds (item_again folder e number Bytes)))
-  pub no_type : kind_for e.volume.file_system (type_of (item_in e number).entry) ≡ None
+  pub directory_type : type_of (item_in e number).entry ≡ directory_type
+      → IsVerdict folder (file_at (item_in e number).host) (Err refusals.Host)
+  pub no_type : IsPlain e number → kind_for e.volume.file_system (type_of (item_in e number).entry) ≡ None
       → IsVerdict folder (file_at (item_in e number).host) (Err refusals.Type)
-  pub no_name : HasKind e number → may_have e.volume.file_system (said_of e number Bytes) ≡ false
+  pub no_name : IsPlain e number → HasKind e number → may_have e.volume.file_system (said_of e number Bytes) ≡ false
       → IsVerdict folder (file_at (item_in e number).host) (Err refusals.Name)
 
 -- ---- readable forms

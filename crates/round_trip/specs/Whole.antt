@@ -1,8 +1,7 @@
 -- All that an extraction made, planned as what it was.
-use Rattle.std.specs.Prelude.{◌≡◌, ◌<◌, ℕ, true, List, [], Contains, Some, length, slice_get}
+use Rattle.std.specs.Prelude.{◌≡◌, ◌<◌, ℕ, true, List, [], Contains, Some, length, slice_get, slice_index_or}
 use Rattle.folder_adding.specs.HostEntries.{EntryView}
 use Rattle.folder_adding.specs.HostPaths.{Text}
-use Rattle.folder_adding.specs.Numbered.{contents_of}
 use Rattle.folder_adding.specs.Plan.{IsFirstRefused, IsPlan, PlanView}
 use Rattle.folder_adding.specs.Verdicts.{AddedFolder}
 use Rattle.host_folders.specs.declared.said.Content.TheVariants.{Bytes}
@@ -109,4 +108,4 @@ body_of found_unread = []
 abbrev pub AreBodies : AddedFolder → Extracted → PlanView → (ℕ → List ℕ) → Type 0
 AreBodies folder e plan contents =
     (place number : ℕ) → IsFileOf folder e plan place number
-    → contents_of plan.files contents place ≡ body_of (item_in e number).found
+    → contents (slice_index_or plan.files place 0) ≡ body_of (item_in e number).found

@@ -1,10 +1,13 @@
 // What becomes of the files of a volume that are extracted and then added.
 ghost use Rattle.std.specs.Prelude.{◌≡◌, ℕ, IsTrue, List, [], Option, map};
 ghost use Rattle.a2_device.specs.Device.{DeviceState};
-ghost use Rattle.folder_adding.specs.Plan.{PlanView};
+ghost use Rattle.folder_adding.specs.AddReply.{batch_of};
+ghost use Rattle.folder_adding.specs.Plan.{IsPlan, PlanView};
+ghost use Rattle.folder_adding.specs.Reads.{AreGivenBack};
 ghost use Rattle.folder_adding.specs.Verdicts.{AddedFolder};
 ghost use Rattle.host_folders.specs.Folder.{FolderState};
 ghost use Rattle.host_folders.specs.declared.entry.Naming.TheVariants.{Naps};
+ghost use Rattle.pro_dir.specs.declared.date.ProDate.{ProDate};
 ghost use Rattle.round_trip.specs.Extracted.{Extracted, IsExtracted, IsWhole};
 ghost use Rattle.round_trip.specs.Planned.{IsDirectoryAgain, IsFormPlannedAgain, IsPlannedAgain, MayBeNew};
 ghost use Rattle.round_trip.specs.Stored.{IsStoredAgain};
@@ -39,7 +42,7 @@ pub fn what_extract_does_is_an_extraction()
 {}
 
 /// A law: a file that was extracted is planned as what it was, whatever else stands in its folder, or is refused for
-/// its type or a name.
+/// its type or a name; one with the type of directories is refused as a path that says no file.
 pub fn an_extracted_file_is_planned_as_it_was()
     ensures { (e : Extracted) (folder : AddedFolder) (number : ℕ) → IsExtracted e
         → folder.file_system ≡ e.volume.file_system → IsFileIn e number → IsPlannedAgain folder e number }
@@ -78,6 +81,18 @@ pub fn planned_files_hold_what_was_extracted()
     ensures { (e : Extracted) (folder : AddedFolder) (plan : PlanView) (contents : ℕ → List ℕ) → IsExtracted e
         → HoldWhatWasMade (made_in e.items) folder.entries contents → AreBodies folder e plan contents }
 {}
+
+/// A law: from the readable forms that such a plan passes over just the bytes of their files are taken, so that none of
+/// them is refused for that.
+pub fn readable_forms_give_their_files_back()
+    ensures { (e : Extracted) (folder : AddedFolder) (plan : PlanView) (date : ProDate) (contents : ℕ → List ℕ)
+        → IsExtracted e → folder.file_system ≡ e.volume.file_system
+        → HoldWhatWasMade (made_in e.items) folder.entries contents
+        → AreEntriesOf (made_in e.items) folder.entries → MayAllBeNew e → IsPlan folder plan
+        → AreGivenBack (batch_of (record { folder = folder; plan = plan; date = date })) contents }
+{
+    an_entry_makes_one_step();
+}
 
 /// A law: the entry with which such a file is saved has the path that the file had: of DOS 3.3 its name, filled up with
 /// spaces, and of ProDOS its path with the letters as capitals.

@@ -51,6 +51,7 @@ refusal_line refusals.InputTooLong = codes "REFUSED InputTooLong\n"
 refusal_line refusals.Single = codes "REFUSED Single\n"
 refusal_line refusals.NoSector = codes "REFUSED NoSector\n"
 refusal_line refusals.Host = codes "REFUSED Host\n"
+refusal_line refusals.Differs = codes "REFUSED Differs\n"
 
 abbrev pub failure_line : Failure → List ℕ
 failure_line failures.Input = codes "FAILED Input\n"

@@ -55,6 +55,8 @@ pub enum Refusal {
     NoSector,
     /// The name of an entry of a folder says no file or folder of the volume.
     Host,
+    /// The readable form that stands beside a file does not give just the bytes of that file.
+    Differs,
 }
 
 /// What failed under a job.
@@ -129,6 +131,7 @@ impl Refusal {
             Refusal::Single => b"REFUSED Single\n",
             Refusal::NoSector => b"REFUSED NoSector\n",
             Refusal::Host => b"REFUSED Host\n",
+            Refusal::Differs => b"REFUSED Differs\n",
         }
     }
 }

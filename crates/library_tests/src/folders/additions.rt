@@ -148,10 +148,14 @@ fn items_of(alloc: Global, rows: &[Row]) -> Result<Vec<Item>, AllocError> {
             kind: *kind,
             aux: *aux,
             form: *form,
+            second: None,
         })?;
     }
     Ok(items)
 }
+
+/// The numbers of the files of rows: each item has the file of its own number.
+pub static NUMBERS: [usize; 2] = [0, 1];
 
 /// The files of rows.
 fn files_of(alloc: Global, rows: &[Row]) -> Result<MemoryFiles, AllocError> {
@@ -162,19 +166,19 @@ fn files_of(alloc: Global, rows: &[Row]) -> Result<MemoryFiles, AllocError> {
     Ok(MemoryFiles::new(files))
 }
 
-/// Why not all items were saved.
+/// Why not all items were saved: the number of an item, that of the file of which it is told, and what.
 #[derive(Clone, Copy, Debug, PartialEq, Eq)]
 pub enum Why {
-    Refused(usize, Refusal),
-    Failed(usize, Failure),
+    Refused(usize, usize, Refusal),
+    Failed(usize, usize, Failure),
     Other,
 }
 
 fn reason(refused: Refused) -> Why {
-    let Refused { item, reply } = refused;
+    let Refused { item, file, reply } = refused;
     match &reply.told {
-        Told::Refusal(refusal) => Why::Refused(item, *refusal),
-        Told::Failure(failure) => Why::Failed(item, *failure),
+        Told::Refusal(refusal) => Why::Refused(item, file, *refusal),
+        Told::Failure(failure) => Why::Failed(item, file, *failure),
         _ => Why::Other,
     }
 }
@@ -184,6 +188,7 @@ fn add_on_dos<D: Device, H: HostFiles>(
     alloc: Global,
     device: &mut D,
     items: &[Item],
+    numbers: &[usize],
     files: &mut H,
 ) -> Option<Why>
     requires unit { (D.state device.old).unit_size ≡ 256 }
@@ -193,6 +198,7 @@ fn add_on_dos<D: Device, H: HostFiles>(
         file_system: FileSystem::Dos,
         date: DATE,
         items,
+        files: numbers,
     };
     match Dos33::new(alloc, false, Reserved::none(alloc)) {
         Ok(format) => add_all(alloc, device, &format, Acceptance::Unknown, &batch, files)
@@ -207,6 +213,7 @@ fn add_on_blocks<D: Device, H: HostFiles>(
     alloc: Global,
     device: &mut D,
     items: &[Item],
+    numbers: &[usize],
     files: &mut H,
 ) -> Option<Why>
     requires unit { (D.state device.old).unit_size ≡ 512 }
@@ -216,6 +223,7 @@ fn add_on_blocks<D: Device, H: HostFiles>(
         file_system: FileSystem::Prodos,
         date: DATE,
         items,
+        files: numbers,
     };
     let format = Prodos::new(alloc, Reserved::none(alloc));
     add_all(alloc, device, &format, Acceptance::Unknown, &batch, files)
@@ -236,6 +244,7 @@ pub fn dos_ended<H: HostFiles>(
     alloc: Global,
     image: Vec<u8>,
     items: &[Item],
+    numbers: &[usize],
     files: &mut H,
     failure: Late,
     before: u64,
@@ -244,7 +253,7 @@ pub fn dos_ended<H: HostFiles>(
         return None;
     }
     let mut device = late(dos_device(image), failure, before);
-    let why = add_on_dos(alloc, &mut device, items, files);
+    let why = add_on_dos(alloc, &mut device, items, numbers, files);
     let writes = device.writes();
     let faults = device.faults();
     let image = device.into_inner().into_image().into_bytes();
@@ -260,12 +269,13 @@ pub fn pro_ended<H: HostFiles>(
     alloc: Global,
     image: Vec<u8>,
     items: &[Item],
+    numbers: &[usize],
     files: &mut H,
     failure: Late,
     before: u64,
 ) -> Option<End> {
     let mut device = late(block_device(image)?, failure, before);
-    let why = add_on_blocks(alloc, &mut device, items, files);
+    let why = add_on_blocks(alloc, &mut device, items, numbers, files);
     let writes = device.writes();
     let faults = device.faults();
     let image = device.into_inner().into_image().into_bytes();
@@ -290,8 +300,8 @@ fn ended(
     let items = items_of(alloc, rows).ok()?;
     let mut files = FailingFiles::one(files_of(alloc, rows).ok()?, unread);
     match volume {
-        Volume::Hello => dos_ended(alloc, image, &items, &mut files, failure, before),
-        Volume::Tree => pro_ended(alloc, image, &items, &mut files, failure, before),
+        Volume::Hello => dos_ended(alloc, image, &items, &NUMBERS, &mut files, failure, before),
+        Volume::Tree => pro_ended(alloc, image, &items, &NUMBERS, &mut files, failure, before),
     }
 }
 
@@ -365,7 +375,7 @@ fn the_first_refused_item_is_told(rt: HostRuntime) {
         NEVER,
         4,
     );
-    assert!(rt; answer == Some((Some(Why::Refused(1, Refusal::Exists)), 4, 0, true)));
+    assert!(rt; answer == Some((Some(Why::Refused(1, 1, Refusal::Exists)), 4, 0, true)));
     let answer = told(
         rt.alloc(),
         Volume::Hello,
@@ -375,7 +385,7 @@ fn the_first_refused_item_is_told(rt: HostRuntime) {
         NEVER,
         4,
     );
-    assert!(rt; answer == Some((Some(Why::Refused(1, Refusal::Single)), 4, 0, true)));
+    assert!(rt; answer == Some((Some(Why::Refused(1, 1, Refusal::Single)), 4, 0, true)));
 }
 
 #[test]
@@ -392,7 +402,7 @@ fn each_reading_of_a_file_failing(rt: HostRuntime) {
                 NEVER,
                 stand,
             );
-            let wanted = Some(Why::Failed(unread as usize, Failure::Input));
+            let wanted = Some(Why::Failed(unread as usize, unread as usize, Failure::Input));
             assert!(rt; answer == Some((wanted, stand, 0, true)), "{name} {unread}");
         }
     }
@@ -403,9 +413,17 @@ fn a_file_that_is_not_there(rt: HostRuntime) -> Result<(), Fail> {
     let items = items_of(rt.alloc(), &DOS_ROWS)?;
     let mut files = files_of(rt.alloc(), &DOS_ROWS[..1])?;
     let image = image_after(rt.alloc(), Volume::Hello, 0)?;
-    let end = dos_ended(rt.alloc(), image, &items, &mut files, Late::Read, NEVER);
+    let end = dos_ended(
+        rt.alloc(),
+        image,
+        &items,
+        &NUMBERS,
+        &mut files,
+        Late::Read,
+        NEVER,
+    );
     let why = end.and_then(|end| end.why);
-    assert!(rt; why == Some(Why::Failed(1, Failure::Input)));
+    assert!(rt; why == Some(Why::Failed(1, 1, Failure::Input)));
     Ok(())
 }
 
@@ -420,7 +438,15 @@ fn readings(alloc: Global, rows: &[Row]) -> Option<u64> {
     let items = items_of(alloc, rows).ok()?;
     let mut files = FailingFiles::none(files_of(alloc, rows).ok()?);
     let image = image_after(alloc, Volume::Hello, 0).ok()?;
-    dos_ended(alloc, image, &items, &mut files, Late::Read, NEVER)?;
+    dos_ended(
+        alloc,
+        image,
+        &items,
+        &NUMBERS,
+        &mut files,
+        Late::Read,
+        NEVER,
+    )?;
     Some(files.calls())
 }
 
@@ -444,7 +470,8 @@ fn tells_writes(alloc: Global, volume: Volume, took: bool) -> bool {
         let stand = if took { before + 1 } else { before };
         let failure = Late::Write { took };
         let answer = told(alloc, volume, volume.rows(), NEVER, failure, before, stand);
-        let wanted = Some(Why::Failed(item_at(volume, before), Failure::Device));
+        let item = item_at(volume, before);
+        let wanted = Some(Why::Failed(item, item, Failure::Device));
         if answer != Some((wanted, before + 1, 1, true)) {
             return false;
         }
@@ -481,7 +508,7 @@ fn tells_reads(alloc: Global, volume: Volume) -> bool {
             before,
             stand,
         ) {
-            Some((Some(Why::Failed(at, Failure::Device)), writes, 1, is_wanted)) => {
+            Some((Some(Why::Failed(at, _, Failure::Device)), writes, 1, is_wanted)) => {
                 if at == item && !(is_wanted && writes == stand) {
                     return false;
                 }
@@ -521,6 +548,7 @@ fn text_of(
         file_system,
         date: DATE,
         items: &items,
+        files: &NUMBERS,
     };
     added_text(alloc, &batch, &entries, passed)
 }

@@ -1,11 +1,12 @@
 //! The plan of a folder whose files are added to a volume: `plan`, and the files that it names, saved by `add_all`.
-use crate::folders::additions::{DATE, NEVER, Volume, Why, dos_ended, image_after, pro_ended};
-use file_forms::GivenForm;
+use crate::folders::additions::{DATE, End, NEVER, Volume, Why, dos_ended, image_after, pro_ended};
+use file_forms::{FileForm, GivenForm};
 use folder_adding::{
-    Batch, HostEntry, HostKind, MemoryFiles, NumberedFiles, Plan, PlanError, added_text, plan,
+    Batch, FailingFiles, HostEntry, HostFiles, HostKind, MemoryFiles, Plan, PlanError, Second,
+    added_text, plan,
 };
 use shop_jobs::FileSystem;
-use shop_replies::Refusal;
+use shop_replies::{Failure, Refusal};
 use std::alloc::{AllocError, Global};
 use std::test::Fail;
 use test_volumes::{FIRST_CATALOG, Failure as Late, Piece, VTOC, put_writes};
@@ -247,6 +248,70 @@ fn readable_forms_beside_their_files(rt: HostRuntime) {
     );
 }
 
+/// The readable forms of the items of a plan, in order, where they stand beside them.
+fn has_seconds(
+    alloc: Global,
+    file_system: FileSystem,
+    rows: &[(&str, HostKind)],
+    seconds: &[Option<Second>],
+) -> bool {
+    let Ok(plan) = planned(alloc, file_system, None, rows) else {
+        return false;
+    };
+    for (number, second) in seconds.iter().enumerate() {
+        if number >= plan.items.len() || plan.items[number].second != *second {
+            return false;
+        }
+    }
+    plan.items.len() == seconds.len()
+}
+
+#[test]
+fn the_readable_forms_of_items(rt: HostRuntime) {
+    let rows = [
+        ("B#060300", HostKind::File),
+        ("N#040000", HostKind::File),
+        ("N#040000.txt", HostKind::File),
+        ("N#040000.utf8.txt", HostKind::File),
+        ("P#fc0801.utf8.txt", HostKind::File),
+        ("P#fc0801", HostKind::File),
+        ("Q#fc0801.utf8.txt", HostKind::File),
+    ];
+    let seconds = [
+        None,
+        Some(Second {
+            file: 3,
+            form: FileForm::Text,
+        }),
+        None,
+        Some(Second {
+            file: 4,
+            form: FileForm::Applesoft,
+        }),
+        None,
+    ];
+    for file_system in [DOS, PRODOS] {
+        assert!(rt; has_seconds(rt.alloc(), file_system, &rows, &seconds));
+    }
+    let apart = [
+        ("N#040000", HostKind::File),
+        ("SUB", HostKind::Folder),
+        ("SUB/N#040000.utf8.txt", HostKind::File),
+    ];
+    assert!(rt; has_seconds(rt.alloc(), PRODOS, &apart, &[None, None]));
+    // the first of two entries of one path
+    let twice = [
+        ("N#040000.utf8.txt", HostKind::File),
+        ("N#040000.utf8.txt", HostKind::File),
+        ("N#040000", HostKind::File),
+    ];
+    let first = Second {
+        file: 0,
+        form: FileForm::Text,
+    };
+    assert!(rt; has_seconds(rt.alloc(), DOS, &twice, &[Some(first)]));
+}
+
 #[test]
 fn folders_of_prodos(rt: HostRuntime) {
     let rows = [
@@ -318,6 +383,28 @@ fn names_that_say_nothing(rt: HostRuntime) {
 }
 
 #[test]
+fn files_with_the_type_of_directories(rt: HostRuntime) {
+    for file_system in [DOS, PRODOS] {
+        for path in ["A#0f0000", "A#0F1234", "A#0f0000.bin", "1ST%#0f0000"] {
+            assert!(rt;
+                file_refused(rt.alloc(), file_system, path) == Some(Refusal::Host),
+                "{path}"
+            );
+        }
+    }
+    let apart: [Said; 1] = [(0, b"A", 0x0e, 0x0000, Given::Bytes)];
+    assert!(rt;
+        plans(
+            rt.alloc(),
+            PRODOS,
+            &[("A#0e0000", HostKind::File)],
+            &apart,
+            &[]
+        )
+    );
+}
+
+#[test]
 fn what_is_no_file(rt: HostRuntime) {
     let alloc = rt.alloc();
     let host = Some((0, Refusal::Host));
@@ -332,7 +419,7 @@ fn what_is_no_file(rt: HostRuntime) {
 
 #[test]
 fn types_that_dos_has_not(rt: HostRuntime) {
-    for path in ["A#000000", "A#ff2000", "A#f30000", "A#0f0000"] {
+    for path in ["A#000000", "A#ff2000", "A#f30000"] {
         assert!(rt;
             file_refused(rt.alloc(), DOS, path) == Some(Refusal::Type),
             "{path}"
@@ -420,7 +507,7 @@ fn the_first_refused_entry(rt: HostRuntime) {
 /// Three files of DOS 3.3, with the readable form of one of them beside it, in this order, and what they hold.
 static ADDED_ROWS: [(&str, HostKind, &[u8]); 4] = [
     ("HI#060300", HostKind::File, &[0xa9, 0x00, 0x60]),
-    ("E1#040000.utf8.txt", HostKind::File, b"passed over"),
+    ("E1#040000.utf8.txt", HostKind::File, b""),
     ("E1#040000", HostKind::File, b""),
     ("NOTE#040000.utf8.txt", HostKind::File, b"HI\n"),
 ];
@@ -475,6 +562,22 @@ fn folder_of(
     Ok((entries, MemoryFiles::new(files)))
 }
 
+/// The end of saving the items of a plan to a volume.
+fn ended<H: HostFiles>(
+    alloc: Global,
+    volume: Volume,
+    image: Vec<u8>,
+    plan: &Plan,
+    files: &mut H,
+) -> Option<End> {
+    let items = plan.items.as_slice();
+    let numbers = plan.files.as_slice();
+    match volume {
+        Volume::Hello => dos_ended(alloc, image, items, numbers, files, Late::Read, NEVER),
+        Volume::Tree => pro_ended(alloc, image, items, numbers, files, Late::Read, NEVER),
+    }
+}
+
 /// Why not all files of rows were added to a volume, the image, and what is told.
 type Added = (Option<Why>, Vec<u8>, String);
 
@@ -491,13 +594,10 @@ fn added(
         file_system,
         date: DATE,
         items: &plan.items,
+        files: &plan.files,
     };
     let text = added_text(alloc, &batch, &entries, &plan.passed).ok()?;
-    let mut files = NumberedFiles::new(&plan.files, &mut all);
-    let end = match volume {
-        Volume::Hello => dos_ended(alloc, image, &plan.items, &mut files, Late::Read, NEVER)?,
-        Volume::Tree => pro_ended(alloc, image, &plan.items, &mut files, Late::Read, NEVER)?,
-    };
+    let end = ended(alloc, volume, image, &plan, &mut all)?;
     Some((end.why, end.image, text))
 }
 
@@ -527,5 +627,180 @@ fn a_folder_is_added(rt: HostRuntime) -> Result<(), Fail> {
     put_writes(&mut image, 512, &LAST_BLOCKS, 3);
     let text = "ADDED NOTE\nADDED TWO\nADDED N3\nADDED files 3\n";
     assert!(rt; adds(alloc, Volume::Tree, PRODOS, &TREE_ROWS, &image, text));
+    Ok(())
+}
+
+/// The paths of a file and of its readable form, and what they hold.
+type Pair = (&'static str, &'static str, &'static [u8], &'static [u8]);
+
+const TEXT: &str = "N#040000";
+
+const TEXT_FORM: &str = "N#040000.utf8.txt";
+
+const PROGRAM: &str = "P#fc0801";
+
+const PROGRAM_FORM: &str = "P#fc0801.utf8.txt";
+
+/// `10 HOME`, with the token of HOME, for a program at $0801.
+const HOME: &[u8] = b"\x07\x08\x0a\x00\x97\x00\x00\x00";
+
+/// Readable forms that give just the bytes of the files beside them: a text with its highest bits on, off, and with
+/// what fills its sectors up; a text without a byte; and a program.
+static ALIKE: [Pair; 4] = [
+    (TEXT, TEXT_FORM, b"\xc8\xc9\x8d", b"HI\n"),
+    (TEXT, TEXT_FORM, b"HI\r", b"HI\n"),
+    (TEXT, TEXT_FORM, b"", b""),
+    (PROGRAM, PROGRAM_FORM, HOME, b"10 HOME\n"),
+];
+
+/// Readable forms that give other bytes: edited, cut, empty, with a line more, of another file, no UTF-8; and those of
+/// a program: edited, with another number, cut, empty, and a text.
+static UNLIKE: [Pair; 12] = [
+    (TEXT, TEXT_FORM, b"\xc8\xc9\x8d", b"HO\n"),
+    (TEXT, TEXT_FORM, b"\xc8\xc9\x8d", b"HI"),
+    (TEXT, TEXT_FORM, b"\xc8\xc9\x8d", b""),
+    (TEXT, TEXT_FORM, b"\xc8\xc9\x8d", b"HI\n\n"),
+    (TEXT, TEXT_FORM, b"\xc8\xc9\x8d", b"10 HOME\n"),
+    (TEXT, TEXT_FORM, b"\xc8\xc9\x8d", b"HI\xff\n"),
+    (TEXT, TEXT_FORM, b"", b"HI\n"),
+    (TEXT, TEXT_FORM, b"\xc8I\x8d", b"HI\n"),
+    (PROGRAM, PROGRAM_FORM, HOME, b"10 TEXT\n"),
+    (PROGRAM, PROGRAM_FORM, HOME, b"20 HOME\n"),
+    (PROGRAM, PROGRAM_FORM, HOME, b""),
+    (PROGRAM, PROGRAM_FORM, HOME, b"HI\n"),
+];
+
+/// Why a file with its readable form is not added, and whether the volume is as it was.
+fn pair_added(
+    alloc: Global,
+    volume: Volume,
+    file_system: FileSystem,
+    pair: &Pair,
+) -> Option<(Option<Why>, bool)> {
+    let (file, form, bytes, given) = pair;
+    let rows = [
+        (*file, HostKind::File, *bytes),
+        (*form, HostKind::File, *given),
+    ];
+    let stood = image_after(alloc, volume, 0).ok()?;
+    let (why, image, _) = added(alloc, volume, file_system, &rows)?;
+    Some((why, image.as_slice() == stood.as_slice()))
+}
+
+static SYSTEMS: [(Volume, FileSystem); 2] = [(Volume::Hello, DOS), (Volume::Tree, PRODOS)];
+
+#[test]
+fn a_readable_form_that_gives_its_file_is_passed_over(rt: HostRuntime) {
+    for (volume, file_system) in &SYSTEMS {
+        for pair in &ALIKE {
+            let answer = pair_added(rt.alloc(), *volume, *file_system, pair);
+            assert!(rt; answer == Some((None, false)));
+        }
+    }
+    // in DOS 3.3 zeros fill a text up, and in ProDOS they are bytes of it
+    let filled: Pair = (TEXT, TEXT_FORM, b"\xc8\xc9\x8d\0\0", b"HI\n");
+    assert!(rt; pair_added(rt.alloc(), Volume::Hello, DOS, &filled) == Some((None, false)));
+    let differs = Some((Some(Why::Refused(0, 1, Refusal::Differs)), true));
+    assert!(rt; pair_added(rt.alloc(), Volume::Tree, PRODOS, &filled) == differs);
+    let hidden: Pair = (TEXT, TEXT_FORM, b"\xc8\xc9\x8d\0\xc8", b"HI\n");
+    assert!(rt; pair_added(rt.alloc(), Volume::Hello, DOS, &hidden) == differs);
+}
+
+#[test]
+fn a_readable_form_that_gives_other_bytes_is_refused(rt: HostRuntime) {
+    let differs = Some((Some(Why::Refused(0, 1, Refusal::Differs)), true));
+    for (volume, file_system) in &SYSTEMS {
+        for (number, pair) in UNLIKE.iter().enumerate() {
+            let answer = pair_added(rt.alloc(), *volume, *file_system, pair);
+            assert!(rt; answer == differs, "{number}");
+        }
+    }
+}
+
+/// HI, then two texts with their forms, of which the second differs.
+static SECOND_DIFFERS: [(&str, HostKind, &[u8]); 5] = [
+    ("HI#060300", HostKind::File, &[0xa9, 0x00, 0x60]),
+    ("E1#040000.utf8.txt", HostKind::File, b""),
+    ("E1#040000", HostKind::File, b""),
+    ("N#040000", HostKind::File, &[0xc8, 0xc9, 0x8d]),
+    ("N#040000.utf8.txt", HostKind::File, b"HO\n"),
+];
+
+/// Why not all files of rows were added to HELLO, where the reading after so many others fails, whether the image is as
+/// it is after so many of the writes, and how many readings there were.
+fn unread(
+    alloc: Global,
+    rows: &[(&str, HostKind, &[u8])],
+    before: u64,
+    stand: u64,
+) -> Option<(Option<Why>, bool, u64)> {
+    let (entries, all) = folder_of(alloc, rows).ok()?;
+    let plan = plan(alloc, DOS, None, &entries).ok()?;
+    let wanted = image_after(alloc, Volume::Hello, stand).ok()?;
+    let image = image_after(alloc, Volume::Hello, 0).ok()?;
+    let mut files = FailingFiles::one(all, before);
+    let end = ended(alloc, Volume::Hello, image, &plan, &mut files)?;
+    let stands = end.image.as_slice() == wanted.as_slice();
+    Some((end.why, stands, files.calls()))
+}
+
+#[test]
+fn an_edited_form_is_refused_in_its_turn(rt: HostRuntime) {
+    let differs = Some(Why::Refused(2, 4, Refusal::Differs));
+    assert!(rt; unread(rt.alloc(), &SECOND_DIFFERS, NEVER, 7) == Some((differs, true, 5)));
+}
+
+#[test]
+fn each_reading_of_a_folder_failing(rt: HostRuntime) {
+    let input = Failure::Input;
+    // the item and the file of each reading, and after how many writes the image stands
+    let readings = [(0, 0, 0), (1, 2, 4), (1, 1, 4), (2, 3, 7), (2, 4, 7)];
+    for (before, (item, file, stand)) in readings.iter().enumerate() {
+        let answer = unread(rt.alloc(), &SECOND_DIFFERS, before as u64, *stand);
+        let why = Some(Why::Failed(*item, *file, input));
+        assert!(rt; answer == Some((why, true, before as u64 + 1)), "{before}");
+    }
+}
+
+/// HELLO, which the volume has, with a readable form that differs.
+static IN_USE_AND_DIFFERS: [(&str, HostKind, &[u8]); 2] = [
+    ("HELLO#040000", HostKind::File, &[0xc8, 0xc9, 0x8d]),
+    ("HELLO#040000.utf8.txt", HostKind::File, b"HO\n"),
+];
+
+/// The same with one that gives its bytes.
+static IN_USE_AND_ALIKE: [(&str, HostKind, &[u8]); 2] = [
+    ("HELLO#040000", HostKind::File, &[0xc8, 0xc9, 0x8d]),
+    ("HELLO#040000.utf8.txt", HostKind::File, b"HI\n"),
+];
+
+#[test]
+fn a_form_is_weighed_before_its_file_is_saved(rt: HostRuntime) {
+    let differs = Some(Why::Refused(0, 1, Refusal::Differs));
+    assert!(rt; unread(rt.alloc(), &IN_USE_AND_DIFFERS, NEVER, 0) == Some((differs, true, 2)));
+    let exists = Some(Why::Refused(0, 0, Refusal::Exists));
+    assert!(rt; unread(rt.alloc(), &IN_USE_AND_ALIKE, NEVER, 0) == Some((exists, true, 2)));
+}
+
+/// One byte more than a file that is saved may have.
+const TOO_LONG: usize = 16_777_217;
+
+#[test]
+fn files_and_forms_that_are_too_long(rt: HostRuntime) -> Result<(), Fail> {
+    let alloc = rt.alloc();
+    let long = vec![in alloc; 0x41; TOO_LONG]?;
+    // a file that is too long is told, and its form is not read
+    let rows = [
+        (TEXT, HostKind::File, long.as_slice()),
+        (TEXT_FORM, HostKind::File, b"HI\n".as_slice()),
+    ];
+    let own = Some(Why::Refused(0, 0, Refusal::InputTooLong));
+    assert!(rt; unread(alloc, &rows, NEVER, 0) == Some((own, true, 1)));
+    let rows = [
+        (TEXT, HostKind::File, b"\xc8\xc9\x8d".as_slice()),
+        (TEXT_FORM, HostKind::File, long.as_slice()),
+    ];
+    let form = Some(Why::Refused(0, 1, Refusal::InputTooLong));
+    assert!(rt; unread(alloc, &rows, NEVER, 0) == Some((form, true, 2)));
     Ok(())
 }

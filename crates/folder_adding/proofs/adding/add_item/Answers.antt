@@ -12,7 +12,7 @@ returns-in-Changed-clause-added g c =
     was_added batch (g.H.HostFiles.holds c.args.files.now) (g.F.SavableFormat.saves c.args.format.now) (g.F.Format.meaning c.args.format.now) c.args.number item
     (g.D.Device.state c.args.device.now) (g.D.Device.state c.save_said.new.device) c.as_slice-path.result.now c.in-Ok.bytes.items _
     (seen items c.args.number c.index-batch-number.result c.requires.inside) c.as_slice-path.ensures.value
-    (c.said-said.ensures ∙ ap (λ (bytes : List ℕ). said_by batch item bytes) c.as_slice.ensures.value) c.in-Ok.ensures.read c.in-Changed.ensures
+    (c.said-said.ensures ∙ ap (λ (bytes : List ℕ). said_by batch item bytes) c.as_slice.ensures.value) c.file_at-file.result c.file_at-file.ensures c.in-Ok.ensures.read c.in-Changed.ensures
 
 pub returns-in-Unfinished-clause-refused : goal.returns-in-Unfinished-clause-refused
 returns-in-Unfinished-clause-refused g c =
@@ -22,4 +22,4 @@ returns-in-Unfinished-clause-refused g c =
     was_unsaved batch (g.H.HostFiles.holds c.args.files.now) (g.F.SavableFormat.saves c.args.format.now) (g.F.Format.meaning c.args.format.now) c.args.number item
     (g.D.Device.state c.args.device.now) (g.D.Device.state c.save_said.new.device) c.as_slice-path.result.now c.in-Ok.bytes.items _
     (seen items c.args.number c.index-batch-number.result c.requires.inside) c.as_slice-path.ensures.value
-    (c.said-said.ensures ∙ ap (λ (bytes : List ℕ). said_by batch item bytes) c.as_slice.ensures.value) c.in-Ok.ensures.read g.H.HostFiles.may_fail c.in-Unfinished.reply c.in-Unfinished.ensures
+    (c.said-said.ensures ∙ ap (λ (bytes : List ℕ). said_by batch item bytes) c.as_slice.ensures.value) c.file_at-file.result c.file_at-file.ensures c.in-Ok.ensures.read g.H.HostFiles.may_fail c.in-Unfinished.reply c.in-Unfinished.ensures

@@ -4,7 +4,6 @@ use Rattle.a2_device.specs.Device.{DeviceState}
 use Rattle.a2_media.specs.ImageDevice.{image_state}
 use Rattle.folder_adding.specs.AddReply.{IsFolderReply, folder_by}
 use Rattle.folder_adding.specs.HostEntries.{entry_view}
-use Rattle.folder_adding.specs.Replying.{numbered_may_fail}
 use Rattle.folder_adding.proofs.Replies.{volume_told}
 use Rattle.folder_adding.proofs.replying.add_to_image.Goals as goal
 use Rattle.pro_dates.specs.SaidDates.{IsDateOf}
@@ -20,7 +19,7 @@ returns-in-Ok g c =
     let date = c.in-Some.date in
     let device = image_state c.in-Ok.device.kind c.in-Ok.device.image c.in-Ok.device.writes c.in-Ok.device.standing c.in-Ok.device.faults in
     let said = subst (λ (word : Option (List ℕ)). IsDateOf word date) c.as_deref.ensures.value c.in-Some.ensures.said in
-    let told = subst (λ (into : Option (List ℕ)). IsFolderReply (numbered_may_fail g.H.HostFiles.may_fail) (record { file_system = volume.file_system; into = into; entries = entries }) date
+    let told = subst (λ (into : Option (List ℕ)). IsFolderReply g.H.HostFiles.may_fail (record { file_system = volume.file_system; into = into; entries = entries }) date
     (g.H.HostFiles.holds c.args.files.now) (changed_by volume c.in-Ok.reserved) device c.add_folder.result)
     c.as_deref-2.ensures.value c.add_folder.ensures.told in
     record {
@@ -28,7 +27,7 @@ returns-in-Ok g c =
         date,
         said,
         volume_told volume (option_map (λ s. s.now) c.args.reserve) c.args.image.items device c.in-Ok.reserved (λ (reserved : List Bool) (device : DeviceState) (told : Reply).
-            IsFolderReply (numbered_may_fail g.H.HostFiles.may_fail) (folder_by volume words entries) date (g.H.HostFiles.holds c.args.files.now) (changed_by volume reserved) device told) c.add_folder.result c.in-Ok.ensures.volume told,
+            IsFolderReply g.H.HostFiles.may_fail (folder_by volume words entries) date (g.H.HostFiles.holds c.args.files.now) (changed_by volume reserved) device told) c.add_folder.result c.in-Ok.ensures.volume told,
       );
     }
 
