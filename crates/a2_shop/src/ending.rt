@@ -27,7 +27,7 @@ impl<'a> Outputs<'a> {
     }
 }
 
-// Puts a certificate onto the disk, and answers whether that was done.
+// Puts a certificate onto the disk or through its pipe, and answers whether that was done.
 fn is_put_onto_disk(certificate: &mut Output<'_>, bytes: &[u8]) -> bool {
     certificate.write_all(bytes).is_ok() && certificate.flush_to_disk().is_ok()
 }

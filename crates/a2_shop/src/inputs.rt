@@ -89,8 +89,8 @@ pub fn job_files<'a>(
     }
 }
 
-/// The same of a job that has an image. Two roles that one file has, of which one is written, are
-/// refused as words are.
+/// The same of a job that has an image. Two roles that one file has, of which one is written, and
+/// an output file in the folder whose files are added are refused as words are.
 pub fn files_of<'a>(
     rt: &HostRuntime,
     job: &'a Job,

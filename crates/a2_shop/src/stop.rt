@@ -19,7 +19,8 @@ const REFUSED: u8 = 3;
 pub enum Stop {
     /// The words are no job: why was told, with this status.
     Told(u8),
-    /// Two roles of the job have one file, and one of them is written.
+    /// Two roles of the job have one file, and one of them is written; or its output file is in the
+    /// folder whose files it adds.
     Clash(Clash),
     /// The job is refused by its words or by the file of its image.
     Refused(Refusal),

@@ -34,6 +34,14 @@ IsUnflushed kind unwritten ending old new =
 abbrev pub IsOffDisk : Unwritten → Type 0
 IsOffDisk unwritten = (unwritten ≡ Image) ⊎ (unwritten ≡ Certificate)
 
+-- where the image could not be written, nothing was told
+abbrev pub IsImageUntold : Ending → Option (List ℕ) → Option (List ℕ) → Type 0
+IsImageUntold ending old new = ((ending ≡ stopped Image) ⊎ (ending ≡ stopped ImageAfterCertificate)) → Keeps old new
+
+-- where the certificate could not be written, nothing was told
+abbrev pub IsCertificateUntold : Ending → Option (List ℕ) → Option (List ℕ) → Type 0
+IsCertificateUntold ending old new = ending ≡ stopped Certificate → Keeps old new
+
 abbrev pub IsUnflushedEnding : Ending → Option (List ℕ) → Option (List ℕ) → Type 0
 IsUnflushedEnding ending old new =
     (kind : ErrorKind) × (unwritten : Unwritten) × IsOffDisk unwritten × IsUnflushed kind unwritten ending old new

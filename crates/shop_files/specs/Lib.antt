@@ -4,4 +4,5 @@ pub mod Roles
 pub mod Endings
 pub mod Written
 pub mod Known
+pub mod Protected
 pub mod Foreign

@@ -4,7 +4,7 @@ use Rattle.std.specs.declared.alloc.Global.{Global}
 use Rattle.shop_files.specs.declared.target.Target.{Target}
 use Rattle.shop_files.specs.declared.target.Target.TheVariants.{Nowhere}
 use Rattle.shop_jobs.specs.Job.{AskView, JobView}
-use Rattle.shop_jobs.specs.Paths.{HasImage, IsOnStandardInput, MakesNewFile, certificate_of, from_of, out_of}
+use Rattle.shop_jobs.specs.Paths.{HasImage, IsOnStandardInput, MakesNewFile, certificate_of, folder_of, from_of, out_of}
 use Rattle.shop_files.specs.Written.{GoesTo, IsUntouched}
 use Rattle.shop_files.specs.declared.aside.Placing.{Placing}
 use Rattle.shop_files.specs.declared.aside.Placing.TheVariants.{Free, Over}
@@ -35,12 +35,13 @@ IsImagePath job path =
     ((IsOnStandardInput job ⊎ ¬ HasImage job.ask) × (path ≡ None))
     ⊎ ((¬ IsOnStandardInput job) × HasImage job.ask × (path ≡ Some job.image))
 
--- Each file has the path that the job names for it, and it is not asked which file standard input is where the image
--- has a path.
+-- Each file has the path that the job names for it, there is a folder only where the job adds the files of one, and it
+-- is not asked which file standard input is where the image has a path.
 pub record NamesFiles (job : JobView) (files : JobFiles) : Type 0 where
   pub image : (path : Option (List ℕ)) × IsImagePath job path × IsNamed path files.image
   pub input : ¬ IsOnStandardInput job → files.input ≡ None
   pub from : IsNamed (from_of job.ask) files.from
+  pub folder : folder_of job.ask ≡ None → files.folder ≡ None
   pub out : IsNamed (out_of job.ask) files.out
   pub placing : IsPlacingOf job.ask files.placing
   pub certificate : IsNamed (certificate_of job.ask) files.certificate

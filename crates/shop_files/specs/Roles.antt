@@ -1,13 +1,14 @@
 -- The files of a job by their roles, and when two roles have one file.
-use Rattle.std.specs.Prelude.{◌≡◌, ◌⊎◌, ℕ, Bool, false, List, Option, Some, None}
+use Rattle.std.specs.Prelude.{◌≡◌, ◌≢◌, ◌⊎◌, ℕ, Bool, false, List, Option, Some, None}
 use Rattle.std.specs.Prelude.{IsSome, IsTrue, codes, option_map, string_bytes}
+use Rattle.std.specs.Path.{PathStartsWith}
 use Rattle.std.specs.declared.alloc.Global.{Global}
 use Rattle.shop_files.specs.declared.target.Node.{Node}
 use Rattle.shop_files.specs.declared.target.Standing.{Standing}
 use Rattle.shop_files.specs.declared.target.Target.{Target}
-use Rattle.shop_files.specs.declared.target.Target.TheVariants.{Place, Straight, Nowhere}
+use Rattle.shop_files.specs.declared.target.Target.TheVariants.{Place, Straight, StandardOutput, Nowhere}
 use Rattle.shop_files.specs.declared.clash.Clash.{Clash}
-use Rattle.shop_files.specs.declared.clash.Clash.TheVariants.{OutAndCertificate, InPlaceAndCertificate, OutAndFrom, InPlaceAndFrom, ImageAndCertificate, FromAndCertificate}
+use Rattle.shop_files.specs.declared.clash.Clash.TheVariants.{OutAndCertificate, InPlaceAndCertificate, OutAndFrom, OutInFrom, InPlaceAndFrom, ImageAndCertificate, FromAndCertificate}
 use Rattle.shop_files.specs.declared.clash.Roles.{Roles}
 use Rattle.shop_files.specs.declared.files.JobFiles.{JobFiles}
 use Rattle.shop_files.specs.declared.identity.FileIdentity.{FileIdentity}
@@ -27,6 +28,7 @@ pub record RolesView : Type 0 where
   pub image : IdentityView
   pub in_place : Bool
   pub from : IdentityView
+  pub folder : Option (List ℕ)
   pub out : IdentityView
   pub certificate : IdentityView
 
@@ -35,6 +37,7 @@ roles_view roles = record {
   image = identity_view roles.image;
   in_place = roles.in_place;
   from = identity_view roles.from;
+  folder = option_map (λ s. s.now) roles.folder;
   out = identity_view roles.out;
   certificate = identity_view roles.certificate;
 }
@@ -47,12 +50,19 @@ ShareSome one other = IsSome one × (one ≡ other)
 abbrev pub AreOneFile : IdentityView → IdentityView → Type 0
 AreOneFile one other = ShareSome one.path other.path ⊎ ShareSome one.node other.node
 
+-- Both are known, and the path leads to what is in the folder or in one below it: it is another path, whose components
+-- begin with those of the folder's.
+abbrev pub IsBelow : Option (List ℕ) → Option (List ℕ) → Type 0
+IsBelow (Some folder) (Some path) = (path ≢ folder) × PathStartsWith path folder
+IsBelow folder path = ⊥
+
 -- One file has these two roles, and one of them is written: the output file, the certificate, or the image that is
--- changed in its own file.
+-- changed in its own file. Or the output file is in the folder whose files are added.
 abbrev pub HasClash : RolesView → Clash → Type 0
 HasClash roles OutAndCertificate = AreOneFile roles.out roles.certificate
 HasClash roles InPlaceAndCertificate = IsTrue roles.in_place × AreOneFile roles.image roles.certificate
 HasClash roles OutAndFrom = AreOneFile roles.out roles.from
+HasClash roles OutInFrom = IsBelow roles.folder roles.out.path
 HasClash roles InPlaceAndFrom = IsTrue roles.in_place × AreOneFile roles.image roles.from
 HasClash roles ImageAndCertificate = (roles.in_place ≡ false) × AreOneFile roles.image roles.certificate
 HasClash roles FromAndCertificate = AreOneFile roles.from roles.certificate
@@ -62,6 +72,7 @@ abbrev pub clash_line : Clash → List ℕ
 clash_line OutAndCertificate = codes "error: --out and --cert name the same file\n"
 clash_line InPlaceAndCertificate = codes "error: --in-place and --cert name the same file\n"
 clash_line OutAndFrom = codes "error: --out and --from name the same file\n"
+clash_line OutInFrom = codes "error: --out leads into the folder of --from\n"
 clash_line InPlaceAndFrom = codes "error: --in-place and --from name the same file\n"
 clash_line ImageAndCertificate = codes "error: IMAGE and --cert name the same file\n"
 clash_line FromAndCertificate = codes "error: --from and --cert name the same file\n"
@@ -74,6 +85,7 @@ identity_of (Place place) = record {
   node = option_map (λ (standing : Standing). standing.node) place.standing;
 }
 identity_of Straight = record { path = None; node = None }
+identity_of StandardOutput = record { path = None; node = None }
 identity_of Nowhere = record { path = None; node = None }
 
 -- which file the image is: that of its path, or the one that is standard input
@@ -87,6 +99,7 @@ roles_of files in_place = record {
   image = image_identity files.input files.image.target;
   in_place = in_place;
   from = identity_of files.from.target;
+  folder = option_map string_bytes files.folder;
   out = identity_of files.out.target;
   certificate = identity_of files.certificate.target;
 }

@@ -1,11 +1,12 @@
 -- The files that a job writes.
-use Rattle.std.specs.Prelude.{◌≡◌, ◌≢◌, ◌⊎◌, ℕ, List, [], Option, Some, None}
+use Rattle.std.specs.Prelude.{◌≡◌, ◌≢◌, ◌⊎◌, ℕ, Bool, true, false, List, [], Option, Some, None, if◌then◌else◌}
 use Rattle.std.specs.Io.KnownBytes.{Appends}
 use Rattle.std.specs.declared.alloc.Global.{Global}
 use Rattle.std.specs.declared.io.ErrorKind.{ErrorKind}
 use Rattle.shop_files.specs.declared.target.Target.{Target}
-use Rattle.shop_files.specs.declared.target.Target.TheVariants.{Straight}
+use Rattle.shop_files.specs.declared.target.Target.TheVariants.{Straight, StandardOutput}
 use Rattle.shop_files.specs.declared.aside.Placing.{Placing}
+use Rattle.shop_files.specs.declared.output.HeldFile.{HeldFile}
 use Rattle.shop_files.specs.declared.output.Output.{Output}
 use Rattle.shop_files.specs.declared.output.Output.TheVariants.{Nothing, Aside, Held}
 
@@ -21,12 +22,6 @@ failure_of Nothing = None
 failure_of (Aside file) = file.failure
 failure_of (Held file) = file.failure
 
--- such a failure was noted, where there is a file
-abbrev pub IsNoted : ErrorKind → Output → Output → Type 0
-IsNoted kind Nothing new = new ≡ Nothing
-IsNoted kind (Aside file) new = failure_of new ≡ Some kind
-IsNoted kind (Held file) new = failure_of new ≡ Some kind
-
 -- the bytes that are held for a path that is written straight
 abbrev pub held_bytes : Output → Option (List ℕ)
 held_bytes Nothing = None
@@ -37,9 +32,34 @@ held_bytes (Held file) = Some file.bytes.items
 abbrev pub HasPut : List ℕ → Output → Output → Type 0
 HasPut bytes old new = ((failure_of old ≡ None) × Appends (held_bytes old) (held_bytes new) bytes) ⊎ (new ≡ Nothing)
 
+-- its path is written straight, before the text is told
+abbrev pub IsStraight : Output → Type 0
+IsStraight Nothing = ⊥
+IsStraight (Aside file) = ⊥
+IsStraight (Held file) = file.follows_text ≡ false
+
+-- what is held once all is flushed: on standard output what was, since it follows the text, and of another path nothing
+abbrev pub still_held : HeldFile → List ℕ
+still_held file = if file.follows_text then file.bytes.items else []
+
+-- No call of it had failed, and none has: what was written aside stays as it is, and what was held was written, but for
+-- what follows the text.
+abbrev pub IsFlushed : Output → Output → Type 0
+IsFlushed Nothing new = new ≡ Nothing
+IsFlushed (Aside file) new = (file.failure ≡ None) × (new ≡ Aside file)
+IsFlushed (Held file) new =
+    (file.failure ≡ None) × (failure_of new ≡ None) × (held_bytes new ≡ Some (still_held file))
+
+-- a path is written straight, and its bytes follow the text exactly where it leads to standard output
+abbrev pub IsHeldFor : Target Global → Bool → Type 0
+IsHeldFor Straight follows_text = follows_text ≡ false
+IsHeldFor StandardOutput follows_text = follows_text ≡ true
+IsHeldFor target follows_text = ⊥
+
 -- It goes to a path that leads to such a target: held for the path itself where that is written straight, else aside,
 -- for the target, of which it may take such a place.
 abbrev pub GoesTo : List ℕ → Target Global → Placing → Output → Type 0
 GoesTo path target placing Nothing = ⊥
-GoesTo path target placing (Aside file) = (target ≢ Straight) × (file.target.now ≡ target) × (file.placing ≡ placing)
-GoesTo path target placing (Held file) = (target ≡ Straight) × (file.path.now ≡ path)
+GoesTo path target placing (Aside file) =
+    (target ≢ Straight) × (target ≢ StandardOutput) × (file.target.now ≡ target) × (file.placing ≡ placing)
+GoesTo path target placing (Held file) = IsHeldFor target file.follows_text × (file.path.now ≡ path)

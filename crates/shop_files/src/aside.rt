@@ -3,6 +3,7 @@ ghost use Rattle.std.specs.Prelude.{◌≡◌, ◌≢◌, ◌↔◌, IfErr, IfSo
 ghost use Rattle.std.specs.Io.{WritesAtMost};
 ghost use Rattle.std.specs.Io.KnownBytes.{WriteAppends};
 ghost use Rattle.shop_files.specs.Known.{known_of};
+ghost use Rattle.shop_files.specs.Protected.{IsProtected};
 ghost use Rattle.std.specs.IoError.{error_kind};
 
 use crate::target::{Standing, Target};
@@ -252,12 +253,15 @@ impl<'a, R: Files, A: Allocator + Copy> AsideFile<'a, R, A> {
     /// Makes the file aside, if it is not there yet.
     ///
     /// # Errors
-    /// A call that failed before, or what the file system answers; then each write will fail.
+    /// A call that failed before, `PermissionDenied` where it is to take the place of a file that no one may write, or
+    /// what the file system answers; then each write will fail.
     pub fn open(&mut self) -> io::Result<()>
         ensures failed { IfErr result (λ error. self.new.failure ≡ Some (error_kind error)) }
         ensures made { OnOk result (IsSome self.new.made × (self.new.failure ≡ None)) }
         ensures kept { IfSome self.old.failure (λ kind. self.new.failure ≡ Some kind) }
         ensures once { OnOk result (IsSome self.old.made → self.new ≡ self.old) }
+        ensures protected { IsProtected self.old.target.now → self.old.made ≡ None → (self.new.made ≡ None)
+            × (self.old.failure ≡ None → self.new.failure ≡ Some ErrorKind.PermissionDenied) }
     {
         if let Some(kind) = self.failure {
             return Err(io::Error::from(kind));
@@ -269,14 +273,19 @@ impl<'a, R: Files, A: Allocator + Copy> AsideFile<'a, R, A> {
         made
     }
 
-    // Makes the file aside, if it is not there yet.
+    // Makes the file aside, if it is not there yet, and not for the place of a file that no one may write.
     fn make(&mut self) -> io::Result<()>
         ensures made { OnOk result (IsSome self.new.made) }
         ensures once { IsSome self.old.made → (self.new ≡ self.old) × IsOk result }
         ensures failure { self.new.failure ≡ self.old.failure }
+        ensures protected { IsProtected self.old.target.now → self.old.made ≡ None → (self.new.made ≡ None)
+            × IsErrAnd result (λ error. error_kind error ≡ ErrorKind.PermissionDenied) }
     {
         if self.made.is_some() {
             return Ok(());
+        }
+        if self.target.is_protected() {
+            return Err(io::Error::from(ErrorKind::PermissionDenied));
         }
         let Target::Place(place) = self.target else {
             return Err(io::Error::from(ErrorKind::NotFound));
@@ -296,6 +305,8 @@ impl<'a, R: Files, A: Allocator + Copy> AsideFile<'a, R, A> {
             (known_of R.File.contents self.old.made) (known_of R.File.contents self.new.made) result bytes.now }
         ensures made { OnOk result (IsSome self.new.made) }
         ensures failure { self.new.failure ≡ self.old.failure }
+        ensures protected { IsProtected self.old.target.now → self.old.made ≡ None → (self.new.made ≡ None)
+            × IsErrAnd result (λ error. error_kind error ≡ ErrorKind.PermissionDenied) }
     {
         self.make()?;
         match &mut self.made {
@@ -316,6 +327,8 @@ impl<R: Files, A: Allocator + Copy> Write for AsideFile<'_, R, A> {
             error_kind error ≢ ErrorKind.Interrupted → self.new.failure ≡ Some (error_kind error)) }
         ensures made { OnOk result (IsSome self.new.made × (self.new.failure ≡ self.old.failure)) }
         ensures kept { IsSome self.old.failure → IsSome self.new.failure }
+        ensures protected { IsProtected self.old.target.now → self.old.made ≡ None → (self.new.made ≡ None)
+            × (self.new.failure ≡ Some ErrorKind.PermissionDenied) }
     {
         let written = self.put(buf);
         match &written {

@@ -2,6 +2,7 @@
 ghost use Rattle.std.specs.Prelude.{◌≡◌, ◌↔◌, IfErr, IfOk, IfSome, IsTrue, None, option_map};
 ghost use Rattle.std.specs.IoError.{error_kind};
 ghost use Rattle.shop_jobs.specs.Job.{ask_view, job_view};
+ghost use Rattle.shop_jobs.specs.Paths.{folder_of};
 ghost use Rattle.shop_files.specs.Outputs.{IsNamed, IsOutputOf, IsPlacingOf, NamesFiles};
 ghost use Rattle.shop_files.specs.Roles.{HasClash, IsUse, identity_of, identity_view, image_identity, roles_of};
 ghost use Rattle.shop_files.specs.declared.clash.Clash.{Clash as AClash};
@@ -11,7 +12,8 @@ use crate::identity::{FileIdentity, is_same_file};
 use crate::image::ImageUse;
 use crate::{Node, Output, Placing, Target, target_of};
 use shop_jobs::{
-    Job, certificate_path, from_path, has_image, is_on_standard_input, makes_new_file, out_path,
+    Job, certificate_path, folder_path, from_path, has_image, is_on_standard_input, makes_new_file,
+    out_path,
 };
 use std::alloc::Global;
 use std::io::ErrorKind;
@@ -58,7 +60,7 @@ impl<'a> NamedFile<'a> {
                     None => None,
                 },
             },
-            Target::Straight | Target::Nowhere => NONE,
+            Target::Straight | Target::StandardOutput | Target::Nowhere => NONE,
         }
     }
 
@@ -87,6 +89,8 @@ pub struct JobFiles<'a> {
     image: NamedFile<'a>,
     input: Option<Node>,
     from: NamedFile<'a>,
+    /// The path of the folder whose files are added, with links followed.
+    folder: Option<String>,
     out: NamedFile<'a>,
     placing: Placing,
     certificate: NamedFile<'a>,
@@ -98,6 +102,7 @@ impl<'a> Drop for JobFiles<'a> {
             image: _,
             input: _,
             from: _,
+            folder: _,
             out: _,
             placing: _,
             certificate: _,
@@ -113,6 +118,27 @@ fn placing_of(job: &Job) -> Placing
         Placing::Free
     } else {
         Placing::Over
+    }
+}
+
+// A path with its links followed.
+fn followed(rt: &HostRuntime, path: &str) -> io::Result<String> {
+    let own = fs::canonicalize(rt, path)?;
+    Ok(own.as_str().to_string(rt.alloc())?)
+}
+
+// The path of the folder whose files a job adds, with links followed; `None` where it leads to nothing.
+fn added_folder(rt: &HostRuntime, job: &Job) -> io::Result<Option<String>>
+    ensures none { folder_of (ask_view job.now.ask) ≡ None → IfOk result (λ folder. folder ≡ None) }
+    ensures failed { IfErr result (λ error. error_kind error ≡ ErrorKind.OutOfMemory) }
+{
+    let Some(path) = folder_path(job) else {
+        return Ok(None);
+    };
+    match followed(rt, path) {
+        Ok(folder) => Ok(Some(folder)),
+        Err(error) if error.kind() == ErrorKind::OutOfMemory => Err(error),
+        Err(_) => Ok(None),
     }
 }
 
@@ -137,6 +163,7 @@ impl<'a> JobFiles<'a> {
             image: NamedFile::of(rt, path)?,
             input: if is_input { input_node(rt) } else { None },
             from: NamedFile::of(rt, from_path(job))?,
+            folder: added_folder(rt, job)?,
             out: NamedFile::of(rt, out_path(job))?,
             placing: placing_of(job),
             certificate: NamedFile::of(rt, certificate_path(job))?,
@@ -156,7 +183,8 @@ impl<'a> JobFiles<'a> {
         }
     }
 
-    /// Two roles that one file has, of which one is written, where the image is changed in its own file or is not.
+    /// Two roles that one file has, of which one is written, where the image is changed in its own file or is not; or
+    /// an output file in the folder whose files are added.
     pub fn clash(&self, in_place: bool) -> Option<Clash>
         ensures some { IfSome result (HasClash (roles_of self.now in_place)) }
         ensures none { result ≡ None ↔ ((clash : AClash) → ¬ HasClash (roles_of self.now in_place) clash) }
@@ -165,6 +193,7 @@ impl<'a> JobFiles<'a> {
             image: self.image_identity(),
             in_place,
             from: self.from.identity(),
+            folder: self.folder.as_deref(),
             out: self.out.identity(),
             certificate: self.certificate.identity(),
         };

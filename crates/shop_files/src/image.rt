@@ -36,6 +36,14 @@ pub enum OpenImage {
     File(File),
 }
 
+// Whether a file may be changed, by its mode: who may write any file is held to it too.
+fn is_writable(file: &File) -> bool {
+    match file.metadata() {
+        Ok(found) => !found.permissions().readonly(),
+        Err(_) => false,
+    }
+}
+
 // Takes the lock of a file, if its file system knows locks, and answers whether another holds it.
 fn is_held(file: &File, image_use: ImageUse) -> bool {
     let locked = match image_use {
@@ -75,8 +83,8 @@ impl OpenImage {
     /// held.
     ///
     /// # Errors
-    /// `Unopened` where the system does not open it, `Held` where another holds its lock, `Replaced` where the path
-    /// leads to another file by now.
+    /// `Unopened` where the system does not open it, or it is to be changed and no one may write it, `Held` where
+    /// another holds its lock, `Replaced` where the path leads to another file by now.
     pub fn open(rt: &HostRuntime, path: &str, image_use: ImageUse) -> Result<OpenImage, ImageFault>
         ensures file { IfOk result (λ image. image ≢ OpenImage.StandardInput) }
         ensures fault { IfErr result (λ fault. fault ≡ ImageFault.Replaced → image_use ≢ ImageUse.Read) }
@@ -89,6 +97,9 @@ impl OpenImage {
         else {
             return Err(ImageFault::Unopened);
         };
+        if is_changed && !is_writable(&file) {
+            return Err(ImageFault::Unopened);
+        }
         if is_held(&file, image_use) {
             return Err(ImageFault::Held);
         }

@@ -1,21 +1,49 @@
-// A file that a job writes, which gets its bytes when all is told.
-ghost use Rattle.std.specs.Prelude.{◌≡◌, ◌≢◌, ◌↔◌, IfErr, IfSome, IsErrAnd, IsOk, IsSome, IsTrue, None, OnOk, Some};
+// A file that a job writes.
+ghost use Rattle.std.specs.Prelude.{
+  ◌≡◌,
+  ◌≢◌,
+  ◌↔◌,
+  false,
+  IfErr,
+  IfSome,
+  IsErrAnd,
+  IsOk,
+  IsSome,
+  IsTrue,
+  None,
+  OnOk,
+  Some,
+  [],
+};
 ghost use Rattle.std.specs.Io.{WritesAtMost};
-ghost use Rattle.std.specs.Io.KnownBytes.{WriteAppends};
+ghost use Rattle.std.specs.Io.KnownBytes.{Appends, WriteAppends};
 ghost use Rattle.std.specs.IoError.{error_kind};
-ghost use Rattle.shop_files.specs.Written.{GoesTo, HasPut, IsNoted, IsUntouched, failure_of, held_bytes};
+ghost use Rattle.shop_files.specs.Protected.{IsKept};
+ghost use Rattle.shop_files.specs.Written.{
+  GoesTo,
+  HasPut,
+  IsFlushed,
+  IsStraight,
+  IsUntouched,
+  failure_of,
+  held_bytes,
+  still_held,
+};
 
 use crate::{AsideFile, Placing, Target};
 use std::alloc::Global;
 use std::fs::File;
 use std::io::{self, ErrorKind, Write};
 
-/// A path that is written straight, as a pipe: its bytes are held until all is told.
+/// A path that is written straight, as a pipe. Its bytes are held until they are all there, and on standard output
+/// until the text is told.
 #[derive(Drop)]
 pub struct HeldFile<'a> {
     rt: &'a HostRuntime,
     path: &'a str,
     bytes: Vec<u8>,
+    /// The bytes come behind the text.
+    follows_text: bool,
     failure: Option<ErrorKind>,
 }
 
@@ -27,6 +55,60 @@ pub enum Output<'a> {
     /// A regular file: a new one is written aside.
     Aside(AsideFile<'a, HostRuntime, Global>),
     Held(HeldFile<'a>),
+}
+
+impl<'a> HeldFile<'a> {
+    // The path, of which nothing is held yet.
+    fn new(rt: &'a HostRuntime, path: &'a str, follows_text: bool) -> HeldFile<'a>
+        ensures path { (result.path.now ≡ path.now) × (result.follows_text ≡ follows_text) }
+        ensures untouched { (result.bytes.items ≡ []) × (result.failure ≡ None) }
+    {
+        HeldFile {
+            rt,
+            path,
+            bytes: Vec::new(rt.alloc()),
+            follows_text,
+            failure: None,
+        }
+    }
+
+    // Holds more bytes.
+    fn put(&mut self, bytes: &[u8])
+        ensures whole { self.new.failure ≡ None
+            → Appends (Some self.old.bytes.items) (Some self.new.bytes.items) bytes.now }
+        ensures place { self.new.follows_text ≡ self.old.follows_text }
+    {
+        if self.bytes.extend_from_slice(bytes).is_err() {
+            self.failure = Some(ErrorKind::OutOfMemory);
+        }
+    }
+
+    // Writes what is held to the path, if anything is.
+    fn write_out(&self) -> io::Result<()>
+        ensures { self.now.bytes.items ≡ [] → IsOk result }
+    {
+        if self.bytes.is_empty() {
+            return Ok(());
+        }
+        File::create(self.rt, self.path)?.write_all(self.bytes.as_slice())
+    }
+
+    // Writes what is held, but for what follows the text.
+    fn write_straight(&mut self) -> io::Result<()>
+        ensures failed { IfErr result (λ error. self.new.failure ≡ Some (error_kind error)) }
+        ensures done { OnOk result ((self.new.failure ≡ self.old.failure)
+            × (self.new.bytes.items ≡ still_held self.old)) }
+    {
+        if self.follows_text {
+            return Ok(());
+        }
+        let written = self.write_out();
+        match &written {
+            Ok(()) => self.bytes.clear(),
+            Err(error) => self.failure = Some(error.kind()),
+        }
+        written
+    }
 }
 
 impl<'a> Output<'a> {
@@ -41,12 +123,8 @@ impl<'a> Output<'a> {
         ensures untouched { IsUntouched result }
     {
         match target {
-            Target::Straight => Output::Held(HeldFile {
-                rt,
-                path,
-                bytes: Vec::new(rt.alloc()),
-                failure: None,
-            }),
+            Target::Straight => Output::Held(HeldFile::new(rt, path, false)),
+            Target::StandardOutput => Output::Held(HeldFile::new(rt, path, true)),
             target => Output::Aside(AsideFile::new(rt, rt.alloc(), target, placing)),
         }
     }
@@ -54,11 +132,14 @@ impl<'a> Output<'a> {
     /// Makes the file, if it is one that is written aside, before anything is written to it.
     ///
     /// # Errors
-    /// What the file system answers.
+    /// `PermissionDenied` where it is to take the place of a file that no one may write, or what the file system
+    /// answers.
     pub fn open(&mut self) -> io::Result<()>
         ensures failed { IfErr result (λ error. failure_of self.new ≡ Some (error_kind error)) }
         ensures opened { OnOk result (failure_of self.new ≡ failure_of self.old) }
         ensures kept { IfSome (failure_of self.old) (λ kind. failure_of self.new ≡ Some kind) }
+        ensures protected { IsKept self.old → failure_of self.new ≡ Some ErrorKind.PermissionDenied }
+        ensures straight { IsStraight self.old → self.new ≡ self.old }
     {
         match self {
             Output::Aside(file) => file.open(),
@@ -88,48 +169,47 @@ impl<'a> Output<'a> {
         }
     }
 
-    // Notes that something failed.
-    fn fail(&mut self, kind: ErrorKind)
-        ensures { IsNoted kind self.old self.new }
-    {
-        match self {
-            Output::Nothing => {}
-            Output::Aside(file) => file.fail(kind),
-            Output::Held(file) => file.failure = Some(kind),
-        }
-    }
-
     /// Writes bytes to the last. Where that fails, the file can't be put onto the disk and does not take its place.
     pub fn put(&mut self, bytes: &[u8])
         ensures whole { failure_of self.new ≡ None → HasPut bytes.now self.old self.new }
         ensures kept { IfSome (failure_of self.old) (λ kind. failure_of self.new ≡ Some kind) }
+        ensures straight { IsStraight self.old → IsStraight self.new }
     {
         if self.failure().is_some() {
             return;
         }
-        if let Err(error) = self.write_all(bytes) {
-            self.fail(error.kind());
+        match self {
+            Output::Nothing => {}
+            Output::Aside(file) => {
+                if let Err(error) = file.write_all(bytes) {
+                    file.fail(error.kind());
+                }
+            }
+            Output::Held(file) => file.put(bytes),
         }
     }
 
-    /// Puts what was written aside onto the disk.
+    /// Puts what was written aside onto the disk, and writes what is held for a path that is written straight, but for
+    /// standard output: that comes behind the text.
     ///
     /// # Errors
     /// A call that failed before, or what the file system answers.
     pub fn flush_to_disk(&mut self) -> io::Result<()>
-        ensures failed { IfErr result (λ error. IfSome (failure_of self.old) (λ kind. error_kind error ≡ kind)) }
-        ensures done { OnOk result ((failure_of self.old ≡ None) × (self.new ≡ self.old)) }
+        ensures failed { IfErr result (λ error. failure_of self.new ≡ Some (error_kind error)) }
+        ensures kept { IfSome (failure_of self.old) (λ kind. failure_of self.new ≡ Some kind) }
+        ensures done { OnOk result (IsFlushed self.old self.new) }
     {
         if let Some(kind) = self.failure() {
             return Err(io::Error::from(kind));
         }
         match self {
+            Output::Nothing => Ok(()),
             Output::Aside(file) => file.flush_to_disk(),
-            _ => Ok(()),
+            Output::Held(file) => file.write_straight(),
         }
     }
 
-    /// Takes the place, or writes what was held.
+    /// Takes the place, or writes what is still held.
     ///
     /// # Errors
     /// A call that failed before, or what the file system answers; what stood at a place then stands.
@@ -142,11 +222,9 @@ impl<'a> Output<'a> {
             return Err(io::Error::from(kind));
         }
         match self {
+            Output::Nothing => Ok(()),
             Output::Aside(file) => file.take_place(),
-            Output::Held(file) if !file.bytes.is_empty() => {
-                File::create(file.rt, file.path)?.write_all(file.bytes.as_slice())
-            }
-            _ => Ok(()),
+            Output::Held(file) => file.write_out(),
         }
     }
 

@@ -1,14 +1,19 @@
 // How a job with output files ends.
-ghost use Rattle.std.specs.Prelude.{◌≡◌, IfErr, IfSome, IsErrAnd};
+ghost use Rattle.std.specs.Prelude.{◌≡◌, ◌≢◌, ◌⊎◌, IfErr, IfSome, IsErrAnd, IsSome, None, OnOk};
+ghost use Rattle.std.specs.Io.KnownBytes.{Keeps};
 ghost use Rattle.shop_files.specs.Endings.{
+  IsCertificateUntold,
   IsEnding,
+  IsImageUntold,
   IsOffDisk,
+  IsOutOfMemory,
   IsOutOfPlace,
   IsReplyEnding,
   IsToldEnding,
   IsUnflushed,
 };
-ghost use Rattle.shop_files.specs.Written.{IsUntouched, failure_of};
+ghost use Rattle.shop_files.specs.Protected.{IsKept};
+ghost use Rattle.shop_files.specs.Written.{IsFlushed, IsStraight, IsUntouched, failure_of};
 
 use crate::ending::{Ending, Unwritten};
 use crate::output::Output;
@@ -17,7 +22,8 @@ use std::alloc::Global;
 use std::io::{ErrorKind, Write};
 
 /// Ends a job by its reply: hands the image that it has to a file, and its certificate to another or none, and settles
-/// both. Where no file is asked for, the reply is told. A text that finds no room in memory is not told in part.
+/// both. Where no file is asked for, the reply is told. A text that finds no room in memory is not told in part. A file
+/// that no one may write is not replaced by an image, and nothing is told then.
 pub fn end_by<T: Write>(
     alloc: Global,
     reply: Reply,
@@ -25,7 +31,13 @@ pub fn end_by<T: Write>(
     mut certificate: Output<'_>,
     text: &mut T,
 ) -> Ending
-    ensures { IsReplyEnding reply result (T.contents text.old) (T.contents text.new) }
+    ensures ending { IsReplyEnding reply result (T.contents text.old) (T.contents text.new) }
+    ensures protected { IsKept out.entry → IsSome reply.image
+        → IsUnflushed ErrorKind.PermissionDenied Unwritten.Image result (T.contents text.old) (T.contents text.new)
+        ⊎ IsOutOfMemory result (T.contents text.old) (T.contents text.new) }
+    ensures straight { IsStraight out.entry → IsImageUntold result (T.contents text.old) (T.contents text.new) }
+    ensures straight_certificate { IsStraight certificate.entry
+        → IsCertificateUntold result (T.contents text.old) (T.contents text.new) }
 {
     if matches!(out, Output::Nothing) {
         discard_both(out, certificate);
@@ -55,10 +67,10 @@ pub fn end_by<T: Write>(
     }
 }
 
-/// Ends a job whose image was handed to a file and its certificate to another or none: both are put onto the disk,
-/// then the text is told, and then they take their places. Where one of these fails, what stood at the places stands,
-/// and the status is 4; of an image that is not on the disk, nothing is told. Where no image was handed out, no
-/// certificate is kept.
+/// Ends a job whose image was handed to a file and its certificate to another or none: both are put onto the disk, or
+/// written where a path is written straight, then the text is told, and then they take their places, or follow the text
+/// on standard output. Where one of these fails, what stood at the places stands, and the status is 4; of an image that
+/// is not on the disk, nothing is told. Where no image was handed out, no certificate is kept.
 ///
 /// The certificate takes its place first. It tells the layout of the image that stood there before, so where the image
 /// can't take its own place then, it is good for the one that stands.
@@ -74,6 +86,9 @@ pub fn settle<T: Write>(
         → IsToldEnding status told.now result (T.contents text.old) (T.contents text.new) }
     ensures failed { IfSome (failure_of out.entry) (λ kind.
         IsUnflushed kind Unwritten.Image result (T.contents text.old) (T.contents text.new)) }
+    ensures straight { IsStraight out.entry → IsImageUntold result (T.contents text.old) (T.contents text.new) }
+    ensures straight_certificate { IsStraight certificate.entry
+        → IsCertificateUntold result (T.contents text.old) (T.contents text.new) }
 {
     if out.is_empty() {
         discard_both(out, certificate);
@@ -93,7 +108,7 @@ pub fn settle<T: Write>(
     }
 }
 
-// Puts both files onto the disk, or answers which of them can't be, and why.
+// Puts both files onto the disk, the certificate first, or answers which of them can't be, and why.
 fn flush_both(
     out: &mut Output<'_>,
     certificate: &mut Output<'_>,
@@ -101,13 +116,17 @@ fn flush_both(
     ensures unwritten { IfErr result (λ why. IsOffDisk why.1) }
     ensures failed { IfSome (failure_of out.old) (λ kind.
         IsErrAnd result (λ why. (why.0 ≡ kind) × (why.1 ≡ Unwritten.Image))) }
+    ensures done { OnOk result (IsFlushed out.old out.new × IsFlushed certificate.old certificate.new) }
 {
-    if let Err(error) = out.flush_to_disk() {
-        return Err((error.kind(), Unwritten::Image));
+    if let Some(kind) = out.failure() {
+        return Err((kind, Unwritten::Image));
     }
-    match certificate.flush_to_disk() {
+    if let Err(error) = certificate.flush_to_disk() {
+        return Err((error.kind(), Unwritten::Certificate));
+    }
+    match out.flush_to_disk() {
         Ok(()) => Ok(()),
-        Err(error) => Err((error.kind(), Unwritten::Certificate)),
+        Err(error) => Err((error.kind(), Unwritten::Image)),
     }
 }
 
@@ -124,7 +143,10 @@ fn tell_unflushed<T: Write>(kind: ErrorKind, unwritten: Unwritten, text: &mut T)
 
 // Puts both files into their places, or answers which of them can't be.
 fn take_both_places(out: Output<'_>, certificate: Output<'_>) -> Result<(), Unwritten>
-    ensures { IfErr result IsOutOfPlace }
+    ensures failed { IfErr result IsOutOfPlace }
+    ensures image { IsUntouched out.entry → IfErr result (λ unwritten. unwritten ≡ Unwritten.Certificate) }
+    ensures certificate { IsUntouched certificate.entry → IfErr result (λ unwritten.
+        unwritten ≢ Unwritten.Certificate) }
 {
     let is_alone = certificate.is_empty();
     if certificate.take_place().is_err() {

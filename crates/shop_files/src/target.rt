@@ -1,12 +1,16 @@
 // Where a file is to be written.
-ghost use Rattle.std.specs.Prelude.{◌≡◌, IfErr};
+ghost use Rattle.std.specs.Prelude.{◌≡◌, ◌↔◌, IfErr, IsTrue};
 ghost use Rattle.std.specs.IoError.{error_kind};
+ghost use Rattle.shop_files.specs.Protected.{IsProtected};
 
 use std::alloc::Allocator;
 use std::fs::{self, Metadata, Permissions};
 use std::io::{self, ErrorKind};
 use std::os::unix::fs::{MetadataExt, PermissionsExt};
 use std::rt::Files;
+
+/// By which path the system shows standard output.
+const STANDARD_OUTPUT: &str = "/dev/stdout";
 
 /// How many links that lead to nothing are followed, one to the next.
 const MOST_LINKS: u32 = 40;
@@ -46,6 +50,8 @@ pub enum Target<A: Allocator> {
     Place(Place<A>),
     /// Something that is written straight: a pipe, a terminal.
     Straight,
+    /// Such a thing that is standard output, where the text is told too.
+    StandardOutput,
     /// A folder, or what the file system does not show: no file can be written there.
     Nowhere,
 }
@@ -67,6 +73,22 @@ impl Standing {
             mode: Permissions::from_mode(found.mode() & ACCESS_BITS),
             owner: found.uid(),
             group: found.gid(),
+        }
+    }
+}
+
+impl<A: Allocator> Target<A> {
+    /// Whether a file stands there that no one may write. It is weighed by its mode: the system lets some callers write
+    /// it all the same.
+    pub fn is_protected(&self) -> bool
+        ensures { IsTrue result ↔ IsProtected self.now }
+    {
+        match self {
+            Target::Place(place) => match &place.standing {
+                Some(standing) => standing.mode.readonly(),
+                None => false,
+            },
+            Target::Straight | Target::StandardOutput | Target::Nowhere => false,
         }
     }
 }
@@ -99,9 +121,17 @@ fn look<R: Files, A: Allocator + Copy>(rt: &R, alloc: A, path: &str) -> io::Resu
             }))
         }
         Ok(found) if found.is_dir() => Ok(Target::Nowhere),
-        Ok(_) => Ok(Target::Straight),
+        Ok(found) => Ok(straight(rt, &found)),
         Err(error) if error.kind() == ErrorKind::NotFound => missing(rt, alloc, path),
         Err(error) => Err(error),
+    }
+}
+
+// Something that is written straight, which may be standard output.
+fn straight<R: Files, A: Allocator>(rt: &R, found: &Metadata) -> Target<A> {
+    match fs::metadata(rt, STANDARD_OUTPUT) {
+        Ok(told) if Node::of(&told) == Node::of(found) => Target::StandardOutput,
+        _ => Target::Straight,
     }
 }
 

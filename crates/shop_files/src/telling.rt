@@ -4,6 +4,7 @@ ghost use Rattle.shop_files.specs.Endings.{nothing_found};
 
 use crate::ending::Unwritten;
 use crate::foreign::Foreign;
+use crate::target_of;
 use a2_device::Order;
 use explanations::{Explanation, FINDINGS, REFUSALS, explained};
 use shop_replies::most_bytes;
@@ -200,7 +201,7 @@ fn fault_text(fault: ImageFault) -> &'static str {
     match fault {
         ImageFault::Unopened => {
             "it could not be opened. Look whether it is there, whether you may read it and, with `--in-place`, write \
-                it."
+                it: a file that is write-protected is not changed, and `chmod u+w` lets it be."
         }
         ImageFault::Held => {
             "another program works on it and holds its lock, so nothing was read or written. Try again when that has \
@@ -250,6 +251,21 @@ const IN_THE_WAY: &str =
     a new file does not take the place of one that was put there in the meantime. \
     Files that end in `.new` and were left behind there may be deleted.";
 
+/// What is in the way of an output file that is to replace one that no one may write.
+const WRITE_PROTECTED: &str =
+    "It is write-protected: no one may write it. `chmod u+w` lets it be replaced.";
+
+// What may be in the way of an output file at a path.
+fn in_the_way(rt: &HostRuntime, path: &Option<String>) -> &'static str {
+    let Some(path) = path else {
+        return IN_THE_WAY;
+    };
+    match target_of(rt, rt.alloc(), path.as_str()) {
+        Ok(target) if target.is_protected() => WRITE_PROTECTED,
+        _ => IN_THE_WAY,
+    }
+}
+
 // The name of a file as it is shown.
 fn shown(rt: &HostRuntime, path: &Option<String>) -> Result<String, AllocError> {
     let Some(path) = path else {
@@ -291,7 +307,8 @@ fn tell_unwritten(rt: &HostRuntime, found: &Found) -> io::Result<()> {
         }
     };
     let name = shown(rt, path)?;
-    eprintln!(rt; "{name}: {text} {IN_THE_WAY}")
+    let advice = in_the_way(rt, path);
+    eprintln!(rt; "{name}: {text} {advice}")
 }
 
 // The third word of a line that begins with this one.

@@ -1,8 +1,9 @@
 //! A file that is replaced as a whole, in a folder in memory.
 
 use crate::folders::folder::{Folder, Kind, Mounted};
-use shop_files::{AsideFile, Place, Placing, Standing, Target, target_of};
+use shop_files::{AsideFile, Node, Place, Placing, Standing, Target, target_of};
 use std::alloc::{AllocError, Allocator, Global};
+use std::fs::Permissions;
 use std::io::{self, ErrorKind, Write};
 use std::os::unix::fs::PermissionsExt;
 use std::rt::Files;
@@ -226,6 +227,58 @@ fn a_failed_write_is_not_forgotten(rt: HostRuntime) -> Result<(), Fail> {
     Ok(())
 }
 
+/// The place of a file that stands there with an access mode.
+fn place_of_mode(alloc: Global, mode: u32) -> Result<Target<Global>, AllocError> {
+    Ok(Target::Place(Place {
+        path: "image".to_string(alloc)?,
+        standing: Some(Standing {
+            node: Node {
+                device: 0,
+                number: 0,
+            },
+            mode: Permissions::from_mode(mode),
+            owner: 0,
+            group: 0,
+        }),
+    }))
+}
+
+/// Whether no file aside is made for a target, neither at first nor by the first bytes, and none takes its place.
+fn is_refused(folder: &Folder, target: &Target<Global>) -> bool {
+    let files = Mounted(folder);
+    let mut out = AsideFile::new(&files, folder.alloc(), target, Placing::Over);
+    out.open().is_err()
+        && out.failure() == Some(ErrorKind::PermissionDenied)
+        && write_aside(&mut out).is_err()
+        && !out.is_empty()
+        && out.take_place().is_err()
+}
+
+/// A file that no one may write stays, and nothing is asked of the file system.
+#[test]
+fn a_file_that_is_write_protected_stays(rt: HostRuntime) -> Result<(), Fail> {
+    for mode in [0o444, 0o400, 0o555, 0o000] {
+        let folder = Folder::holding(rt.alloc(), &FILE_AND_LINK, None)?;
+        let target = place_of_mode(rt.alloc(), mode)?;
+        assert!(rt; is_refused(&folder, &target), "{mode:o}");
+        assert!(rt; folder.holds(&OLD) && folder.calls() == 0);
+    }
+    Ok(())
+}
+
+/// A bit for one of those who may write it is enough.
+#[test]
+fn a_file_that_someone_may_write_is_replaced(rt: HostRuntime) -> Result<(), Fail> {
+    for mode in [0o200, 0o020, 0o002, 0o666] {
+        let folder = Folder::holding(rt.alloc(), &FILE_AND_LINK, None)?;
+        assert!(rt;
+            is_written(&folder, &place_of_mode(rt.alloc(), mode)?),
+            "{mode:o}"
+        );
+    }
+    Ok(())
+}
+
 /// Something of each kind.
 static EACH_KIND: [(&str, Kind, &str); 4] = [
     ("image", Kind::File, "old"),
@@ -238,6 +291,7 @@ static EACH_KIND: [(&str, Kind, &str); 4] = [
 #[derive(Clone, Copy, PartialEq, Eq)]
 enum Lead<'a> {
     Straight,
+    StandardOutput,
     Nowhere,
     Place(&'a str, Option<u32>),
     Fails(ErrorKind),
@@ -255,6 +309,7 @@ fn bits_of(standing: &Option<Standing>) -> Option<u32> {
 fn leads<A: Allocator + Copy>(folder: &Folder, alloc: A, path: &str, lead: Lead) -> bool {
     match &target_of(&Mounted(folder), alloc, path) {
         Ok(Target::Straight) => lead == Lead::Straight,
+        Ok(Target::StandardOutput) => lead == Lead::StandardOutput,
         Ok(Target::Nowhere) => lead == Lead::Nowhere,
         Ok(Target::Place(place)) => {
             lead == Lead::Place(place.path.as_str(), bits_of(&place.standing))

@@ -1,10 +1,10 @@
 use Rattle.std.proofs.Common.{◌∙◌, ℕ, List, inl, subst}
-use Rattle.shop_replies.specs.Reply.{status_of, text_of}
+use Rattle.shop_replies.specs.Reply.{text_of}
 use Rattle.shop_files.specs.Endings.{IsEnding}
 use Rattle.shop_files.proofs.settling.end_by.Goals as goal
 
-pub returns-after-image : goal.returns-after-image
-returns-after-image g c =
+pub returns-after-image-clause-ending : goal.returns-after-image-clause-ending
+returns-after-image-clause-ending g c =
     let old = g.T.Write.contents c.args.text.now in
     let new = g.T.Write.contents c.settle.new.text in
     inl (subst (λ (status : ℕ). IsEnding status (text_of c.args.reply) c.settle.result old new) c.number.ensures
