@@ -3,7 +3,7 @@ use crate::explanation::Explanation;
 
 /// The explanations of what a job finds: faults of a volume, faults of a certificate and verdicts; and of words that
 /// are no job.
-pub static FINDINGS: [Explanation; 32] = [
+pub static FINDINGS: [Explanation; 35] = [
     Explanation {
         front: "2IMG",
         meaning: "The file is a 2IMG file, and its header says this of the image in it.",
@@ -159,10 +159,29 @@ pub static FINDINGS: [Explanation; 32] = [
         advice: "The lines above it name the files. `--all` names those that are the same too.",
     },
     Explanation {
+        front: "EQUAL",
+        meaning: "The images have the same files with the same contents. Nothing is said of what stands outside of \
+            files: boot tracks, data at places that no file has, empty directories, the name of the volume.",
+        advice: "Before you delete one of them, see whether `a2shop survey` tells them as `TWIN`: then every sector is \
+            alike.",
+    },
+    Explanation {
+        front: "SAME",
+        meaning: "The files of these volumes, or this file of both, are the same. Nothing is said of what stands \
+            outside of files: boot tracks, data at places that no file has, empty directories, the name of the volume.",
+        advice: "Before you delete one of two images, see whether `a2shop survey` tells them as `TWIN`: then every \
+            sector is alike.",
+    },
+    Explanation {
+        front: "TWIN",
+        meaning: "Every sector or block of these disks is there and alike, in whatever order their images are.",
+        advice: "One image of each number may stay, and the others be deleted.",
+    },
+    Explanation {
         front: "PASSED",
-        meaning: "This was not added to the volume: it is a readable form beside the file that it was made of, which \
-            was added itself.",
-        advice: "Where the readable form was changed, take the file beside it out of the folder, and add again.",
+        meaning: "This was not added to the volume: it is the readable form of the file beside it, which was added \
+            itself and has just the bytes that the form gives.",
+        advice: "Nothing is to be done. A text that was changed is refused, as `REFUSED Differs`.",
     },
     Explanation {
         front: "PARTS",

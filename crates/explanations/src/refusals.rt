@@ -2,7 +2,7 @@
 use crate::explanation::Explanation;
 
 /// The explanations of a job that is not done: refusals and failures.
-pub static REFUSALS: [Explanation; 35] = [
+pub static REFUSALS: [Explanation; 36] = [
     Explanation {
         front: "REFUSED InPlace",
         meaning: "This image is not changed in its own file. That is done where the units of the volume stand in the \
@@ -69,7 +69,8 @@ pub static REFUSALS: [Explanation; 35] = [
             that DOS 3.3 does not have. DOS 3.3 takes one of the capital letters T, I, A, B, S and R: text, Integer \
             BASIC, Applesoft, binary and two special types; ProDOS takes two hexadecimal digits. Nothing was written.",
         advice: "Write it as `--type B` for a binary file of DOS 3.3; for ProDOS as `--type 04` for text, `06` for \
-            binary or `FC` for Applesoft.",
+            binary or `FC` for Applesoft. `0F` is the type of directories, and ProDOS opens no file of it: \
+            `a2shop mkdir` makes a directory.",
     },
     Explanation {
         front: "REFUSED Date",
@@ -153,12 +154,21 @@ pub static REFUSALS: [Explanation; 35] = [
     },
     Explanation {
         front: "REFUSED Host",
-        meaning: "The name of this file, in the folder behind `--from`, says no type, or that of a folder no name of a \
-            directory; or it is a link or something else that is neither a file nor a folder; or it is a folder, and \
-            DOS 3.3 has none. No type is guessed. Nothing was written.",
+        meaning: "The name of this file, in the folder behind `--from`, says no type, or 0f, the type that directories \
+            alone have; or that of a folder says no name of a directory; or it is a link or something else that is \
+            neither a file nor a folder; or it is a folder, and DOS 3.3 has none. No type is guessed. Nothing was \
+            written.",
         advice: "Name the file as `a2shop extract` does, NAME#TTAAAA with the type and the aux type in hexadecimal \
             digits, as LETTER#040000 for a text, or take it out of the folder. A text in UTF-8 may be \
             LETTER#040000.utf8.txt.",
+    },
+    Explanation {
+        front: "REFUSED Differs",
+        meaning: "This text, in the folder behind `--from`, is the readable form of the file beside it, the one of the \
+            same name without `.utf8.txt`, and gives other bytes than that file has: one of the two was changed. \
+            Nothing was written.",
+        advice: "Where the text is what you want on the volume, take the file beside it out of the folder; where that \
+            file is, take the text out. Then add again.",
     },
     Explanation {
         front: "REFUSED TooDeep",
@@ -235,11 +245,11 @@ pub static REFUSALS: [Explanation; 35] = [
     },
     Explanation {
         front: "FAILED Input",
-        meaning: "A file that the words name could not be opened or read; or another program works on the image and \
-            holds its lock; or it is to be changed, and is write-protected or was replaced meanwhile. Nothing was \
-            written.",
+        meaning: "A file that the words name could not be opened or read; or another program works on it and holds its \
+            lock, as every command does for the files that it reads or changes; or it is to be changed, and is \
+            write-protected or was replaced meanwhile. Nothing was written.",
         advice: "Look whether the name is spelled right, the file is there, it is no folder, and you may read it, and \
-            with `--in-place` write it. Where another program works on it, wait until that has ended.",
+            with `--in-place` write it. Where another program holds the lock, wait until that has ended.",
     },
     Explanation {
         front: "FAILED Device",

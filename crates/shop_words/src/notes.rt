@@ -59,6 +59,8 @@ the file system of the first. Files of one path are compared, whatever the place
   ONLY 1 PATH        only the first image has the file; ONLY 2 only the second
   UNREADABLE 1 PATH  the file of the first image can't be read; UNREADABLE 2 that of the second
   SAME PATH          with --all: they are the same
+What stands outside of files, as boot tracks and empty directories, is not compared: survey tells by TWIN which
+disks are alike in every sector.
 
 Status:
   0  EQUAL files N: all files are the same, N of each image
@@ -67,7 +69,8 @@ Status:
      REFUSED Length    the image has another length than one in its order
      REFUSED Check     the header, the directory or the map's pointer has a fault
      REFUSED TooLarge  the files have more bytes than --most
-  4  FAILED Input, Device or Memory: a file, a sector of an image or memory failed";
+  4  FAILED Input, Device or Memory: a file, a sector of an image or memory failed; or another program holds a
+     lock of a file";
 
 const MAP: &str = "\
 Example:
@@ -370,7 +373,10 @@ A line tells of each file what is found, in the order of their paths:
   OTHER PATH                it is no image
   UNREAD PATH               it can't be read, or a name in that folder is no UTF-8
 SHA is the SHA-256 of the file, and of what the files of the volume are called and hold. Then come the images
-with the same content as another: SAME K PATH, those of one K have one content. Links are not followed.
+with the same content as another: SAME K PATH, those of one K have one content. It says nothing of what stands
+outside of files, as boot tracks. Last come the disks that are alike in every sector, in whatever order they are:
+TWIN K PATH; of those of one K one may be deleted. A file counts once, by whatever paths it is reached.
+Links are not followed, and are counted behind passed, with pipes and devices.
 
 Status:
   0  each file has its line
@@ -423,10 +429,11 @@ Examples:
 
 The name of each file says its name and its type, as extract writes them: NAME#TTAAAA, with the type and
 the aux type in hexadecimal digits. NAME#TTAAAA.utf8.txt is a text or a listing in UTF-8 that is turned
-into the bytes of the file; where NAME#TTAAAA stands beside it, its line says PASSED and it is not added. Names
-that begin with a point are passed over. The files are saved in the order of their names. Locks, dates,
-and the holes of sparse files are not carried. On a ProDOS volume each folder is made as a directory where
-none is there, before the files are saved; the directory of --into has to be there.
+into the bytes of the file; where NAME#TTAAAA stands beside it and has just these bytes, its line says PASSED and it
+is not added; where it has others, nothing is added. Names that begin with a point are passed over. The files are
+saved in the order of their names. Locks, dates, and the holes of sparse files are not carried. On a ProDOS volume
+each folder is made as a directory where none is there, before the files are saved; the directory of --into has to
+be there. A directory that is made takes 12 files and directories; a folder of more is refused as DirFull.
 
 Status:
   0  the image is written; a line ADDED for each file, and how many there are
@@ -436,7 +443,9 @@ Status:
      REFUSED Length       the image has another length than one in its order
      REFUSED Check        the volume has a fault; check tells which
      and with the path of the file or folder behind it:
-     REFUSED Host         the name says no type, or it is neither a file nor a folder; DOS 3.3 has no folders
+     REFUSED Host         the name says no type or that of directories, or it is neither a file nor a folder;
+                          DOS 3.3 has no folders
+     REFUSED Differs      it is a readable form, and gives other bytes than the file beside it has
      REFUSED Type         DOS 3.3 has no files of the type
      REFUSED Name         no file can have the name
      REFUSED Exists       the volume has an entry of that name
@@ -452,7 +461,7 @@ Examples:
   a2shop mkdir disk.po LETTERS --auto --in-place
 
 --order is auto where it is left out, but not with --in-place. The new directory has one block, with places
-for 12 files and directories, and is empty; the one that it stands in has to be there.
+for 12 files and directories and no more, and is empty; the one that it stands in has to be there.
 With --in-place the image's own file is changed, unit by unit, and no new image is written.
 
 Status:
