@@ -15,3 +15,4 @@ mod Told
 mod Reclaimed
 mod MadeDirectory
 mod ReplacedImage
+mod AsNew

@@ -118,9 +118,9 @@ said_image path said saves format device reply is made = elim is [
 ]
 
 -- and a file that takes the place of another one
-plain_replaced_image : (path : List ℕ) (said : SaidView) (files : FileMeaning) (rules : EditRules) (format : Meaning) (device : DeviceState) (reply : Reply)
-    → IsPlainReplaced path said files rules format device reply → IsMade reply → IsMadeReply reply
-plain_replaced_image path said files rules format device reply is made = elim is [
+plain_replaced_image : (path : List ℕ) (said : SaidView) (unsaid : ℕ) (files : FileMeaning) (rules : EditRules) (format : Meaning) (device : DeviceState) (reply : Reply)
+    → IsPlainReplaced path said unsaid files rules format device reply → IsMade reply → IsMadeReply reply
+plain_replaced_image path said unsaid files rules format device reply is made = elim is [
   | inl long ↦ absurd (refused_not_made refusals.TooLong reply long.0 made)
   | inr (_, inl refused) ↦ absurd (refused_not_made refusals.Check reply refused.0 made)
   | inr (_, inr (inl refused)) ↦ absurd (refused_not_made refusals.Locked reply refused.0 made)
@@ -134,7 +134,7 @@ pub replaced_image : (path : List ℕ) (said : SaidView) (format : ChangedMeanin
 replaced_image path said format device reply is made = elim is [
   | inl long ↦ absurd (refused_not_made refusals.InputTooLong reply long.0 made)
   | inr (_, inl none) ↦ absurd (none_made said said.form reply none made)
-  | inr (_, inr plain) ↦ plain_replaced_image path plain.0 format.files format.edits format.units device reply plain.2 made
+  | inr (_, inr plain) ↦ plain_replaced_image path plain.0 _ format.files format.edits format.units device reply plain.2 made
 ]
 
 -- a look that says of which image it refuses has an image where it has one without that

@@ -1,6 +1,6 @@
 -- What is told of an image whose lost places are marked free, by what became of it.
 use Rattle.std.proofs.Common.{◌≡◌, List, inl, inr, refl, subst, sym}
-use Rattle.std.specs.Prelude.{◌⊎◌, ℕ, true, IfErr, OnOk, Result, Err, Ok}
+use Rattle.std.specs.Prelude.{◌⊎◌, true, IfErr, OnOk, Result, Err, Ok}
 use Rattle.a2_device.specs.Device.{DeviceState, OnlyReads}
 use Rattle.vol_format.specs.Accepted.{IsVolume}
 use Rattle.vol_format.specs.Meaning.{Meaning}

@@ -1,12 +1,11 @@
 -- An image that a change hands out is as long as the one that was read.
-use Rattle.std.proofs.Common.{◌≡◌, ◌∙◌, ℕ, Bool, List, [], ◌∷◌, Some, length, ap, refl, sym, subst, inl, inr}
+use Rattle.std.proofs.Common.{◌≡◌, ◌∙◌, ℕ, Bool, List, [], ◌∷◌, Some, length, ap, refl, sym, inl, inr}
 use Rattle.std.proofs.lemmas.Option.{same_Some}
 use Rattle.std.specs.Prelude.{Option}
 use Rattle.a2_device.specs.Device.{DeviceState, ImageForm, IsSameDevice, written}
 use Rattle.vol_format.specs.Meaning.{Meaning}
 use Rattle.vol_laws.specs.Writes.{Write}
 use Rattle.edit_formats.specs.Writes.{device_after}
-use Rattle.file_forms.specs.declared.form.GivenForm.{GivenForm}
 use Rattle.edit_formats.specs.Saves.{SaveMeaning}
 use Rattle.shop_changes.specs.EditRules.{ChangedMeaning, EditRules}
 use Rattle.shop_changes.specs.GivenFile.{GivenView}
@@ -67,23 +66,23 @@ module _ (device : DeviceState) (reply : Reply) (form : ImageForm) (is_form : de
 -- so of a file that takes the place of another one
 module _ (device : DeviceState) (reply : Reply) (form : ImageForm) (is_form : device.image ≡ Some form) where
   -- the device without the old file has the same form, and so it has once it is opened again
-  form_without : (path : List ℕ) (said : SaidView) (files : FileMeaning) (rules : EditRules) (format : Meaning) (without : DeviceState) (given : GivenView)
-      → IsMadeWay path said files rules format device without given → without.image ≡ Some form
-  form_without path said files rules format without given way = elim way.cleared [
+  form_without : (path : List ℕ) (said : SaidView) (unsaid : ℕ) (files : FileMeaning) (rules : EditRules) (format : Meaning) (without : DeviceState) (given : GivenView)
+      → IsMadeWay path said unsaid files rules format device without given → without.image ≡ Some form
+  form_without path said unsaid files rules format without given way = elim way.cleared [
     | inl gone ↦ ap (λ (d : DeviceState). d.image) gone.made ∙ form_after gone.writes device ∙ is_form
     | inr none ↦ ap (λ (d : DeviceState). d.image) none.1 ∙ is_form
   ]
 
-  plain_replaced_length : (path : List ℕ) (said : SaidView) (files : FileMeaning) (rules : EditRules) (format : Meaning)
-      → IsPlainReplaced path said files rules format device reply → IsMade reply → length (made_of reply) ≡ form.bytes
-  plain_replaced_length path said files rules format is made = elim is [
+  plain_replaced_length : (path : List ℕ) (said : SaidView) (unsaid : ℕ) (files : FileMeaning) (rules : EditRules) (format : Meaning)
+      → IsPlainReplaced path said unsaid files rules format device reply → IsMade reply → length (made_of reply) ≡ form.bytes
+  plain_replaced_length path said unsaid files rules format is made = elim is [
     | inl long ↦ absurd (refused_not_made refusals.TooLong reply long.0 made)
     | inr (_, inl refused) ↦ absurd (refused_not_made refusals.Check reply refused.0 made)
     | inr (_, inr (inl refused)) ↦ absurd (refused_not_made refusals.Locked reply refused.0 made)
     | inr (_, inr (inr (inl failed))) ↦ absurd (failed_not_made failures.Device reply failed.0 made)
     | inr (_, inr (inr (inr (inl failed)))) ↦ absurd (failed_not_made failures.Memory reply failed made)
     | inr (_, inr (inr (inr (inr over)))) ↦ saved_length over.reopened reply form
-        (over.same.image ∙ form_without path said files rules format over.without over.given over.way) path over.given rules.save format over.saved made
+        (over.same.image ∙ form_without path said unsaid files rules format over.without over.given over.way) path over.given rules.save format over.saved made
   ]
 
   replaced_length : (path : List ℕ) (said : SaidView) (rules : ChangedMeaning) → IsReplaced path said rules device reply → IsMade reply
@@ -91,7 +90,7 @@ module _ (device : DeviceState) (reply : Reply) (form : ImageForm) (is_form : de
   replaced_length path said rules is made = elim is [
     | inl long ↦ absurd (refused_not_made refusals.InputTooLong reply long.0 made)
     | inr (_, inl none) ↦ absurd (none_made said said.form reply none made)
-    | inr (_, inr plain) ↦ plain_replaced_length path plain.0 rules.files rules.edits rules.units plain.2 made
+    | inr (_, inr plain) ↦ plain_replaced_length path plain.0 _ rules.files rules.edits rules.units plain.2 made
   ]
 
   change_length : (work : WorkView) (rules : ChangedMeaning) → IsChangeReply work rules device reply → IsMade reply → length (made_of reply) ≡ form.bytes

@@ -2,6 +2,7 @@
 use Rattle.std.specs.Prelude.{◌+◌, ◌-◌, ◌*◌, ◌==◌, ℕ, List, [], ◌∷◌, codes, Option, Some, None, option_and_then, option_map, if◌then◌else◌}
 use Rattle.std.specs.Int.{is_in_range}
 use Rattle.std.specs.Str.{bytes_eq}
+use Rattle.file_forms.specs.declared.form.GivenForm.{GivenForm}
 use Rattle.shop_changes.specs.declared.given_file.Head.{Head}
 use Rattle.shop_changes.specs.declared.given_file.Head.TheVariants as heads
 use Rattle.shop_jobs.specs.declared.job.FileSystem.{FileSystem}
@@ -39,6 +40,16 @@ kind_named Prodos word = hex_byte word
 abbrev pub usual_kind : FileSystem → ℕ
 usual_kind Dos = 0x00
 usual_kind Prodos = 0x06
+
+-- the type of binary files
+abbrev pub binary_kind : FileSystem → ℕ
+binary_kind Dos = 0x04
+binary_kind Prodos = 0x06
+
+-- the type where neither the words nor the form of what is given say one
+abbrev pub kind_unsaid : FileSystem → Option GivenForm → ℕ
+kind_unsaid file_system None = usual_kind file_system
+kind_unsaid file_system (Some form) = binary_kind file_system
 
 -- the type of texts
 abbrev pub text_kind : FileSystem → ℕ

@@ -10,6 +10,7 @@ use Rattle.file_formats.specs.FileNames.{GivenPath}
 use Rattle.file_formats.specs.Files.{FileMeaning}
 use Rattle.shop_changes.specs.EditRules.{ChangedMeaning, EditRules}
 use Rattle.shop_changes.specs.GivenFile.{GivenView, most_input}
+use Rattle.shop_changes.specs.GivenWords.{kind_unsaid}
 use Rattle.shop_changes.specs.Replaced.{IsMadeWay, IsPlainSaid, IsTooLongAsSaid}
 use Rattle.shop_changes.specs.SaidFile.{GivesNone, SaidView}
 use Rattle.shop_jobs.specs.declared.job.FileSystem.{FileSystem}
@@ -39,12 +40,12 @@ pub record IsReopened (old new : DeviceState) : Type 0 where
   pub unreadable : new.unreadable ≡ old.unreadable
 
 -- The file is saved on a device that no longer has the first file with its path, nor a call that is counted, where it
--- is given with what the old file leaves to it; and so it is told.
-pub record IsSavedOver (path : List ℕ) (said : SaidView) (files : FileMeaning) (rules : EditRules) (format : Meaning)
-    (device : DeviceState) (reply : Reply) : Type 0 where
+-- is given with what the old file leaves to it, or where there is none with the type for that; and so it is told.
+pub record IsSavedOver (path : List ℕ) (said : SaidView) (unsaid : ℕ) (files : FileMeaning) (rules : EditRules)
+    (format : Meaning) (device : DeviceState) (reply : Reply) : Type 0 where
   pub without : DeviceState
   pub given : GivenView
-  pub way : IsMadeWay path said files rules format device without given
+  pub way : IsMadeWay path said unsaid files rules format device without given
   pub reopened : DeviceState
   pub same : IsReopened without reopened
   pub saved : IsSaved path given rules.save format reopened reply
@@ -52,14 +53,14 @@ pub record IsSavedOver (path : List ℕ) (said : SaidView) (files : FileMeaning)
 -- the reply to a file that is given as it is: too long for the head of the type that is said; the volume is not
 -- accepted; the old file is locked; a unit of it can't be read or written; want of memory; or what is told of the
 -- saving
-abbrev pub IsPlainReplaced : List ℕ → SaidView → FileMeaning → EditRules → Meaning → DeviceState → Reply → Type 0
-IsPlainReplaced path said files rules format device reply =
+abbrev pub IsPlainReplaced : List ℕ → SaidView → ℕ → FileMeaning → EditRules → Meaning → DeviceState → Reply → Type 0
+IsPlainReplaced path said unsaid files rules format device reply =
     ((reply ≡ refused refusals.TooLong) × IsTooLongAsSaid said)
     ⊎ (¬ IsTooLongAsSaid said × (((reply ≡ refused refusals.Check) × ¬ IsVolume format device.store)
     ⊎ ((reply ≡ refused refusals.Locked) × HasFirstProtected format files rules.erase device.store (GivenPath path))
     ⊎ ((reply ≡ failed failures.Device) × LacksUnit device)
     ⊎ (reply ≡ failed failures.Memory)
-    ⊎ IsSavedOver path said files rules format device reply))
+    ⊎ IsSavedOver path said unsaid files rules format device reply))
 
 -- The reply to a file that takes the place of another one, as words and bytes say it: more bytes than are read of a
 -- file, before that they give none, before the volume.
@@ -68,4 +69,5 @@ IsReplaced path said format device reply =
     ((reply ≡ refused refusals.InputTooLong) × (most_input < length said.bytes))
     ⊎ ((length said.bytes ≤ most_input) × (GivesNone said reply
     ⊎ ((plain : SaidView) × IsPlainSaid said said.form plain
-    × IsPlainReplaced path plain format.files format.edits format.units device reply)))
+    × IsPlainReplaced path plain (kind_unsaid said.file_system said.form) format.files format.edits format.units device
+    reply)))

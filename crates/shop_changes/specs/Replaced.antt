@@ -29,9 +29,9 @@ use Rattle.shop_replies.specs.declared.refusal.Refusal.TheVariants as refusals
 use Rattle.shop_replies.specs.declared.reply.Reply.{Reply}
 use Rattle.shop_changes.specs.EditRules.{EditRules}
 use Rattle.shop_changes.specs.GivenFile.{GivenView, IsTooLongForHead}
-use Rattle.shop_changes.specs.GivenWords.{kind_for, text_kind, usual_kind}
+use Rattle.shop_changes.specs.GivenWords.{kind_for, kind_unsaid, text_kind}
 use Rattle.shop_changes.specs.Refusals.{reply_to_edit_refusal}
-use Rattle.shop_changes.specs.SaidFile.{SaidView, given_with, kind_of}
+use Rattle.shop_changes.specs.SaidFile.{Gives, SaidView, given_with, kind_of}
 use Rattle.shop_changes.specs.declared.plain_file.PlainFile.{PlainFile}
 use Rattle.shop_changes.specs.declared.replaced_file.ReplacedFile.{ReplacedFile}
 
@@ -114,12 +114,18 @@ abbrev pub aux_kept : FileSystem → ℕ → ReplacedFile → ℕ
 aux_kept file_system kind old =
     if kind == text_kind file_system && not (old.kind == text_kind file_system) then 0 else old.aux
 
--- the file that is given in the place of another one: what the words leave out is that file's, or the usual where there
--- is none
-abbrev pub given_over : SaidView → Option ReplacedFile → GivenView
-given_over said None = given_with said (unwrap_or said.kind (usual_kind said.file_system)) 0 said.bytes
-given_over said (Some old) = given_with said (unwrap_or said.kind old.kind)
+-- the file that is given in the place of another one: what the words leave out is that file's; where there is none, it
+-- has this type and the aux type 0
+abbrev pub given_over : SaidView → ℕ → Option ReplacedFile → GivenView
+given_over said unsaid None = given_with said (unwrap_or said.kind unsaid) 0 said.bytes
+given_over said unsaid (Some old) = given_with said (unwrap_or said.kind old.kind)
     (aux_kept said.file_system (unwrap_or said.kind old.kind) old) said.bytes
+
+-- where there is none, a file that was taken from the form in which it is said is given as one that is saved
+abbrev pub IsGivenAsNew : SaidView → SaidView → Type 0
+IsGivenAsNew said plain =
+    IsPlainSaid said said.form plain
+    → Gives said (given_over plain (kind_unsaid said.file_system said.form) None)
 
 -- the first file with a path is deleted, by the writes of that edit
 pub record IsWithout (path : List ℕ) (files : FileMeaning) (rules : EditRules) (format : Meaning)
@@ -135,13 +141,13 @@ IsCleared path files rules format old new =
     IsWithout path files rules format old new ⊎ (HasNoSuchFile format files old.store (GivenPath path) × (new ≡ old))
 
 -- what is saved then
-pub record IsMadeWay (path : List ℕ) (said : SaidView) (files : FileMeaning) (rules : EditRules) (format : Meaning)
-    (old new : DeviceState)
+pub record IsMadeWay (path : List ℕ) (said : SaidView) (unsaid : ℕ) (files : FileMeaning) (rules : EditRules)
+    (format : Meaning) (old new : DeviceState)
     (given : GivenView) : Type 0 where
   pub fits : ¬ IsTooLongAsSaid said
   pub replaced : Option ReplacedFile
   pub was : IsReplaced (form_of said.file_system) format files old.store path said.aux replaced
-  pub is : given ≡ given_over said replaced
+  pub is : given ≡ given_over said unsaid replaced
   pub cleared : IsCleared path files rules format old new
 
 -- Why the file is not deleted: the volume is not accepted; the entry of the file does not let it be deleted; a read or

@@ -1,6 +1,7 @@
 // What the words say of a new file.
 ghost use Rattle.std.specs.Prelude.{◌≡◌};
 ghost use Rattle.shop_changes.specs.GivenWords.{
+  binary_kind,
   dos_head,
   dos_kind_for,
   head_of,
@@ -8,12 +9,14 @@ ghost use Rattle.shop_changes.specs.GivenWords.{
   hex_value,
   kind_for,
   kind_named,
+  kind_unsaid,
   letter_kind,
   text_kind,
   usual_kind,
 };
 
 use crate::given_file::Head;
+use file_forms::GivenForm;
 use shop_jobs::FileSystem;
 
 // The type that a letter names.
@@ -71,6 +74,27 @@ pub fn usual_kind(file_system: FileSystem) -> u8
     match file_system {
         FileSystem::Dos => 0x00,
         FileSystem::Prodos => 0x06,
+    }
+}
+
+// The type of binary files: B of DOS 3.3, 06 of ProDOS.
+fn binary_kind(file_system: FileSystem) -> u8
+    ensures { result ≡ binary_kind file_system }
+{
+    match file_system {
+        FileSystem::Dos => 0x04,
+        FileSystem::Prodos => 0x06,
+    }
+}
+
+/// The type of a new file where neither the words nor the form in which it is given say one: the usual type, and that
+/// of binary files where it is given in a form.
+pub(crate) fn kind_unsaid(file_system: FileSystem, form: Option<GivenForm>) -> u8
+    ensures { result ≡ kind_unsaid file_system form }
+{
+    match form {
+        Some(_) => binary_kind(file_system),
+        None => usual_kind(file_system),
     }
 }
 

@@ -68,7 +68,7 @@ pub use given_error::GivenError;
 pub use given_file::{FileUnits, GivenFile, Head, MOST_INPUT, file_units};
 pub use given_words::{head_of, kind_for, kind_named, usual_kind};
 pub use image_volume::volume_in;
-pub use law::a_kind_is_got_back_from_its_type;
+pub use law::{a_kind_is_got_back_from_its_type, what_takes_the_place_of_none_is_saved};
 pub use looking_at_image::image_look;
 pub use making::make_in_place;
 pub use outcome::Outcome;

@@ -17,7 +17,7 @@ ghost use Rattle.vol_format.specs.Fits.{Fits};
 
 use crate::editing::edit_refusal_reply;
 use crate::given_file::{GivenFile, is_too_long};
-use crate::given_words::{text_kind, usual_kind};
+use crate::given_words::text_kind;
 use crate::replaced_file::{ReplacedFile, find_replaced};
 use crate::said_file::SaidFile;
 use a2_device::Device;
@@ -51,8 +51,8 @@ fn aux_kept(file_system: FileSystem, kind: u8, old: ReplacedFile) -> u16
 }
 
 // The file that is given in the place of another one.
-fn given_over<'a>(said: SaidFile<'a>, replaced: Option<ReplacedFile>) -> GivenFile<'a>
-    ensures { given_view result ≡ given_over (said_view said.entry) replaced }
+fn given_over<'a>(said: SaidFile<'a>, unsaid: u8, replaced: Option<ReplacedFile>) -> GivenFile<'a>
+    ensures { given_view result ≡ given_over (said_view said.entry) unsaid replaced }
 {
     match replaced {
         Some(old) => {
@@ -61,7 +61,7 @@ fn given_over<'a>(said: SaidFile<'a>, replaced: Option<ReplacedFile>) -> GivenFi
             said.given_with(kind, aux, said.bytes)
         }
         None => {
-            let kind = said.kind.unwrap_or(usual_kind(said.file_system));
+            let kind = said.kind.unwrap_or(unsaid);
             said.given_with(kind, 0, said.bytes)
         }
     }
@@ -103,12 +103,13 @@ fn clear<'a, D: Device, F: SavableFormat>(
     format: &F,
     path: &[u8],
     said: SaidFile<'a>,
+    unsaid: u8,
 ) -> Result<GivenFile<'a>, EditError>
     requires fits { Fits (F.meaning format.now) (D.state device.old) }
     requires fits_head { ¬ IsTooLongAsSaid (said_view said) }
     ensures same { IsSameDevice (D.state device.old) (D.state device.new) }
     ensures made { IsTrue (D.state device.old).honest → IfOk result (λ given. IsMadeWay path.now (said_view said.entry)
-        (F.files format.now)
+        unsaid (F.files format.now)
         (edit_rules (F.edits format.now) (F.names format.now) (F.erasures format.now) (F.saves format.now))
         (F.meaning format.now) (D.state device.old) (D.state device.new) (given_view given)) }
     ensures refused { IsTrue (D.state device.old).honest → IfErr result (λ error. IsNotCleared error path.now
@@ -119,12 +120,13 @@ fn clear<'a, D: Device, F: SavableFormat>(
     let form = form_of(said.file_system);
     let replaced = find_replaced(alloc, device, format, form, path, said.aux)?;
     delete_if_there(alloc, device, format, path)?;
-    Ok(given_over(said, replaced))
+    Ok(given_over(said, unsaid, replaced))
 }
 
 /// Deletes the first file with a path, if there is one, and answers what is to be saved in its place: the bytes that
 /// are said, with the type and the auxiliary type of the old file where the words leave them out; what becomes a text
-/// has no address. Until that is saved, the volume has neither, so it is done on a device in memory alone.
+/// has no address. Where no file has the path, the type is `unsaid` if none is said. Until that is saved, the volume
+/// has neither, so it is done on a device in memory alone.
 ///
 /// # Errors
 /// The reply `REFUSED TooLong` for a file that is too long for the head of the type that is said; then what the
@@ -135,11 +137,12 @@ pub fn make_way<'a, D: Device, F: SavableFormat>(
     format: &F,
     path: &[u8],
     said: SaidFile<'a>,
+    unsaid: u8,
 ) -> Result<GivenFile<'a>, Reply>
     requires fits { Fits (F.meaning format.now) (D.state device.old) }
     ensures same { IsSameDevice (D.state device.old) (D.state device.new) }
     ensures made { IsTrue (D.state device.old).honest → IfOk result (λ given. IsMadeWay path.now (said_view said.entry)
-        (F.files format.now)
+        unsaid (F.files format.now)
         (edit_rules (F.edits format.now) (F.names format.now) (F.erasures format.now) (F.saves format.now))
         (F.meaning format.now) (D.state device.old) (D.state device.new) (given_view given)) }
     ensures refused { IsTrue (D.state device.old).honest → IfErr result (IsNoWay path.now (said_view said.entry)
@@ -150,7 +153,7 @@ pub fn make_way<'a, D: Device, F: SavableFormat>(
     if is_too_long_as_said(said) {
         return Err(Reply::refused(Refusal::TooLong));
     }
-    match clear(alloc, device, format, path, said) {
+    match clear(alloc, device, format, path, said, unsaid) {
         Ok(given) => Ok(given),
         Err(error) => Err(edit_refusal_reply(error)),
     }

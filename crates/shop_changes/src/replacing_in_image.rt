@@ -10,6 +10,7 @@ ghost use Rattle.shop_replies.specs.declared.refusal.Failure.TheVariants.{Memory
 ghost use Rattle.vol_format.specs.Fits.{Fits};
 
 use crate::changing_image::outcome_reply;
+use crate::given_words::kind_unsaid;
 use crate::{MOST_INPUT, SaidFile, make_way, save_in_place, taken_plain};
 use a2_device::Device;
 use a2_media::ImageDevice;
@@ -33,7 +34,7 @@ fn reopened(device: ImageDevice, file_system: FileSystem) -> ImageDevice
     device_of(device.into_image(), file_system)
 }
 
-// Saves a file that is given as it is in the place of another one.
+// Saves a file that is given as it is in the place of another one, where there is none with this type if none is said.
 fn replace_plain<F: SavableFormat>(
     alloc: Global,
     device: ImageDevice,
@@ -41,17 +42,18 @@ fn replace_plain<F: SavableFormat>(
     file_system: FileSystem,
     path: &[u8],
     said: SaidFile<'_>,
+    unsaid: u8,
 ) -> Reply
     requires fits { Fits (F.meaning format.now) (⟦<ImageDevice as Device>⟧.state device) }
     requires units { HasUnitsOf file_system (⟦<ImageDevice as Device>⟧.state device) }
     requires disk { HasDisk file_system (⟦<ImageDevice as Device>⟧.state device) }
     requires opened { IsOpened file_system (⟦<ImageDevice as Device>⟧.state device) }
-    ensures { IsPlainReplaced path.now (said_view said.entry) (F.files format.now)
+    ensures { IsPlainReplaced path.now (said_view said.entry) unsaid (F.files format.now)
         (edit_rules (F.edits format.now) (F.names format.now) (F.erasures format.now) (F.saves format.now))
         (F.meaning format.now) (⟦<ImageDevice as Device>⟧.state device) result }
 {
     let mut device = device;
-    match make_way(alloc, &mut device, format, path, said) {
+    match make_way(alloc, &mut device, format, path, said, unsaid) {
         Ok(given) => {
             let mut device = reopened(device, file_system);
             let known = Acceptance::Unknown;
@@ -85,10 +87,14 @@ fn replace_said<F: DirectoryFormat>(
     if said.bytes.len() > MOST_INPUT {
         return Reply::refused(Refusal::InputTooLong);
     }
+    let unsaid = kind_unsaid(said.file_system, said.form);
     match said.form {
-        None => replace_plain(alloc, device, format, file_system, path, said),
+        None => replace_plain(alloc, device, format, file_system, path, said, unsaid),
         Some(form) => match taken_plain(alloc, said, form) {
-            Ok(plain) => replace_plain(alloc, device, format, file_system, path, plain.said()),
+            Ok(plain) => {
+                let said = plain.said();
+                replace_plain(alloc, device, format, file_system, path, said, unsaid)
+            }
             Err(reply) => reply,
         },
     }

@@ -5,7 +5,6 @@ use Rattle.shop_changes.specs.EditRules.{changed_in}
 use Rattle.shop_changes.specs.SaidFile.{said_view}
 use Rattle.shop_changes.specs.ReplaceReply.{IsReplaced}
 use Rattle.shop_jobs.specs.declared.job.FileSystem.TheVariants.{Dos}
-use Rattle.shop_replies.specs.Volume.{meaning_of}
 use Rattle.shop_changes.proofs.replacing_in_image.replace_dos.Goals as goal
 
 pub returns : goal.returns

@@ -6,7 +6,6 @@ use Rattle.shop_changes.specs.SaidFile.{said_view}
 use Rattle.shop_changes.specs.ReplaceReply.{IsReplaced}
 use Rattle.shop_jobs.specs.declared.job.FileSystem.{FileSystem}
 use Rattle.shop_replies.specs.Reply.{failed}
-use Rattle.shop_replies.specs.Volume.{meaning_of}
 use Rattle.shop_replies.specs.declared.refusal.Failure.TheVariants.{Memory}
 use Rattle.shop_changes.proofs.replacing_in_image.replace_on_image.Goals as goal
 
