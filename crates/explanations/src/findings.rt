@@ -3,7 +3,7 @@ use crate::explanation::Explanation;
 
 /// The explanations of what a job finds: faults of a volume, faults of a certificate and verdicts; and of words that
 /// are no job.
-pub static FINDINGS: [Explanation; 35] = [
+pub static FINDINGS: [Explanation; 38] = [
     Explanation {
         front: "2IMG",
         meaning: "The file is a 2IMG file, and its header says this of the image in it.",
@@ -200,6 +200,29 @@ pub static FINDINGS: [Explanation; 35] = [
         meaning: "The image may be read in more than one way, and none of them is better than all others.",
         advice: "Compare the lines: the right way mostly has more entries, a longer chain and fewer lost places. Try \
             `a2shop catalog` with each.",
+    },
+    Explanation {
+        front: "BROKEN",
+        meaning: "There is a volume in this file system and this order: its header is right. But its directory, or one \
+            below it, or the place that it names for the map of its free blocks, is damaged, so no command guesses \
+            what stands in it.",
+        advice: "`a2shop check` with the two words behind `--fs` and `--order` tells where the fault is. Look for \
+            another copy of the disk, or mend that place with an editor of disks, in a copy of the image.",
+    },
+    Explanation {
+        front: "UNREAD",
+        meaning: "This file could not be read: it can't be opened, another program holds its lock, there was no memory \
+            for it, or what a list named is no file. Of a folder it says that the folder, or a name in it, can't be \
+            read.",
+        advice: "Look whether it is there and whether you may read it. Where another program works on it, survey again \
+            when that has ended.",
+    },
+    Explanation {
+        front: "OTHER",
+        meaning: "No image of a disk has the length of this file, or it begins as a 2IMG file does and is none that \
+            can be read.",
+        advice: "Where it is a packed file or an image in another form, unpack it or save it in DOS or ProDOS order. \
+            Of a 2IMG file `a2shop identify` tells what is wrong.",
     },
     Explanation {
         front: "NONE",

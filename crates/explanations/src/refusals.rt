@@ -2,7 +2,7 @@
 use crate::explanation::Explanation;
 
 /// The explanations of a job that is not done: refusals and failures.
-pub static REFUSALS: [Explanation; 36] = [
+pub static REFUSALS: [Explanation; 37] = [
     Explanation {
         front: "REFUSED InPlace",
         meaning: "This image is not changed in its own file. That is done where the units of the volume stand in the \
@@ -147,10 +147,11 @@ pub static REFUSALS: [Explanation; 36] = [
     Explanation {
         front: "REFUSED Folder",
         meaning: "The files are put into a new folder, and none can be made at this path: something stands there that \
-            is no empty folder, a link too; or the path is empty, or ends in `.` or `..`. Of `add` it says that no \
-            folder stands at the path behind `--from`. Nothing was written.",
-        advice: "Name a folder behind `--into` that is not there yet, or an empty one; behind `--from` the one that \
-            has the files.",
+            is no empty folder, a link too; or the folder in which it is to stand is not there; or the path is empty, \
+            or ends in `.` or `..`. Of `add` it says that no folder stands at the path behind `--from`. Nothing was \
+            written.",
+        advice: "Name a folder behind `--into` that is not there yet, or an empty one, in a folder that is there; \
+            behind `--from` the one that has the files.",
     },
     Explanation {
         front: "REFUSED Host",
@@ -258,6 +259,13 @@ pub static REFUSALS: [Explanation; 36] = [
         advice: "Read the disk again, if you can. A file that does not need the sector can still be read by `a2shop \
             read`. With `--in-place` look whether the disk has room and is sound, and run `a2shop check` on the \
             image.",
+    },
+    Explanation {
+        front: "FAILED Output",
+        meaning: "The new file or folder could not be written, and nothing was told before that. What stood at its \
+            path stands, and the image is as it was.",
+        advice: "Look whether the folder around it is there and may be written to, and whether the disk has room; or \
+            name another path.",
     },
     Explanation {
         front: "FAILED Memory",
