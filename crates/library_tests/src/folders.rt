@@ -4,5 +4,6 @@
 mod additions;
 mod folder;
 mod foreign_files;
+mod output_lines;
 mod plans;
 mod whole_files;

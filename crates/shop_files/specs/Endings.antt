@@ -1,5 +1,5 @@
 -- How a job with output files ends.
-use Rattle.std.specs.Prelude.{◌≡◌, ◌≢◌, ◌⊎◌, ℕ, false, List, Option, Some, None}
+use Rattle.std.specs.Prelude.{◌≡◌, ◌≢◌, ◌⊎◌, ℕ, codes, false, List, Option, Some, None}
 use Rattle.std.specs.Io.KnownBytes.{Keeps}
 use Rattle.std.specs.declared.io.ErrorKind.{ErrorKind}
 use Rattle.std.specs.declared.io.ErrorKind.TheVariants.{OutOfMemory}
@@ -9,7 +9,7 @@ use Rattle.shop_replies.specs.declared.refusal.Failure.TheVariants.{Memory}
 use Rattle.shop_files.specs.declared.ending.Ending.{Ending}
 use Rattle.shop_files.specs.declared.ending.Unwritten.{Unwritten}
 use Rattle.shop_files.specs.declared.telling.Found.{Found}
-use Rattle.shop_files.specs.declared.ending.Unwritten.TheVariants.{Text, Image, ImageAfterCertificate, Certificate}
+use Rattle.shop_files.specs.declared.ending.Unwritten.TheVariants.{Text, Image, ImageAfterText, ImageAfterCertificate, Certificate, Folder}
 
 -- something could not be written, and the status is 4
 abbrev pub stopped : Unwritten → Ending
@@ -21,7 +21,7 @@ IsOutOfMemory ending old new = (ending.unwritten ≡ None) × IsWritten 4 (failu
 
 -- the image or the certificate could not take its place
 abbrev pub IsOutOfPlace : Unwritten → Type 0
-IsOutOfPlace unwritten = (unwritten ≡ Image) ⊎ (unwritten ≡ ImageAfterCertificate) ⊎ (unwritten ≡ Certificate)
+IsOutOfPlace unwritten = (unwritten ≡ ImageAfterText) ⊎ (unwritten ≡ ImageAfterCertificate) ⊎ (unwritten ≡ Certificate)
 
 -- An output file could not be put onto the disk, for such a reason: want of memory was told, or nothing was, and it is
 -- known which file that is.
@@ -36,7 +36,24 @@ IsOffDisk unwritten = (unwritten ≡ Image) ⊎ (unwritten ≡ Certificate)
 
 -- where the image could not be written, nothing was told
 abbrev pub IsImageUntold : Ending → Option (List ℕ) → Option (List ℕ) → Type 0
-IsImageUntold ending old new = ((ending ≡ stopped Image) ⊎ (ending ≡ stopped ImageAfterCertificate)) → Keeps old new
+IsImageUntold ending old new =
+    ((ending ≡ stopped Image) ⊎ (ending ≡ stopped ImageAfterText) ⊎ (ending ≡ stopped ImageAfterCertificate))
+    → Keeps old new
+
+-- where the image could not be written before anything was told, nothing was
+abbrev pub IsUntold : Ending → Option (List ℕ) → Option (List ℕ) → Type 0
+IsUntold ending old new = ending ≡ stopped Image → Keeps old new
+
+-- the output file or the new folder could not be written, before anything was told
+abbrev pub LacksOutput : Ending → Type 0
+LacksOutput ending = (ending.unwritten ≡ Some Image) ⊎ (ending.unwritten ≡ Some Folder)
+
+-- That is told on a line, with status 4 whether the line is written or not; of any other ending nothing more is told.
+abbrev pub IsOutputTold : Ending → Ending → Option (List ℕ) → Option (List ℕ) → Type 0
+IsOutputTold ending result old new =
+    (LacksOutput ending × (result.unwritten ≡ ending.unwritten)
+    × IsWritten 4 (codes "FAILED Output\n") result.status old new)
+    ⊎ ((¬ LacksOutput ending) × (result ≡ ending) × Keeps old new)
 
 -- where the certificate could not be written, nothing was told
 abbrev pub IsCertificateUntold : Ending → Option (List ℕ) → Option (List ℕ) → Type 0
@@ -76,14 +93,18 @@ abbrev pub nothing_found : Found
 nothing_found = record {
   is_wanted = false;
   path = None;
+  given = None;
   out = None;
   certificate = None;
   folder = None;
   order = None;
   bytes = None;
+  most = None;
   fault = None;
   unwritten = None;
   fault_files = None;
   foreign = None;
+  ways = None;
+  boot = None;
   is_content = false;
 }

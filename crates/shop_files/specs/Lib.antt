@@ -6,3 +6,4 @@ pub mod Written
 pub mod Known
 pub mod Protected
 pub mod Foreign
+pub mod Told

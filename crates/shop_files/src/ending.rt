@@ -11,8 +11,10 @@ pub enum Unwritten {
     Text,
     /// The text on standard output, of an image that was changed where it stands.
     TextAfterImage,
-    /// The file of the image. What stood at the paths stands.
+    /// The file of the image, before anything was told. What stood at the paths stands.
     Image,
+    /// The file of the image, behind the text. What stood at the paths stands.
+    ImageAfterText,
     /// The file of the image, after the certificate took its place.
     ImageAfterCertificate,
     /// The file of the certificate. What stood at the paths stands.
@@ -21,8 +23,10 @@ pub enum Unwritten {
     CertificateBeforeImage,
     /// The file of the certificate, after an image was changed where it stands.
     CertificateAfterImage,
-    /// The new folder. What stood at its path stands.
+    /// The new folder, before anything was told. What stood at its path stands.
     Folder,
+    /// The new folder, behind the text. What stood at its path stands.
+    FolderAfterText,
 }
 
 /// How a job ended: its status, and what could not be written, if that was the end.

@@ -18,8 +18,9 @@
 //!
 //! `end_by` ends a job by its reply: its image goes to such a file, its certificate to another or none, and its text is
 //! told as a whole. It answers an `Ending`: the status, and what could not be written (`specs/Written.antt`,
-//! `specs/Endings.antt`). `explain` says on standard error what was meant, and `warn_of_order` beforehand that another
-//! way to read the image is better.
+//! `specs/Endings.antt`). Where that is the output file or the new folder, and nothing was told yet, `tell_output`
+//! tells it on a line, of the jobs that tell such (`specs/Told.antt`). `explain` says on standard error what was meant,
+//! and `warn_of_order` beforehand that another way to read the image is better.
 //!
 //! No contract can say what a file system holds: what is promised of it is tested, with a file system whose calls fail
 //! in turn. What always holds: a device that is opened has the units of the job's file system, all those of a disk or
@@ -37,9 +38,12 @@ mod foreign;
 mod identity;
 mod image;
 mod output;
+mod output_line;
 mod settling;
 mod target;
 mod telling;
+mod text_fault;
+mod ways;
 
 pub use aside::{AsideFile, Placing};
 pub use bytes::{extra_bytes, other_bytes};
@@ -50,6 +54,7 @@ pub use foreign::{Foreign, foreign_of};
 pub use identity::{FileIdentity, is_same_file};
 pub use image::{ImageDevice, ImageUse, OpenImage, is_in_its_file};
 pub use output::Output;
+pub use output_line::{tell_output, tells_of_output};
 pub use settling::{end_by, settle};
 pub use target::{Node, Place, Standing, Target, target_of};
-pub use telling::{Found, ImageFault, explain, tell_foreign, warn_of_order};
+pub use telling::{BootFault, Found, ImageFault, explain, tell_foreign, warn_of_order};

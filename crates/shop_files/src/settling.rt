@@ -9,6 +9,7 @@ ghost use Rattle.shop_files.specs.Endings.{
   IsOutOfMemory,
   IsOutOfPlace,
   IsReplyEnding,
+  IsUntold,
   IsToldEnding,
   IsUnflushed,
 };
@@ -32,6 +33,7 @@ pub fn end_by<T: Write>(
     text: &mut T,
 ) -> Ending
     ensures ending { IsReplyEnding reply result (T.contents text.old) (T.contents text.new) }
+    ensures untold { IsUntold result (T.contents text.old) (T.contents text.new) }
     ensures protected { IsKept out.entry → IsSome reply.image
         → IsUnflushed ErrorKind.PermissionDenied Unwritten.Image result (T.contents text.old) (T.contents text.new)
         ⊎ IsOutOfMemory result (T.contents text.old) (T.contents text.new) }
@@ -82,6 +84,7 @@ pub fn settle<T: Write>(
     text: &mut T,
 ) -> Ending
     ensures ending { IsEnding status told.now result (T.contents text.old) (T.contents text.new) }
+    ensures untold { IsUntold result (T.contents text.old) (T.contents text.new) }
     ensures no_image { IsUntouched out.entry
         → IsToldEnding status told.now result (T.contents text.old) (T.contents text.new) }
     ensures failed { IfSome (failure_of out.entry) (λ kind.
@@ -155,7 +158,7 @@ fn take_both_places(out: Output<'_>, certificate: Output<'_>) -> Result<(), Unwr
     }
     match out.take_place() {
         Ok(()) => Ok(()),
-        Err(_) if is_alone => Err(Unwritten::Image),
+        Err(_) if is_alone => Err(Unwritten::ImageAfterText),
         Err(_) => Err(Unwritten::ImageAfterCertificate),
     }
 }

@@ -3,14 +3,18 @@ ghost use Rattle.std.specs.Prelude.{◌≡◌};
 ghost use Rattle.shop_files.specs.Endings.{nothing_found};
 
 use crate::ending::Unwritten;
-use crate::foreign::Foreign;
+use crate::foreign::{Foreign, foreign_of};
+use crate::image::{ImageUse, OpenImage};
 use crate::target_of;
+use crate::text_fault::text_fault;
+use crate::ways::{BrokenWay, broken_way, header_order, orders_apart};
 use a2_device::Order;
+use disk_container::MOST_BYTES;
 use explanations::{Explanation, FINDINGS, REFUSALS, explained};
 use shop_replies::most_bytes;
 use shop_words::escaped;
 use std::alloc::AllocError;
-use std::{fmt, io};
+use std::{fmt, fs, io};
 
 /// Why the file of an image is not opened.
 #[derive(Clone, Copy)]
@@ -23,12 +27,23 @@ pub enum ImageFault {
     Replaced,
 }
 
+/// Why a machine does not start from a disk with the system of another.
+#[derive(Clone, Copy)]
+pub enum BootFault {
+    /// The first sector or block of that one, which a machine loads, has zeros alone.
+    Zeros,
+    /// That one has a volume of another file system.
+    OtherSystem,
+}
+
 /// What became known of the files of a job.
 pub struct Found {
     /// Whether the answer is to be explained.
     pub is_wanted: bool,
     /// The path of the image.
     pub path: Option<String>,
+    /// The path of the file that is read beside it, or of the folder whose files are added.
+    pub given: Option<String>,
     /// The path of the output file.
     pub out: Option<String>,
     /// The path of the certificate's file.
@@ -39,6 +54,8 @@ pub struct Found {
     pub order: Option<Order>,
     /// How many bytes were read of the image.
     pub bytes: Option<usize>,
+    /// How many of its bytes are told at the most, where no more than one beyond those are read.
+    pub most: Option<usize>,
     /// Why the image was not opened.
     pub fault: Option<ImageFault>,
     /// What could not be written.
@@ -47,6 +64,10 @@ pub struct Found {
     pub fault_files: Option<String>,
     /// Another kind of file that the image is, where it was read.
     pub foreign: Option<Foreign>,
+    /// The lines that `identify` tells of the image, where `auto` chose none of its ways.
+    pub ways: Option<String>,
+    /// Why a machine does not start from a new disk.
+    pub boot: Option<BootFault>,
     /// Whether what is told is the bytes of a file, and no words of the program's.
     pub is_content: bool,
 }
@@ -56,15 +77,19 @@ impl Drop for Found {
         let Found {
             is_wanted: _,
             path: _,
+            given: _,
             out: _,
             certificate: _,
             folder: _,
             order: _,
             bytes: _,
+            most: _,
             fault: _,
             unwritten: _,
             fault_files: _,
             foreign: _,
+            ways: _,
+            boot: _,
             is_content: _,
         } = self;
     }
@@ -78,15 +103,19 @@ impl Found {
         Found {
             is_wanted: false,
             path: None,
+            given: None,
             out: None,
             certificate: None,
             folder: None,
             order: None,
             bytes: None,
+            most: None,
             fault: None,
             unwritten: None,
             fault_files: None,
             foreign: None,
+            ways: None,
+            boot: None,
             is_content: false,
         }
     }
@@ -94,6 +123,29 @@ impl Found {
 
 /// The words of a refusal of the image's length.
 const LENGTH: &str = "REFUSED Length";
+
+/// The words of a refusal of a text.
+const TEXT: &str = "REFUSED Text";
+
+/// The words of which it matters which other kind of file an image is.
+const UNUSABLE: [&str; 10] = [
+    LENGTH,
+    "REFUSED Unknown",
+    "REFUSED Ambiguous",
+    "REFUSED Check",
+    "REFUSED NoSector",
+    "REFUSED Container Magic",
+    "FAILED Device",
+    "FAULT Geometry",
+    "AMBIGUOUS",
+    "NONE",
+];
+
+/// The words that tell that there is no volume.
+const NO_VOLUME: [&str; 2] = ["REFUSED Unknown", "NONE"];
+
+/// What these mean where there is a volume whose directory is damaged.
+const DAMAGED: &str = "No volume can be read, but there is one whose directory is damaged.";
 
 // A number of bytes, with a comma before each three digits.
 #[derive(Clone, Copy)]
@@ -136,9 +188,10 @@ fn tell_image(rt: &HostRuntime, found: &Found) -> io::Result<()> {
         return Ok(());
     }
     let name = shown(rt, &found.path)?;
+    let most = found.most.unwrap_or(most_bytes(Order::Prodos));
     match found.bytes {
-        Some(bytes) if bytes > most_bytes(Order::Prodos) => {
-            let most = Grouped(most_bytes(Order::Prodos));
+        Some(bytes) if bytes > most => {
+            let most = Grouped(most);
             eprintln!(rt; "{name}: more than {most} bytes.")
         }
         Some(bytes) => {
@@ -162,14 +215,82 @@ fn tell_file(rt: &HostRuntime, found: &Found, front: &str) -> io::Result<()> {
     Ok(())
 }
 
-// Tells which other kind of file the image is, if it is one.
-fn tell_kind(rt: &HostRuntime, foreign: Option<Foreign>) -> io::Result<()> {
-    match foreign {
-        Some(foreign) => {
-            let text = foreign.text();
-            eprintln!(rt; "{text}")
-        }
+// Whether the line with these words is of the second of two images.
+fn is_of_other(front: &str, told: &[u8]) -> bool {
+    match told.strip_prefix(front.as_bytes()) {
+        Some(rest) => rest == b" 2\n".as_slice(),
+        None => false,
+    }
+}
+
+// Which other kind of file stands at a path, if it is one that is known and can be read again.
+fn foreign_at(rt: &HostRuntime, path: &Option<String>) -> Option<Foreign> {
+    let path = path.as_ref()?.as_str();
+    if !fs::metadata(rt, path).ok()?.is_file() {
+        return None;
+    }
+    let mut image = OpenImage::open(rt, path, ImageUse::Read).ok()?;
+    let bytes = image.bytes(rt, MOST_BYTES as u32).ok()?;
+    foreign_of(bytes.as_slice())
+}
+
+// Tells which other kind of file the second of two images is, if it is one.
+fn tell_other_kind(rt: &HostRuntime, found: &Found) -> io::Result<()> {
+    let Some(foreign) = foreign_at(rt, &found.given) else {
+        return Ok(());
+    };
+    let name = shown(rt, &found.given)?;
+    let text = foreign.text();
+    eprintln!(rt; "{name}: {text}")
+}
+
+// Tells which other kind of file the image is, if it is one. A container that was opened is none.
+fn tell_kind(rt: &HostRuntime, found: &Found, told: &[u8]) -> io::Result<()> {
+    let Some(foreign) = found.foreign else {
+        return Ok(());
+    };
+    if foreign == Foreign::Container && told.starts_with(b"2IMG") {
+        return Ok(());
+    }
+    let text = foreign.text();
+    eprintln!(rt; "{text}")
+}
+
+// Tells of an image that is refused by these words how many bytes were wanted, and which other kind of file it is.
+fn tell_unusable(rt: &HostRuntime, found: &Found, front: &str, told: &[u8]) -> io::Result<()> {
+    if !UNUSABLE.iter().any(|words| *words == front) {
+        return Ok(());
+    }
+    let is_other = is_of_other(front, told);
+    if front == LENGTH {
+        let order = if is_other { None } else { found.order };
+        let wanted = wanted_length(order);
+        eprintln!(rt; "{wanted}")?;
+    }
+    if is_other {
+        tell_other_kind(rt, found)
+    } else {
+        tell_kind(rt, found, told)
+    }
+}
+
+// Tells which character of a text can't be taken, where these words refuse one.
+fn tell_text(rt: &HostRuntime, found: &Found, front: &str, told: &[u8]) -> io::Result<()> {
+    if front != TEXT {
+        return Ok(());
+    }
+    match text_fault(rt, &found.given, told)? {
+        Some(fault) => eprintln!(rt; "{fault}"),
         None => Ok(()),
+    }
+}
+
+// What the words of a row mean and what to do next. Of a volume that is damaged it is not said that there is none.
+fn meaning_of(row: &Explanation, is_broken: bool) -> (&'static str, &'static str) {
+    if is_broken && NO_VOLUME.iter().any(|words| *words == row.front) {
+        (DAMAGED, "")
+    } else {
+        (row.meaning, row.advice)
     }
 }
 
@@ -179,21 +300,46 @@ fn tell_rows(
     found: &Found,
     table: &[Explanation],
     told: &[u8],
+    is_broken: bool,
 ) -> io::Result<()> {
     for row in explained(rt.alloc(), table, told)? {
         let front = row.front;
-        let meaning = row.meaning;
-        let advice = row.advice;
-        if front == LENGTH {
-            let wanted = wanted_length(found.order);
-            eprintln!(rt; "{wanted}")?;
-            tell_kind(rt, found.foreign)?;
-        }
+        tell_unusable(rt, found, front, told)?;
+        tell_text(rt, found, front, told)?;
+        let (meaning, advice) = meaning_of(row, is_broken);
         let colon = if front.ends_with(':') { "" } else { ":" };
-        eprintln!(rt; "{front}{colon} {meaning} {advice}")?;
+        let space = if advice.is_empty() { "" } else { " " };
+        eprintln!(rt; "{front}{colon} {meaning}{space}{advice}")?;
         tell_file(rt, found, front)?;
     }
     Ok(())
+}
+
+// The lines that `identify` tells of the image.
+fn told_ways<'a>(found: &'a Found, told: &'a [u8]) -> &'a str {
+    match &found.ways {
+        Some(ways) => ways.as_str(),
+        None => std::str::from_utf8(told).unwrap_or(""),
+    }
+}
+
+// Tells of a volume whose directory is damaged what that means, and which command tells where.
+fn tell_broken(rt: &HostRuntime, found: &Found, told: &[u8], way: BrokenWay<'_>) -> io::Result<()> {
+    let BrokenWay { file_system, order } = way;
+    tell_rows(rt, found, &FINDINGS, b"BROKEN\n", false)?;
+    let (image, order) = match header_order(told_ways(found, told)) {
+        None => ("IMAGE", order),
+        Some(header) if header == order => ("IMAGE", "2img"),
+        Some(_) => {
+            eprintln!(rt;
+                "`a2shop unwrap IMAGE --out FILE` first takes the image out of its container."
+            )?;
+            ("FILE", order)
+        }
+    };
+    eprintln!(rt;
+        "`a2shop check {image} --fs {file_system} --order {order}` tells where the fault is."
+    )
 }
 
 // What to do where the file of an image is not opened, in whole sentences.
@@ -213,6 +359,20 @@ fn fault_text(fault: ImageFault) -> &'static str {
     }
 }
 
+// Why a machine does not start from a disk with the system of another, in whole sentences.
+fn boot_text(fault: BootFault) -> &'static str {
+    match fault {
+        BootFault::Zeros => {
+            "its first sector, which a machine loads when it starts, has zeros alone. A machine does not start from \
+                it, nor from the new disk."
+        }
+        BootFault::OtherSystem => {
+            "it has a volume of the other file system, so its system is the other one too: a machine that starts from \
+                the new disk does not find its files there."
+        }
+    }
+}
+
 // What stands where something could not be written, in whole sentences.
 fn unwritten_text(unwritten: Unwritten) -> &'static str {
     match unwritten {
@@ -220,7 +380,9 @@ fn unwritten_text(unwritten: Unwritten) -> &'static str {
         Unwritten::TextAfterImage => {
             "the text could not be written there. The image was changed in its own file."
         }
-        Unwritten::Image => "it could not be written. Each file is as it was.",
+        Unwritten::Image | Unwritten::ImageAfterText => {
+            "it could not be written. Each file is as it was."
+        }
         Unwritten::ImageAfterCertificate => {
             "it could not be written, and is as it was. The certificate was written, and is good for the image as it \
                 is."
@@ -234,7 +396,9 @@ fn unwritten_text(unwritten: Unwritten) -> &'static str {
         Unwritten::CertificateAfterImage => {
             "it could not be written. The image was changed in its own file."
         }
-        Unwritten::Folder => "it could not be written. What stood there stands.",
+        Unwritten::Folder | Unwritten::FolderAfterText => {
+            "it could not be written. What stood there stands."
+        }
     }
 }
 
@@ -297,11 +461,13 @@ fn tell_unwritten(rt: &HostRuntime, found: &Found) -> io::Result<()> {
         Unwritten::Text | Unwritten::TextAfterImage => {
             return eprintln!(rt; "standard output: {text}");
         }
-        Unwritten::Image | Unwritten::ImageAfterCertificate => &found.out,
+        Unwritten::Image | Unwritten::ImageAfterText | Unwritten::ImageAfterCertificate => {
+            &found.out
+        }
         Unwritten::Certificate
         | Unwritten::CertificateBeforeImage
         | Unwritten::CertificateAfterImage => &found.certificate,
-        Unwritten::Folder => {
+        Unwritten::Folder | Unwritten::FolderAfterText => {
             let name = shown(rt, &found.folder)?;
             return eprintln!(rt; "{name}: {text} {IN_THE_WAY_OF_A_FOLDER}");
         }
@@ -309,34 +475,6 @@ fn tell_unwritten(rt: &HostRuntime, found: &Found) -> io::Result<()> {
     let name = shown(rt, path)?;
     let advice = in_the_way(rt, path);
     eprintln!(rt; "{name}: {text} {advice}")
-}
-
-// The third word of a line that begins with this one.
-fn order_named<'a>(line: &'a str, front: &str) -> Option<&'a str> {
-    let mut words = line.split(' ');
-    if words.next()? != front {
-        return None;
-    }
-    words.next()?;
-    words.next()
-}
-
-// Of a container that was identified, the order in its header and the one of the best way to read its image, where they
-// are not one.
-fn orders_apart(told: &[u8]) -> Option<(&str, &str)> {
-    let text = std::str::from_utf8(told).ok()?;
-    let (first, rest) = text.split_once('\n')?;
-    let header = order_named(first, "2IMG")?;
-    for line in rest.split('\n') {
-        if let Some(best) = order_named(line, "BEST") {
-            return if best == header {
-                None
-            } else {
-                Some((header, best))
-            };
-        }
-    }
-    None
 }
 
 // Tells that the header of a container names another order than the best way to read its image, if it does.
@@ -351,24 +489,30 @@ fn tell_orders(rt: &HostRuntime, found: &Found, told: &[u8]) -> io::Result<()> {
     )
 }
 
-// Tells what each of the words means that begin a line of a refusal.
-fn tell_refusals(rt: &HostRuntime, found: &Found, told: &[u8]) -> io::Result<()> {
-    tell_rows(rt, found, &REFUSALS, told)
-}
-
-// Tells what each of the words means that begin a line of what was found.
-fn tell_findings(rt: &HostRuntime, found: &Found, told: &[u8]) -> io::Result<()> {
-    tell_rows(rt, found, &FINDINGS, told)
+// Tells why a machine does not start from a new disk, if it does not.
+fn tell_boot(rt: &HostRuntime, found: &Found) -> io::Result<()> {
+    let Some(fault) = found.boot else {
+        return Ok(());
+    };
+    let name = shown(rt, &found.path)?;
+    let text = boot_text(fault);
+    eprintln!(rt; "{name}: {text}")
 }
 
 // Tells on standard error which image was read, and what each of the words means that begin a line of what was told.
 fn tell(rt: &HostRuntime, found: &Found, told: &[u8]) -> io::Result<()> {
+    let broken = broken_way(told_ways(found, told));
     tell_image(rt, found)?;
     tell_fault(rt, found)?;
     tell_unwritten(rt, found)?;
+    tell_boot(rt, found)?;
     tell_orders(rt, found, told)?;
-    tell_refusals(rt, found, told)?;
-    tell_findings(rt, found, told)
+    tell_rows(rt, found, &REFUSALS, told, broken.is_some())?;
+    tell_rows(rt, found, &FINDINGS, told, broken.is_some())?;
+    match broken {
+        Some(way) => tell_broken(rt, found, told, way),
+        None => Ok(()),
+    }
 }
 
 /// Explains on standard error what was told. Where that can't be written, nothing else changes.

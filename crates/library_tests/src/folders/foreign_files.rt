@@ -13,6 +13,7 @@ fn files_of_other_kinds_are_known(rt: HostRuntime) -> Result<(), Fail> {
             [0x4e, 0xf5, 0x46, 0xe9, 0x6c, 0xe5].as_slice(),
             Foreign::ShrinkIt,
         ),
+        (b"2IMGCPII".as_slice(), Foreign::Container),
     ] {
         assert!(rt; foreign_of(front) == Some(kind));
     }
@@ -24,9 +25,17 @@ fn files_of_other_kinds_are_known(rt: HostRuntime) -> Result<(), Fail> {
 }
 
 #[test]
-fn an_image_of_too_many_blocks_is_known(rt: HostRuntime) -> Result<(), Fail> {
-    let blocks = vec![in rt.alloc(); 0; 33_554_432]?;
-    assert!(rt; foreign_of(blocks.as_slice()) == Some(Foreign::TooManyBlocks));
-    assert!(rt; foreign_of(&blocks.as_slice()[1..]) == None);
+fn disks_of_other_sizes_are_known(rt: HostRuntime) -> Result<(), Fail> {
+    for (bytes, kind) in [
+        (33_554_432, Foreign::TooManyBlocks),
+        (116_480, Foreign::ThirteenSectors),
+        (147_456, Foreign::ThirtySixTracks),
+        (163_840, Foreign::FortyTracks),
+        (223_440, Foreign::ShortTracks),
+    ] {
+        let disk = vec![in rt.alloc(); 0; bytes]?;
+        assert!(rt; foreign_of(disk.as_slice()) == Some(kind));
+        assert!(rt; foreign_of(&disk.as_slice()[1..]) == None);
+    }
     Ok(())
 }

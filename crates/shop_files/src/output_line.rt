@@ -1,0 +1,58 @@
+// The line of an output that can't be written.
+ghost use Rattle.std.specs.Prelude.{◌↔◌, IsTrue};
+ghost use Rattle.shop_jobs.specs.Job.{ask_view};
+ghost use Rattle.shop_files.specs.Endings.{IsOutputTold, LacksOutput};
+ghost use Rattle.shop_files.specs.Told.{TellsOfOutput};
+
+use crate::ending::{Ending, Unwritten};
+use shop_jobs::{Ask, Change, Job, Look};
+use shop_replies::{FAILED, written};
+use std::io::Write;
+
+const LINE: &[u8] = b"FAILED Output\n";
+
+/// Whether a job tells on a line that its output file or its folder could not be written. The others are silent then.
+pub fn tells_of_output(job: &Job) -> bool
+    ensures { IsTrue result ↔ TellsOfOutput (ask_view job.now.ask) }
+{
+    match &job.ask {
+        Ask::Wrap { .. }
+        | Ask::Unwrap { .. }
+        | Ask::Create { .. }
+        | Ask::Extract { .. }
+        | Ask::Add { .. } => true,
+        Ask::Look {
+            look: Look::Read { out, .. },
+            ..
+        } => out.is_some(),
+        Ask::Change { change, .. } => {
+            matches!(change, Change::Reclaim | Change::MakeDirectory { .. })
+        }
+        Ask::Identify | Ask::Survey { .. } | Ask::Convert { .. } | Ask::Look { .. } => false,
+    }
+}
+
+// Whether that is how a job ended, before anything was told.
+fn lacks_output(ending: Ending) -> bool
+    ensures { IsTrue result ↔ LacksOutput ending }
+{
+    match ending.unwritten {
+        Some(Unwritten::Image | Unwritten::Folder) => true,
+        _ => false,
+    }
+}
+
+/// Tells on a line that the output file or the new folder could not be written, where a job ended so before anything
+/// was told; of another ending nothing more is told.
+pub fn tell_output<T: Write>(ending: Ending, text: &mut T) -> Ending
+    ensures { IsOutputTold ending result (T.contents text.old) (T.contents text.new) }
+{
+    if lacks_output(ending) {
+        Ending {
+            status: written(LINE, FAILED, text),
+            unwritten: ending.unwritten,
+        }
+    } else {
+        ending
+    }
+}
