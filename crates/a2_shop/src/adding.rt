@@ -148,5 +148,5 @@ pub fn add_job<T: Write>(
         None => None,
     };
     let reply = add_reply(rt.alloc(), job, image, entries.as_slice(), &mut host, shell);
-    Ok(end(rt, Done::Answered(reply), Outputs::of(rt, files), text))
+    Ok(end(rt, Done::Made(reply), Outputs::of(rt, files), text))
 }

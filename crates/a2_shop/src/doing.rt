@@ -14,7 +14,7 @@ use shop_changes::Outcome;
 use shop_commands::{
     only_reads, read_job_on_device, reply_to, reply_to_payload, run_job_in_place, unread_reply,
 };
-use shop_files::{ImageDevice, Output, Unwritten, extra_bytes};
+use shop_files::{ImageDevice, Output, Unwritten, extra_bytes, tells_of_output};
 use shop_jobs::{Ask, Job, Look, is_in_place, volume_of};
 use shop_replies::{Failure, Refusal, Reply, Side, most_of_image};
 
@@ -23,6 +23,8 @@ use shop_replies::{Failure, Refusal, Reply, Side, most_of_image};
 pub enum Done {
     /// It is answered, and its files are not written.
     Answered(Reply),
+    /// The same of a job that tells where its output can't be written.
+    Made(Reply),
     /// It has changed its image in its own file, or has not, and the file is on the disk.
     InPlace(Outcome),
 }
@@ -115,14 +117,22 @@ pub fn do_job(
     if is_in_place(job) {
         return do_in_place(rt, job, inputs, certificate);
     }
-    Ok(Done::Answered(reply_of(rt, job, inputs)))
+    let reply = reply_of(rt, job, inputs);
+    if tells_of_output(job) {
+        Ok(Done::Made(reply))
+    } else {
+        Ok(Done::Answered(reply))
+    }
 }
 
 /// The lines that name the files of faults, of an answer that tells such, if there is memory for
 /// them.
 pub fn fault_files(rt: &HostRuntime, done: &Done) -> Option<String> {
     match done {
-        Done::Answered(reply) => reply.fault_files()?.to_string(rt.alloc()).ok(),
+        Done::Answered(reply) | Done::Made(reply) => reply
+            .fault_files()?
+            .to_string(rt.alloc())
+            .ok(),
         Done::InPlace(_) => None,
     }
 }

@@ -1,7 +1,8 @@
 // The files of a job, ended, and its answer told.
 use crate::doing::Done;
 use shop_changes::Outcome;
-use shop_files::{Ending, Found, JobFiles, Output, Unwritten, end_by, explain};
+use shop_files::{Ending, Found, JobFiles, Output, Unwritten, end_by, explain, tell_output};
+use shop_replies::Reply;
 use std::io::Write;
 
 /// The files that a job writes.
@@ -69,16 +70,24 @@ fn end_in_place<T: Write>(outcome: Outcome, mut certificate: Output<'_>, text: &
     Ending::written(status)
 }
 
+// Tells the reply to a job, and puts its files into their places.
+fn end_reply<T: Write>(
+    rt: &HostRuntime,
+    reply: Reply,
+    outputs: Outputs<'_>,
+    text: &mut T,
+) -> Ending {
+    end_by(rt.alloc(), reply, outputs.image, outputs.certificate, text)
+}
+
 /// Tells what a job has come to, and puts its files into their places.
 pub fn end<T: Write>(rt: &HostRuntime, done: Done, outputs: Outputs<'_>, text: &mut T) -> Ending {
     match done {
-        Done::Answered(reply) => end_by(
-            rt.alloc(),
-            reply,
-            outputs.image,
-            outputs.certificate,
-            text,
-        ),
+        Done::Answered(reply) => end_reply(rt, reply, outputs, text),
+        Done::Made(reply) => {
+            let ending = end_reply(rt, reply, outputs, text);
+            tell_output(ending, text)
+        }
         Done::InPlace(outcome) => end_in_place(outcome, outputs.certificate, text),
     }
 }

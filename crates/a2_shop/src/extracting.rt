@@ -12,14 +12,28 @@ use a2_device::Device;
 use a2_media::FileError;
 use host_folders::{StartError, SystemFolder, folder_name};
 use shop_commands::{NotExtracted, extract_on_device};
-use shop_files::{Ending, Unwritten};
+use shop_files::{Ending, Unwritten, tell_output};
 use shop_jobs::{Job, VolumeOptions, into_path, volume_of};
 use shop_replies::{Failure, Refusal, Reply, device_of, most_of_image, open_volume};
 use std::alloc::Global;
-use std::io::Write;
+use std::fs;
+use std::io::{ErrorKind, Write};
 
 /// The folder that a job makes.
 type JobFolder<'a> = SystemFolder<'a, HostRuntime, Global>;
+
+// Whether the folder is there in which another is to stand.
+fn is_in_folder(rt: &HostRuntime, path: &str) -> bool {
+    let around = match path.rsplit_once('/') {
+        None => ".",
+        Some(("", _)) => "/",
+        Some((around, _)) => around,
+    };
+    match fs::metadata(rt, around) {
+        Ok(found) => found.is_dir(),
+        Err(error) => !matches!(error.kind(), ErrorKind::NotFound | ErrorKind::NotADirectory),
+    }
+}
 
 // The folder at the path that a job names, begun.
 fn start_folder<'a>(rt: &'a HostRuntime, job: &Job) -> Result<JobFolder<'a>, Stop> {
@@ -32,6 +46,7 @@ fn start_folder<'a>(rt: &'a HostRuntime, job: &Job) -> Result<JobFolder<'a>, Sto
     match SystemFolder::start(rt, rt.alloc(), path) {
         Ok(folder) => Ok(folder),
         Err(StartError::Taken) => Err(Stop::Refused(Refusal::Folder)),
+        Err(StartError::Failed) if !is_in_folder(rt, path) => Err(Stop::Refused(Refusal::Folder)),
         Err(StartError::Failed) => Err(Stop::Unwritten(Unwritten::Folder)),
         Err(StartError::Memory) => Err(Stop::Failed(Failure::Memory)),
     }
@@ -62,7 +77,7 @@ fn extract_units<D: Device, T: Write>(
     match extract_on_device(rt.alloc(), job, device, &mut folder, text) {
         Ok(status) => match folder.finish() {
             Ok(()) => Ending::written(status),
-            Err(_) => Ending::stopped(Unwritten::Folder),
+            Err(_) => Ending::stopped(Unwritten::FolderAfterText),
         },
         Err(error) => {
             folder.abandon();
@@ -95,9 +110,9 @@ fn extract_bytes<T: Write>(
     }
 }
 
-/// Puts the files of the volume of a job into its folder, tells of them, and lets the folder take
-/// its place. The image is read as a whole where its units do not stand in its file as they are.
-pub fn extract_job<T: Write>(
+// Puts the files of the volume of a job into its folder, tells of them, and lets the folder take
+// its place. The image is read as a whole where its units do not stand in its file as they are.
+fn extract_volume<T: Write>(
     rt: &HostRuntime,
     job: &Job,
     inputs: &mut Inputs,
@@ -125,5 +140,21 @@ pub fn extract_job<T: Write>(
             Err(Stop::Refused(Refusal::Length))
         }
         Err(FileError::Io) => Err(Stop::Failed(Failure::Input)),
+    }
+}
+
+/// The same, and where nothing was told since the folder can't be written, that is told.
+pub fn extract_job<T: Write>(
+    rt: &HostRuntime,
+    job: &Job,
+    inputs: &mut Inputs,
+    text: &mut T,
+) -> Result<Ending, Stop>
+    requires job { ExtractsVolume (ask_view job.now.ask) }
+{
+    match extract_volume(rt, job, inputs, text) {
+        Ok(ending) => Ok(tell_output(ending, text)),
+        Err(Stop::Unwritten(unwritten)) => Ok(tell_output(Ending::stopped(unwritten), text)),
+        Err(stop) => Err(stop),
     }
 }

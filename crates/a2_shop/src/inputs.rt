@@ -5,7 +5,8 @@ use a2_media::Extent;
 use disk_container::{Container, Shell};
 use shop_files::{Found, JobFiles, OpenImage, extra_bytes, is_in_its_file};
 use shop_jobs::{
-    Job, certificate_path, into_path, is_in_place, is_on_standard_input, out_path, volume_of,
+    Job, certificate_path, folder_path, from_path, into_path, is_in_place, is_on_standard_input,
+    out_path, volume_of,
 };
 use shop_replies::{Failure, Refusal, Side};
 
@@ -65,6 +66,7 @@ impl Inputs {
 fn note_paths(rt: &HostRuntime, job: &Job, found: &mut Found) {
     if found.is_wanted {
         found.path = job.image.as_str().to_string(rt.alloc()).ok();
+        found.given = copy_of(rt, from_path(job).or(folder_path(job)));
         found.out = copy_of(rt, out_path(job));
         found.certificate = copy_of(rt, certificate_path(job));
         found.folder = copy_of(rt, into_path(job));

@@ -7,8 +7,9 @@
 //! has its file: `words.rt`, `asking.rt`, `inputs.rt`, `settling.rt`, `doing.rt` and `ending.rt`;
 //! a job that makes a folder is done and ended in `extracting.rt`, one that adds the files of a
 //! folder in `adding.rt`, one that surveys a folder in `surveying.rt`, one that makes a volume in
-//! `creating.rt`. `walking.rt` looks through a folder for two of them, and `stop.rt` has what ends
-//! the line early. `streams.rt` takes the descriptors of closed streams, so that no file gets one.
+//! `creating.rt`. `noting.rt` notes what is explained of an image that `auto` can't read,
+//! `walking.rt` looks through a folder for two of them, and `stop.rt` has what ends the line early.
+//! `streams.rt` takes the descriptors of closed streams, so that no file gets one.
 #![tactic(auto)]
 
 mod adding;
@@ -18,6 +19,7 @@ mod doing;
 mod ending;
 mod extracting;
 mod inputs;
+mod noting;
 mod settling;
 mod stages;
 mod stop;

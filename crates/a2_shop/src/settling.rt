@@ -1,6 +1,7 @@
 // The job, settled by its image.
 use crate::asking::{Ways, asks_auto, asks_container, is_container, is_left_open, job_with};
 use crate::inputs::{Inputs, OpenContainer};
+use crate::noting::note_stop;
 use crate::stop::Stop;
 use a2_device::Order;
 use disk_container::{Container, MOST_BYTES, begins_like_container, container_of, take_shell};
@@ -248,7 +249,16 @@ pub fn settled_job<T: Write>(
     };
     found.bytes = Some(image.len());
     found.foreign = foreign_of(image.as_slice());
-    let settled = job_of_image(rt, words, asked, files, inputs, &mut image, text)?;
+    let settled = match job_of_image(rt, words, asked, files, inputs, &mut image, text) {
+        Ok(settled) => settled,
+        Err(stop) => {
+            note_stop(rt, stop, inputs, image, found);
+            return Err(stop);
+        }
+    };
+    if inputs.container.is_some() {
+        found.foreign = None;
+    }
     match &settled {
         Some(job) => note_order(rt, job, &mut image, found),
         None => note_order(rt, asked, &mut image, found),

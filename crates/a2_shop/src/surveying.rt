@@ -2,8 +2,8 @@
 use crate::stop::{Stop, failure_of};
 use crate::walking::{Finder, Kind, Root};
 use disk_container::MOST_BYTES;
-use image_survey::{FileId, Survey, SurveyError, Surveyed, survey_image};
-use shop_files::{Ending, ImageUse, OpenImage, Unwritten, foreign_of, tell_foreign};
+use image_survey::{FileId, ImageVerdict, Survey, SurveyError, Surveyed, survey_image};
+use shop_files::{Ending, Foreign, ImageUse, OpenImage, Unwritten, foreign_of, tell_foreign};
 use shop_jobs::{Job, SurveyForm, is_on_standard_input};
 use shop_replies::Failure;
 use std::alloc::AllocError;
@@ -69,6 +69,20 @@ fn read_file(rt: &HostRuntime, path: &str) -> Result<FileRead, Failure> {
     }
 }
 
+// Whether no one volume was found in a file.
+fn is_without_volume(found: &Surveyed) -> bool {
+    match found {
+        Surveyed::Other => true,
+        Surveyed::Image(image) => !matches!(image.verdict, ImageVerdict::Best(_)),
+        Surveyed::Unread => false,
+    }
+}
+
+// Which other kind of file bytes are. A survey reads containers.
+fn kind_of(bytes: &[u8]) -> Option<Foreign> {
+    foreign_of(bytes).filter(|kind| *kind != Foreign::Container)
+}
+
 /// A survey on its way.
 #[derive(Drop)]
 struct Surveying<'a> {
@@ -116,10 +130,13 @@ impl Surveying<'_> {
 
     // What is found of a file that was read.
     fn look_at(&self, path: &str, bytes: Vec<u8>) -> Result<Surveyed, AllocError> {
-        let foreign = foreign_of(bytes.as_slice());
+        let foreign = kind_of(bytes.as_slice());
         let found = survey_image(self.rt.alloc(), bytes)?;
-        if let (Surveyed::Other, Some(foreign), true) = (&found, foreign, self.explains) {
-            tell_foreign(self.rt, path, foreign);
+        match foreign {
+            Some(foreign) if self.explains && is_without_volume(&found) => {
+                tell_foreign(self.rt, path, foreign);
+            }
+            _ => {}
         }
         Ok(found)
     }
