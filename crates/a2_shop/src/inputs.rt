@@ -1,5 +1,4 @@
 // The inputs of a job, opened.
-use crate::asking::is_left_open;
 use crate::stop::Stop;
 use a2_media::Extent;
 use disk_container::{Container, Shell};
@@ -9,6 +8,7 @@ use shop_jobs::{
     out_path, volume_of,
 };
 use shop_replies::{Failure, Refusal, Side};
+use shop_words::LeftOpen;
 
 /// The container in which an image stands.
 #[derive(Drop)]
@@ -107,9 +107,9 @@ pub fn files_of<'a>(
 
 // Whether a job is to change its image in a file that it is not changed in, as the words say: no
 // look at the file is needed. A word may leave open how the image is read.
-fn is_out_of_place(words: &[String], job: &Job) -> bool {
+fn is_out_of_place(left: LeftOpen, job: &Job) -> bool {
     let is_kept = match volume_of(job) {
-        Some(volume) => is_left_open(words) || is_in_its_file(volume),
+        Some(volume) => !left.is_none() || is_in_its_file(volume),
         None => false,
     };
     is_in_place(job) && (is_on_standard_input(job) || !is_kept)
@@ -138,12 +138,12 @@ fn open_image(
 /// Opens the image of a job.
 pub fn open_inputs(
     rt: &HostRuntime,
-    words: &[String],
+    left: LeftOpen,
     job: &Job,
     files: &JobFiles<'_>,
     found: &mut Found,
 ) -> Result<Inputs, Stop> {
-    if is_out_of_place(words, job) {
+    if is_out_of_place(left, job) {
         return Err(Stop::Refused(Refusal::InPlace));
     }
     let image = open_image(rt, job, files, found)?;

@@ -1,5 +1,5 @@
 // The job, settled by its image.
-use crate::asking::{Ways, asks_auto, asks_container, is_container, is_left_open, job_with};
+use crate::asking::job_with;
 use crate::inputs::{Inputs, OpenContainer};
 use crate::noting::note_stop;
 use crate::stop::Stop;
@@ -10,7 +10,7 @@ use shop_commands::is_protected;
 use shop_files::{Found, ImageUse, JobFiles, foreign_of, other_bytes, warn_of_order};
 use shop_jobs::{Ask, FileSystem, Job, image_order, volume_of};
 use shop_replies::{Refusal, Side};
-use shop_words::AutoOption;
+use shop_words::{Asked, LeftOpen, StandIn, Ways};
 use std::io::Write;
 
 // The best reading of an image, of those that have what the words give; of one in a container the
@@ -32,14 +32,29 @@ fn best_way(
     }
 }
 
-// Takes the image out of bytes that are read as a container, by the option of their order.
+// Whether a job puts its image into a container: it stands in none.
+fn wraps(job: &Job) -> bool {
+    matches!(&job.ask, Ask::Wrap { .. })
+}
+
+// Whether bytes are read as a container: where the words say so, or leave their order to them and
+// they begin like one.
+fn is_container(job: &Job, left: Option<StandIn>, bytes: &[u8]) -> bool {
+    match left {
+        Some(StandIn::Container) => true,
+        Some(StandIn::Auto) => !wraps(job) && begins_like_container(bytes),
+        None => false,
+    }
+}
+
+// Takes the image out of bytes that are read as a container.
 fn open_container(
     rt: &HostRuntime,
-    words: &[String],
-    option: AutoOption,
+    job: &Job,
+    left: Option<StandIn>,
     bytes: &mut Vec<u8>,
 ) -> Result<Option<OpenContainer>, Stop> {
-    if !is_container(words, option, bytes.as_slice()) {
+    if !is_container(job, left, bytes.as_slice()) {
         return Ok(None);
     }
     match container_of(bytes.as_slice()) {
@@ -58,35 +73,31 @@ fn said_by(container: &Option<OpenContainer>) -> Option<Container> {
 
 // The order that the words give, or a container where they leave it to that.
 fn order_given(
-    words: &[String],
-    option: AutoOption,
+    left: Option<StandIn>,
     said: Option<Order>,
     container: Option<Container>,
 ) -> Option<Order> {
-    if asks_auto(words, option) {
-        return None;
-    }
-    match container {
-        Some(container) => Some(container.order),
-        None => said,
+    match (left, container) {
+        (Some(StandIn::Auto), _) => None,
+        (_, Some(container)) => Some(container.order),
+        (_, None) => said,
     }
 }
 
 // How the image of a job is read.
 fn way_of_image(
     rt: &HostRuntime,
-    words: &[String],
-    asked: &Job,
+    left: LeftOpen,
+    job: &Job,
     image: &mut Vec<u8>,
     container: Option<Container>,
 ) -> Result<(FileSystem, Order), Stop> {
-    let order = order_given(words, AutoOption::Order, image_order(asked), container);
-    let file_system = match volume_of(asked) {
-        Some(volume) if !asks_auto(words, AutoOption::FileSystem) => Some(volume.file_system),
+    let order = order_given(left.order, image_order(job), container);
+    let file_system = match volume_of(job) {
+        Some(volume) if !left.file_system => Some(volume.file_system),
         _ => None,
     };
-    let is_said = !asks_auto(words, AutoOption::FileSystem);
-    if let (Some(order), true) = (order, is_said) {
+    if let (Some(order), false) = (order, left.file_system) {
         return Ok((file_system.unwrap_or(FileSystem::Dos), order));
     }
     best_way(rt, image, file_system, order, container)
@@ -96,18 +107,17 @@ fn way_of_image(
 // that of its container, where a word says so. The bytes of that image are read for it, and kept.
 fn order_of_other(
     rt: &HostRuntime,
-    words: &[String],
-    asked: &Job,
+    left: Option<StandIn>,
+    job: &Job,
     file_system: FileSystem,
     extra: &mut Option<Vec<u8>>,
 ) -> Result<Order, Stop> {
-    let option = AutoOption::OtherOrder;
-    if !asks_auto(words, option) && !asks_container(words, option) {
+    if left.is_none() {
         return Ok(Order::Dos);
     }
-    let mut other = other_bytes(rt, asked)?;
-    let container = said_by(&open_container(rt, words, option, &mut other)?);
-    let order = match order_given(words, option, None, container) {
+    let mut other = other_bytes(rt, job)?;
+    let container = said_by(&open_container(rt, job, left, &mut other)?);
+    let order = match order_given(left, None, container) {
         Some(order) => order,
         None => best_way(rt, &mut other, Some(file_system), None, container)?.1,
     };
@@ -119,12 +129,12 @@ fn order_of_other(
 // where the job does that.
 fn open_image(
     rt: &HostRuntime,
-    words: &[String],
+    left: LeftOpen,
     asked: &Job,
     files: &JobFiles<'_>,
     image: &mut Vec<u8>,
 ) -> Result<Option<OpenContainer>, Stop> {
-    let container = open_container(rt, words, AutoOption::Order, image)?;
+    let container = open_container(rt, asked, left.order, image)?;
     let replaces = files.image_use(false) == ImageUse::Replace;
     match said_by(&container) {
         Some(says) if is_protected(asked, replaces, says) => {
@@ -134,31 +144,33 @@ fn open_image(
     }
 }
 
-// The job of words with the best readings of the images in the place of what stands for them, of
-// the readings that have what the other words give.
+// The job of words with the best readings of the images for what they leave to them, of the readings
+// that have what the words give.
 fn best_job<T: Write>(
     rt: &HostRuntime,
-    words: &[String],
-    asked: &Job,
+    asked: &Asked<'_>,
+    first: &Job,
     inputs: &mut Inputs,
     image: &mut Vec<u8>,
     text: &mut T,
 ) -> Result<Job, Stop> {
+    let left = asked.left_open();
     let container = said_by(&inputs.container);
-    let (file_system, order) = match way_of_image(rt, words, asked, image, container) {
+    let (file_system, order) = match way_of_image(rt, left, first, image, container) {
         Ok(way) => way,
-        Err(stop) => return Err(stop.of_image(asked, Side::First)),
+        Err(stop) => return Err(stop.of_image(first, Side::First)),
     };
-    let other_order = match order_of_other(rt, words, asked, file_system, &mut inputs.extra) {
+    let extra = &mut inputs.extra;
+    let other_order = match order_of_other(rt, left.other_order, first, file_system, extra) {
         Ok(order) => order,
-        Err(stop) => return Err(stop.of_image(asked, Side::Second)),
+        Err(stop) => return Err(stop.of_image(first, Side::Second)),
     };
     let ways = Ways {
         file_system,
         order,
         other_order,
     };
-    job_with(rt, words, ways, text)
+    job_with(rt, asked, ways, text)
 }
 
 // Warns where another way to read the image is better than that of a job that changes a volume.
@@ -191,18 +203,18 @@ fn is_of_containers(job: &Job) -> bool {
 // Why a job of containers is refused that is left open by its words.
 fn refuse_wrapping(
     rt: &HostRuntime,
-    words: &[String],
-    asked: &Job,
+    left: LeftOpen,
+    job: &Job,
     files: &JobFiles<'_>,
     image: &[u8],
 ) -> Result<(), Stop> {
-    if !is_of_containers(asked) {
+    if !is_of_containers(job) {
         return Ok(());
     }
     if files.has_no_free_place(rt) {
         return Err(Stop::Refused(Refusal::Exists));
     }
-    if is_left_open(words) && begins_like_container(image) {
+    if !left.is_none() && begins_like_container(image) {
         return Err(Stop::Refused(Refusal::Length));
     }
     Ok(())
@@ -211,45 +223,46 @@ fn refuse_wrapping(
 // The job of words that leave to the images how they are read; `None` of other words.
 fn job_of_image<T: Write>(
     rt: &HostRuntime,
-    words: &[String],
-    asked: &Job,
+    asked: &Asked<'_>,
+    first: &Job,
     files: &JobFiles<'_>,
     inputs: &mut Inputs,
     image: &mut Vec<u8>,
     text: &mut T,
 ) -> Result<Option<Job>, Stop> {
-    refuse_wrapping(rt, words, asked, files, image.as_slice())?;
-    if !is_left_open(words) {
+    let left = asked.left_open();
+    refuse_wrapping(rt, left, first, files, image.as_slice())?;
+    if left.is_none() {
         return Ok(None);
     }
-    inputs.container = match open_image(rt, words, asked, files, image) {
+    inputs.container = match open_image(rt, left, first, files, image) {
         Ok(container) => container,
-        Err(stop) => return Err(stop.of_image(asked, Side::First)),
+        Err(stop) => return Err(stop.of_image(first, Side::First)),
     };
-    Ok(Some(best_job(rt, words, asked, inputs, image, text)?))
+    Ok(Some(best_job(rt, asked, first, inputs, image, text)?))
 }
 
 /// The job, settled by the image where a word leaves something to that; `None` where the words say
 /// all. The bytes of the image are read for it, and where its answer is to be explained.
 pub fn settled_job<T: Write>(
     rt: &HostRuntime,
-    words: &[String],
-    asked: &Job,
+    asked: &Asked<'_>,
+    first: &Job,
     files: &JobFiles<'_>,
     inputs: &mut Inputs,
     found: &mut Found,
     text: &mut T,
 ) -> Result<Option<Job>, Stop> {
-    if !is_left_open(words) && !found.is_wanted && !is_of_containers(asked) {
+    if asked.left_open().is_none() && !found.is_wanted && !is_of_containers(first) {
         return Ok(None);
     }
     let mut image = match inputs.image.bytes(rt, MOST_BYTES as u32) {
         Ok(image) => image,
-        Err(failure) => return Err(Stop::Failed(failure).of_image(asked, Side::First)),
+        Err(failure) => return Err(Stop::Failed(failure).of_image(first, Side::First)),
     };
     found.bytes = Some(image.len());
     found.foreign = foreign_of(image.as_slice());
-    let settled = match job_of_image(rt, words, asked, files, inputs, &mut image, text) {
+    let settled = match job_of_image(rt, asked, first, files, inputs, &mut image, text) {
         Ok(settled) => settled,
         Err(stop) => {
             note_stop(rt, stop, inputs, image, found);
@@ -261,7 +274,7 @@ pub fn settled_job<T: Write>(
     }
     match &settled {
         Some(job) => note_order(rt, job, &mut image, found),
-        None => note_order(rt, asked, &mut image, found),
+        None => note_order(rt, first, &mut image, found),
     }
     inputs.bytes = Some(image);
     Ok(settled)

@@ -1,6 +1,6 @@
 // The program, stage by stage.
 use crate::adding::add_job;
-use crate::asking::{asked_job, of_prodos};
+use crate::asking::job_with;
 use crate::creating::create_job;
 use crate::doing::{Done, do_job, fault_files, is_content};
 use crate::ending::{Outputs, end, explain_answer};
@@ -10,15 +10,14 @@ use crate::settling::settled_job;
 use crate::stop::Stop;
 use crate::streams::take_closed_streams;
 use crate::surveying::survey_job;
-use crate::words::{VERSION, greet, told_fault, words_of};
+use crate::words::{greet, told_fault, words_of};
 use explanations::Overheard;
 use folder_adding::adds_files;
-use shop_commands::extracts;
+use shop_commands::{extracts, tell_words_fault};
 use shop_files::{Ending, Found, JobFiles};
 use shop_jobs::{Ask, Job};
-use shop_replies::{Failure, Refusal, Reply, written};
-use shop_words::{asks_explain, asks_version, filled_in, without_explain};
-use std::alloc::AllocError;
+use shop_replies::{Failure, Refusal, Reply};
+use shop_words::{Asked, UNSETTLED, WordsFault, asks_explain, read_words};
 use std::io::{BufWriter, Write};
 
 /// Does what the program's words ask for, and answers its status. Standard output is written
@@ -43,53 +42,52 @@ fn run_telling<T: Write>(rt: &HostRuntime, text: &mut T) -> u8 {
         Ok(words) => words,
         Err(error) => return told_fault(&error, text),
     };
-    if asks_version(words.as_slice()) {
-        return written(VERSION, 0, text);
-    }
     greet(rt, words.as_slice());
-    if asks_explain(words.as_slice()) {
-        return run_explained(rt, without_explain(words), text);
+    match read_words(rt.alloc(), words.as_slice()) {
+        Ok(asked) => run_asked(rt, &asked, text),
+        Err(fault) => tell_refused(rt, words.as_slice(), &fault, text),
     }
-    run_words(rt, words, &mut Found::new(), text)
 }
 
-// Does what words ask for, and explains on standard error what was told.
-fn run_explained<T: Write>(rt: &HostRuntime, words: Vec<String>, text: &mut T) -> u8 {
+// Tells why words are no job, and explains it where they ask for that.
+fn tell_refused<T: Write>(
+    rt: &HostRuntime,
+    words: &[String],
+    fault: &WordsFault,
+    text: &mut T,
+) -> u8 {
+    if !asks_explain(words) {
+        return tell_words_fault(fault, text);
+    }
+    let mut text = Overheard::new(rt.alloc(), text);
+    let status = tell_words_fault(fault, &mut text);
     let mut found = Found::new();
     found.is_wanted = true;
-    let mut text = Overheard::new(rt.alloc(), text);
-    let status = run_words(rt, words, &mut found, &mut text);
     explain_answer(rt, &found, &text.told);
     status
 }
 
-// The words with what `--auto` says for those that they leave out, and ProDOS where they name a
-// directory of the volume.
-fn completed_words(rt: &HostRuntime, words: Vec<String>) -> Result<Vec<String>, AllocError> {
-    of_prodos(rt.alloc(), filled_in(rt.alloc(), words)?)
-}
-
-// Does what words ask for, with what `--auto` says for those that they leave out.
-fn run_words<T: Write>(
-    rt: &HostRuntime,
-    words: Vec<String>,
-    found: &mut Found,
-    text: &mut T,
-) -> u8 {
-    match completed_words(rt, words) {
-        Ok(words) => run_filled_in(rt, words.as_slice(), found, text),
-        Err(_) => Reply::failed(Failure::Memory).tell(text),
+// Does what words ask for, and explains on standard error what was told where they ask for that.
+fn run_asked<T: Write>(rt: &HostRuntime, asked: &Asked<'_>, text: &mut T) -> u8 {
+    let mut found = Found::new();
+    if !asked.is_explained() {
+        return run_noting(rt, asked, &mut found, text);
     }
+    found.is_wanted = true;
+    let mut text = Overheard::new(rt.alloc(), text);
+    let status = run_noting(rt, asked, &mut found, &mut text);
+    explain_answer(rt, &found, &text.told);
+    status
 }
 
 // Does what words ask for, and notes what becomes known on the way.
-fn run_filled_in<T: Write>(
+fn run_noting<T: Write>(
     rt: &HostRuntime,
-    words: &[String],
+    asked: &Asked<'_>,
     found: &mut Found,
     text: &mut T,
 ) -> u8 {
-    match run_stages(rt, words, found, text) {
+    match run_stages(rt, asked, found, text) {
         Ok(ending) => {
             found.unwritten = ending.unwritten;
             ending.status
@@ -105,23 +103,23 @@ fn run_filled_in<T: Write>(
 // image how it is read; then it is done. The image is held, with its lock, to the end.
 fn run_stages<T: Write>(
     rt: &HostRuntime,
-    words: &[String],
+    asked: &Asked<'_>,
     found: &mut Found,
     text: &mut T,
 ) -> Result<Ending, Stop> {
-    let asked = asked_job(rt, words, text)?;
-    if let Ask::Survey { form } = &asked.ask {
-        return survey_job(rt, &asked, *form, found.is_wanted, text);
+    let first = job_with(rt, asked, UNSETTLED, text)?;
+    if let Ask::Survey { form } = &first.ask {
+        return survey_job(rt, &first, *form, found.is_wanted, text);
     }
-    if let Ask::Create { options, .. } = &asked.ask {
-        return create_job(rt, &asked, options, found, text);
+    if let Ask::Create { options, .. } = &first.ask {
+        return create_job(rt, &first, options, found, text);
     }
-    let files = files_of(rt, &asked, found)?;
-    let mut inputs = open_inputs(rt, words, &asked, &files, found)?;
-    let settled = settled_job(rt, words, &asked, &files, &mut inputs, found, text)?;
+    let files = files_of(rt, &first, found)?;
+    let mut inputs = open_inputs(rt, asked.left_open(), &first, &files, found)?;
+    let settled = settled_job(rt, asked, &first, &files, &mut inputs, found, text)?;
     let job = match &settled {
         Some(job) => job,
-        None => &asked,
+        None => &first,
     };
     finish_job(rt, job, &files, &mut inputs, found, text)
 }

@@ -2,9 +2,6 @@
 use shop_replies::{Failure, Reply, written};
 use std::io::{self, ErrorKind, IsTerminal, Write};
 
-/// What `--version` tells.
-pub const VERSION: &[u8] = b"a2shop 1.0.0\n";
-
 /// The status of refused words.
 pub const WORDS_REFUSED: u8 = 2;
 

@@ -12,7 +12,7 @@ use Rattle.shop_jobs.specs.Paths.{HasImage, from_of, is_in_place, new_file_of}
 use Rattle.shop_jobs.specs.declared.job.FileSystem.{FileSystem}
 use Rattle.pro_dir.specs.declared.date.ProDate.{ProDate}
 use Rattle.shop_jobs.specs.declared.job.VolumeOptions.{VolumeOptions}
-use Rattle.shop_words.specs.Job.{asked_job}
+use Rattle.shop_words.specs.Asked.{asked_job}
 use Rattle.shop_words.specs.declared.fault.WordsFault.{WordsFault}
 use Rattle.shop_words.specs.declared.fault.WordsFault.TheVariants as words
 use Rattle.shop_replies.specs.declared.refusal.Failure.{Failure}

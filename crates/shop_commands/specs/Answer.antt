@@ -14,7 +14,7 @@ use Rattle.shop_jobs.specs.Paths.{HasImage, from_of, is_in_place, new_file_of}
 use Rattle.shop_jobs.specs.declared.job.FileSystem.{FileSystem}
 use Rattle.shop_jobs.specs.declared.job.FileSystem.TheVariants as systems
 use Rattle.shop_jobs.specs.declared.job.VolumeOptions.{VolumeOptions}
-use Rattle.shop_words.specs.Job.{asked_job, IsTaken}
+use Rattle.shop_words.specs.Asked.{asked_job, IsTaken}
 use Rattle.shop_words.specs.Fault.{IsFaultOf}
 use Rattle.shop_words.specs.declared.fault.WordsFault.{WordsFault}
 use Rattle.shop_words.specs.declared.fault.WordsFault.TheVariants as words

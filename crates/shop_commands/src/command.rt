@@ -1,7 +1,7 @@
 // Commands, from words to the text.
 ghost use Rattle.std.specs.Prelude.{◌≡◌, ◌≢◌, ◌⊎◌, IfErr, IfOk, IfSome, OnOk, Some, map, string_bytes};
 ghost use Rattle.shop_jobs.specs.Job.{job_view};
-ghost use Rattle.shop_words.specs.Job.{asked_job};
+ghost use Rattle.shop_words.specs.Asked.{asked_job};
 ghost use Rattle.shop_words.specs.Plain.{IsPlain};
 ghost use Rattle.shop_commands.specs.Answer.{
   CommandHandsOut,

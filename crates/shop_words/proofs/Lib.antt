@@ -1,42 +1,29 @@
-pub mod TableLemmas
-pub mod Numbers
-pub mod PlainWalk
-pub mod PlainUses
-pub mod PlainLine
-pub mod PlainGiven
-pub mod PlainNames
-pub mod PlainForms
-pub mod PlainTaken
-pub mod PlainValues
-pub mod PlainUsed
-pub mod PlainJobs
-pub mod PlainTarget
-pub mod PlainStored
-pub mod HexWords
-pub mod CatalogLine
-pub mod ListLine
-pub mod CompareLine
-pub mod MapLine
-pub mod CheckLine
-pub mod ReadLine
-pub mod ExtractLine
-pub mod ConvertLine
-pub mod PlainTable
-pub mod AskedLemmas
-pub mod FaultLemmas
-pub mod PlanLine
-pub mod OptimizeLine
-pub mod EditLines
-pub mod SaveLine
-pub mod VerifyLine
-pub mod IdentifyLine
-pub mod WrapLine
-pub mod UnwrapLine
-pub mod SurveyLine
-pub mod CreateLine
-pub mod ReclaimLine
-pub mod AddLine
-pub mod MkdirLine
-pub mod Walk
-pub mod Left
-pub mod LeftOutLemmas
+mod TableLemmas
+mod Shop
+mod Meant
+mod FaultLemmas
+mod Refusals
+mod Numbers
+mod HexWords
+mod PlainWalk
+mod PlainUses
+mod PlainLine
+mod PlainGiven
+mod PlainNames
+mod PlainValues
+mod PlainUsed
+mod PlainStored
+mod PlainTarget
+mod PlainForms
+mod RuleTests
+mod KnownForms
+mod PlainTaken
+mod PlainJobs
+mod PlainWays
+mod PlainSaid
+mod PlainLooking
+mod PlainChanging
+mod PlainSaving
+mod PlainMaking
+mod PlainTable
+mod AskedLemmas

@@ -9,20 +9,16 @@ use Rattle.std.specs.Str.{bytes_eq}
 use Rattle.std.specs.List.{IsDistinct, list_any, list_all}
 use Rattle.clap.specs.Lexer.{usize_max}
 use Rattle.clap.specs.Walk.{Names, Row, Rule, Text, Walk, answers_to, arg_by_id, arg_by_index, has_row, nothing_held, walk_from, walked, with_default}
-use Rattle.clap.specs.Simple.{App, Shape, built, label_of, names_of, new_shape}
+use Rattle.clap.specs.Simple.{Shape, built, label_of, names_of, new_shape}
 use Rattle.clap.specs.Takes.{default_passes, is_valid, level_passes, turn_passes, is_given}
-use Rattle.shop_words.specs.Table.{KindView, positional, needed, optional, flag, parameter, ParameterView, FormView, forms}
-use Rattle.shop_words.specs.Grammar.{program_over, leaf_of}
+use Rattle.shop_words.specs.Table.{KindView, positional, needed, way, optional, flag, parameter, ParameterView, FormView}
 use Rattle.shop_words.specs.Plain.{Use, alone, valued, use_name, all_use_words, is_plain_word, is_positional, is_needed, IsPlainLine, IsUseOf, TakesValue, positional_names}
+use Rattle.shop_words.proofs.Shop.{whole}
 use Rattle.shop_words.proofs.PlainWalk.{HasOption, HasFlag, positional_built}
 use Rattle.shop_words.proofs.PlainUses.{FitsUse, FitUses, Walks, text_row, use_row, use_rows}
 use Rattle.shop_words.proofs.PlainLine.{FitPositionals, positional_rows, walks_line, level_passes-line}
 use Rattle.shop_words.proofs.PlainGiven.{is_given-finished, all_given, all_given-append, all_given-uses, all_given-positionals, has_row-append}
 use Rattle.shop_words.proofs.PlainNames.{has_row-ids, has_row-positional_rows, has_row-use_rows, id-use_row, ids-positional_rows, none_before}
-
--- the whole program, which computes
-abbrev pub whole : App
-whole = program_over (map leaf_of forms)
 
 -- the built command of a name
 abbrev pub shape_named : Text → Shape
@@ -41,6 +37,7 @@ stopped_at name words = record (walk_from nothing_held) { stopped = Some (name, 
 abbrev pub KnowsKind : Shape → KindView → Text → Type 0
 KnowsKind s positional name = Unit {0}
 KnowsKind s (needed values) name = HasOption s.rules true name
+KnowsKind s (way values) name = HasOption s.rules false name
 KnowsKind s (optional values) name = HasOption s.rules false name
 KnowsKind s flag name = HasFlag s.rules name
 
@@ -61,7 +58,7 @@ KnowsPositionals s i met [] = Unit {0}
 KnowsPositionals s i met (n ∷ ns) = (arg_by_index s.rules i ≡ Some (positional_built i n)) × (arg_by_id s.rules n ≡ Some (positional_built i n))
     × (list_any (λ m. bytes_eq m n) met ≡ false) × KnowsPositionals s (min (i + 1) usize_max) (met ++ n ∷ []) ns
 
-abbrev is_omittable : KindView → Bool
+abbrev pub is_omittable : KindView → Bool
 is_omittable positional = false
 is_omittable (needed values) = false
 is_omittable _ = true
@@ -109,6 +106,7 @@ flag_known s ps name know at = subst (Knows s) at.2 (all_known s ps know at.0 (p
 option_of_kind : (s : Shape) (k : KindView) (name value : Text) → KnowsKind s k name → TakesValue k value → (required : Bool) × HasOption s.rules required name
 option_of_kind s positional name value know takes = absurd takes
 option_of_kind s (needed values) name value know takes = (true, know)
+option_of_kind s (way values) name value know takes = (false, know)
 option_of_kind s (optional values) name value know takes = (false, know)
 option_of_kind s flag name value know takes = absurd takes
 
@@ -126,6 +124,7 @@ fit_use s ps rows (valued name value) know fits new = (option_known s ps name va
 takes-not_positional : (k : KindView) (value : Text) (b : Bool) → TakesValue k value → (is_positional k || b) ≡ true → b ≡ true
 takes-not_positional positional value b takes e = absurd takes
 takes-not_positional (needed values) value b takes e = e
+takes-not_positional (way values) value b takes e = e
 takes-not_positional (optional values) value b takes e = e
 takes-not_positional flag value b takes e = e
 
@@ -172,6 +171,7 @@ complete_line (p ∷ ps) names uses rows c named used in_positionals in_uses giv
           → (is_needed k ≡ true → Contains (map use_name uses) p.name) → (is_omittable k || is_given p.name (fold with_default rows c)) ≡ true
       one positional a b = is_given-finished p.name rows c (in_positionals p.name a) given
       one (needed values) a b = is_given-finished p.name rows c (in_uses p.name (b refl)) given
+      one (way values) a b = refl
       one (optional values) a b = refl
       one flag a b = refl
 

@@ -5,8 +5,9 @@ use Rattle.shop_jobs.specs.Job.{ByStored}
 use Rattle.shop_words.specs.Table.{Text}
 use Rattle.shop_words.specs.Hexadecimal.{bytes_named}
 use Rattle.shop_words.specs.Plain.{Use, use_name, value_of}
-use Rattle.shop_words.specs.Job.{Said, file_named, is_on, name_by}
-use Rattle.shop_words.proofs.PlainJobs.{mapped_there}
+use Rattle.shop_words.specs.Job.{file_named, name_by}
+use Rattle.shop_words.specs.Ways.{Said, is_on}
+use Rattle.shop_words.proofs.PlainSaid.{mapped_there}
 use Rattle.shop_words.proofs.PlainUsed.{use_said}
 
 -- a word names a file, where it writes bytes if a flag says so

@@ -2,24 +2,20 @@
 use Rattle.std.proofs.Common.{◌≡◌, ◌∙◌, sym, ap, refl, true, List, [], ◌∷◌, ◌++◌, Some, fold, append_assoc, option_map}
 use Rattle.std.proofs.lemmas.Bool.{and_from}
 use Rattle.std.proofs.lemmas.List.{append-nil}
-use Rattle.clap.specs.Walk.{Names, Row, Rule, Text, Walk, nothing_held, stop_after, walk_from, walked, with_default}
-use Rattle.clap.specs.Simple.{Shape, built, entered, is_simple, rows_at, subcommand_of}
-use Rattle.clap.specs.Faults.{is_simple_and_free}
+use Rattle.clap.specs.Walk.{Names, Row, Rule, Text, Walk, finished, nothing_held, stop_after, walk_from, walked, with_default}
+use Rattle.clap.specs.Simple.{Shape, built, entered, is_simple, matches_of, rows_at, subcommand_of}
 use Rattle.clap.specs.Takes.{takes, walk_passes}
-use Rattle.clap.proofs.OnLiterals.{clap_on_literals}
+use Rattle.shop_words.specs.Grammar.{shop}
 use Rattle.shop_words.specs.Table.{FormView}
 use Rattle.shop_words.specs.Plain.{Use, all_use_words, IsPlainLine, line_words, positional_names}
 use Rattle.shop_words.proofs.PlainUses.{use_rows}
 use Rattle.shop_words.proofs.PlainLine.{positional_rows, rows_after-line}
-use Rattle.shop_words.proofs.PlainForms.{IsKnown, line_passes, line_walks, shape_named, stopped_at, top_names, top_rules, whole}
+use Rattle.shop_words.proofs.PlainForms.{IsKnown, line_passes, line_walks, shape_named, stopped_at, top_names, top_rules}
+use Rattle.shop_words.proofs.Shop.{is_simple-shop, whole}
 
-pub is_simple-whole : is_simple whole ≡ true
-unfolding clap_on_literals
-is_simple-whole = refl
-
-pub is_simple_and_free-whole : is_simple_and_free whole ≡ true
-unfolding clap_on_literals
-is_simple_and_free-whole = refl
+is_simple-whole : is_simple whole ≡ true
+unfolding shop
+is_simple-whole = is_simple-shop
 
 -- the words after the command's name wait for the command
 walked-stopped : (c : List Rule) (names : Names) (name : Text) (so_far words : List Text)
@@ -67,3 +63,12 @@ subcommand_of-line f positionals uses known plain =
     let rows = rows_after-line s words (positional_rows (positional_names f) positionals ++ use_rows uses) (line_walks f s positionals uses known plain) in
     let stop : stop_after top_rules top_names (f.name ∷ words) ≡ Some (f.name, words) = ap (λ (w : Walk). w.stopped) (walked-line f s words known) in
     ap (entered (built whole)) stop ∙ ap (option_map (λ (x : Shape). rows_at x words)) known.named ∙ ap (λ (r : List Row). Some (s.name, r)) rows
+
+-- the rows of the program itself before a command's name
+abbrev pub top_rows : List Row
+top_rows = finished top_rules nothing_held
+
+pub matches_of-line : (f : FormView) (positionals : List Text) (uses : List Use) → IsKnown f (shape_named f.name)
+    → matches_of whole (line_words f positionals uses) ≡ top_rows
+matches_of-line f positionals uses known =
+    ap (λ (w : Walk). finished top_rules w.held) (walked-line f (shape_named f.name) (positionals ++ all_use_words uses) known)

@@ -3,7 +3,8 @@ use Rattle.std.proofs.Common.{◌≡◌, ◌∙◌, ap, inl, inr, refl, true, Li
 use Rattle.std.specs.List.{list_all}
 use Rattle.shop_words.specs.Table.{Text, FormView, in_place}
 use Rattle.shop_words.specs.Plain.{Use, IsPlainLine, value_of}
-use Rattle.shop_words.specs.Job.{Said, is_on, target_by}
+use Rattle.shop_words.specs.Job.{target_by}
+use Rattle.shop_words.specs.Ways.{Said, is_on}
 use Rattle.shop_words.proofs.PlainUsed.{flag_says, is_flag, named_only, nothing_said, value_said}
 
 -- the command has the flag, and nothing else of its name

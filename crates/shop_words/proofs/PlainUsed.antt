@@ -4,11 +4,11 @@ use Rattle.std.proofs.lemmas.Bool.{and_parts}
 use Rattle.std.proofs.lemmas.List.Elements.{All-contains, All-head, All-tail}
 use Rattle.std.proofs.lemmas.List.Sums.{AllPass-from_list_all}
 use Rattle.std.proofs.lemmas.Slice.Eq.{bytes_eq-Decides}
-use Rattle.std.specs.List.{list_all}
+use Rattle.std.specs.List.{list_all, list_any}
 use Rattle.std.specs.Str.{bytes_eq}
-use Rattle.shop_words.specs.Table.{Text, address, any, between, one_of, number, short, KindView, positional, needed, optional, flag, parameter, ParameterView, FormView}
-use Rattle.shop_words.specs.Plain.{Use, address_named, alone, valued, use_name, is_between, is_needed, is_number, is_short, IsPlainLine, IsUseOf, TakesValue, use_value, value_of}
-use Rattle.shop_words.specs.Job.{is_on}
+use Rattle.shop_words.specs.Table.{Text, ValuesView, address, between, one_of, number, short, KindView, positional, needed, way, optional, flag, parameter, ParameterView}
+use Rattle.shop_words.specs.Plain.{Use, address_named, alone, valued, use_name, is_between, is_needed, is_number, is_short, IsOfValues, IsUseOf, TakesValue, use_value, value_of}
+use Rattle.shop_words.specs.Ways.{is_on}
 
 -- a test of an option's kind
 abbrev pub KindTest : Type 0
@@ -18,31 +18,51 @@ KindTest = KindView → Bool
 abbrev pub Ensures : KindTest → (Text → Bool) → Type 0
 Ensures only test = (k : KindView) (value : Text) → only k ≡ true → TakesValue k value → test value ≡ true
 
+-- a test of the values that an option takes
+abbrev pub ValuesTest : Type 0
+ValuesTest = ValuesView → Bool
+
+abbrev pub option_test : ValuesTest → KindTest
+option_test only (needed values) = only values
+option_test only (way values) = only values
+option_test only (optional values) = only values
+option_test only _ = false
+
+abbrev words_only : (Text → Bool) → ValuesTest
+words_only test (one_of words) = list_all test words
+words_only test _ = false
+
+abbrev number_only : ℕ → ValuesTest
+number_only greatest (number n) = n == greatest
+number_only greatest _ = false
+
+abbrev between_only : ℕ → ℕ → ValuesTest
+between_only least greatest (between n m) = n == least && m == greatest
+between_only least greatest _ = false
+
+abbrev address_only : ValuesTest
+address_only address = true
+address_only _ = false
+
+abbrev short_only : ℕ → ValuesTest
+short_only most (short n) = n == most
+short_only most _ = false
+
 -- the option takes some of these words, or a number up to the greatest
 abbrev pub takes_words : (Text → Bool) → KindTest
-takes_words test (needed (one_of words)) = list_all test words
-takes_words test (optional (one_of words)) = list_all test words
-takes_words test _ = false
+takes_words test = option_test (words_only test)
 
 abbrev pub takes_number : ℕ → KindTest
-takes_number greatest (needed (number n)) = n == greatest
-takes_number greatest (optional (number n)) = n == greatest
-takes_number greatest _ = false
+takes_number greatest = option_test (number_only greatest)
 
 abbrev pub takes_between : ℕ → ℕ → KindTest
-takes_between least greatest (needed (between n m)) = n == least && m == greatest
-takes_between least greatest (optional (between n m)) = n == least && m == greatest
-takes_between least greatest _ = false
+takes_between least greatest = option_test (between_only least greatest)
 
 abbrev pub takes_address : KindTest
-takes_address (needed address) = true
-takes_address (optional address) = true
-takes_address _ = false
+takes_address = option_test address_only
 
 abbrev pub takes_short : ℕ → KindTest
-takes_short most (needed (short n)) = n == most
-takes_short most (optional (short n)) = n == most
-takes_short most _ = false
+takes_short most = option_test (short_only most)
 
 -- what has the name is an option whose kind passes the test
 abbrev pub named_only : Text → KindTest → ParameterView → Bool
@@ -52,97 +72,52 @@ named_only name only p = not (bytes_eq p.name name) || only p.kind
 abbrev UsePasses : (Text → Bool) → Use → Type 0
 UsePasses test u = test (use_value u) ≡ true
 
+option_ensures : (only : ValuesTest) (test : Text → Bool)
+    → ((values : ValuesView) (value : Text) → only values ≡ true → IsOfValues values value → test value ≡ true)
+    → Ensures (option_test only) test
+option_ensures only test each positional value passes takes = absurd takes
+option_ensures only test each (needed values) value passes takes = each values value passes takes
+option_ensures only test each (way values) value passes takes = each values value passes takes
+option_ensures only test each (optional values) value passes takes = each values value passes takes
+option_ensures only test each flag value passes takes = absurd takes
+
 pub words_ensure : (test : Text → Bool) → Ensures (takes_words test) test
-words_ensure test positional value only takes = absurd takes
-words_ensure test (needed any) value only takes = cc
-words_ensure test (needed (one_of words)) value only takes =
-    All-contains (λ w. test w ≡ true) words value (AllPass-from_list_all test words only) takes
-words_ensure test (needed (number n)) value only takes = cc
-words_ensure test (needed (between least greatest)) value only takes = cc
-words_ensure test (needed address) value only takes = cc
-words_ensure test (needed (short m)) value only takes = cc
-words_ensure test (optional any) value only takes = cc
-words_ensure test (optional (one_of words)) value only takes =
-    All-contains (λ w. test w ≡ true) words value (AllPass-from_list_all test words only) takes
-words_ensure test (optional (number n)) value only takes = cc
-words_ensure test (optional (between least greatest)) value only takes = cc
-words_ensure test (optional address) value only takes = cc
-words_ensure test (optional (short m)) value only takes = cc
-words_ensure test flag value only takes = absurd takes
+words_ensure test = option_ensures (words_only test) test each where
+  each : (values : ValuesView) (value : Text) → words_only test values ≡ true → IsOfValues values value → test value ≡ true
+  each (one_of words) value passes takes =
+      All-contains (λ w. test w ≡ true) words value (AllPass-from_list_all test words passes) takes
+  each _ value passes takes = cc
 
 pub number_ensures : (greatest : ℕ) → Ensures (takes_number greatest) (is_number greatest)
-number_ensures greatest positional value only takes = absurd takes
-number_ensures greatest (needed any) value only takes = cc
-number_ensures greatest (needed (one_of words)) value only takes = cc
-number_ensures greatest (needed (number n)) value only takes = subst (λ m. is_number m value ≡ true) (eqb-true n greatest only) takes
-number_ensures greatest (needed (between least greatest')) value only takes = cc
-number_ensures greatest (needed address) value only takes = cc
-number_ensures greatest (needed (short m)) value only takes = cc
-number_ensures greatest (optional any) value only takes = cc
-number_ensures greatest (optional (one_of words)) value only takes = cc
-number_ensures greatest (optional (number n)) value only takes = subst (λ m. is_number m value ≡ true) (eqb-true n greatest only) takes
-number_ensures greatest (optional (between least greatest')) value only takes = cc
-number_ensures greatest (optional address) value only takes = cc
-number_ensures greatest (optional (short m)) value only takes = cc
-number_ensures greatest flag value only takes = absurd takes
-
-between_ensure : (least greatest n m : ℕ) (value : Text) → (n == least && m == greatest) ≡ true → is_between n m value ≡ true
-    → is_between least greatest value ≡ true
-between_ensure least greatest n m value only takes =
-    let same = and_parts (n == least) (m == greatest) only in
-    subst (λ k. is_between k greatest value ≡ true) (eqb-true n least same.0)
-    (subst (λ k. is_between n k value ≡ true) (eqb-true m greatest same.1) takes)
+number_ensures greatest = option_ensures (number_only greatest) (is_number greatest) each where
+  each : (values : ValuesView) (value : Text) → number_only greatest values ≡ true → IsOfValues values value → is_number greatest value ≡ true
+  each (number n) value passes takes = subst (λ m. is_number m value ≡ true) (eqb-true n greatest passes) takes
+  each _ value passes takes = cc
 
 pub between_ensures : (least greatest : ℕ) → Ensures (takes_between least greatest) (is_between least greatest)
-between_ensures least greatest positional value only takes = absurd takes
-between_ensures least greatest (needed any) value only takes = cc
-between_ensures least greatest (needed (one_of words)) value only takes = cc
-between_ensures least greatest (needed (number n)) value only takes = cc
-between_ensures least greatest (needed (between n m)) value only takes = between_ensure least greatest n m value only takes
-between_ensures least greatest (needed address) value only takes = cc
-between_ensures least greatest (needed (short m)) value only takes = cc
-between_ensures least greatest (optional any) value only takes = cc
-between_ensures least greatest (optional (one_of words)) value only takes = cc
-between_ensures least greatest (optional (number n)) value only takes = cc
-between_ensures least greatest (optional (between n m)) value only takes = between_ensure least greatest n m value only takes
-between_ensures least greatest (optional address) value only takes = cc
-between_ensures least greatest (optional (short m)) value only takes = cc
-between_ensures least greatest flag value only takes = absurd takes
+between_ensures least greatest = option_ensures (between_only least greatest) (is_between least greatest) each where
+  each : (values : ValuesView) (value : Text) → between_only least greatest values ≡ true → IsOfValues values value
+      → is_between least greatest value ≡ true
+  each (between n m) value passes takes =
+      let same = and_parts (n == least) (m == greatest) passes in
+      subst (λ k. is_between k greatest value ≡ true) (eqb-true n least same.0)
+      (subst (λ k. is_between n k value ≡ true) (eqb-true m greatest same.1) takes)
+  each _ value passes takes = cc
 
 abbrev pub names_address : Text → Bool
 names_address word = is_some (address_named word)
 
 pub address_ensures : Ensures takes_address names_address
-address_ensures positional value only takes = absurd takes
-address_ensures (needed any) value only takes = cc
-address_ensures (needed (one_of words)) value only takes = cc
-address_ensures (needed (number n)) value only takes = cc
-address_ensures (needed (between least greatest)) value only takes = cc
-address_ensures (needed address) value only takes = takes
-address_ensures (needed (short m)) value only takes = cc
-address_ensures (optional any) value only takes = cc
-address_ensures (optional (one_of words)) value only takes = cc
-address_ensures (optional (number n)) value only takes = cc
-address_ensures (optional (between least greatest)) value only takes = cc
-address_ensures (optional address) value only takes = takes
-address_ensures (optional (short m)) value only takes = cc
-address_ensures flag value only takes = absurd takes
+address_ensures = option_ensures address_only names_address each where
+  each : (values : ValuesView) (value : Text) → address_only values ≡ true → IsOfValues values value → names_address value ≡ true
+  each address value passes takes = takes
+  each _ value passes takes = cc
 
 pub short_ensures : (most : ℕ) → Ensures (takes_short most) (is_short most)
-short_ensures most positional value only takes = absurd takes
-short_ensures most (needed any) value only takes = cc
-short_ensures most (needed (one_of words)) value only takes = cc
-short_ensures most (needed (number n)) value only takes = cc
-short_ensures most (needed (between least greatest)) value only takes = cc
-short_ensures most (needed address) value only takes = cc
-short_ensures most (needed (short m)) value only takes = subst (λ n. is_short n value ≡ true) (eqb-true m most only) takes
-short_ensures most (optional any) value only takes = cc
-short_ensures most (optional (one_of words)) value only takes = cc
-short_ensures most (optional (number n)) value only takes = cc
-short_ensures most (optional (between least greatest)) value only takes = cc
-short_ensures most (optional address) value only takes = cc
-short_ensures most (optional (short m)) value only takes = subst (λ n. is_short n value ≡ true) (eqb-true m most only) takes
-short_ensures most flag value only takes = absurd takes
+short_ensures most = option_ensures (short_only most) (is_short most) each where
+  each : (values : ValuesView) (value : Text) → short_only most values ≡ true → IsOfValues values value → is_short most value ≡ true
+  each (short m) value passes takes = subst (λ n. is_short n value ≡ true) (eqb-true m most passes) takes
+  each _ value passes takes = cc
 
 where_named : (b c : Bool) → (not b || c) ≡ true → b ≡ true → c ≡ true
 where_named true c passes is = passes
@@ -154,10 +129,8 @@ is_flag flag = true
 is_flag _ = false
 
 flags_ensure : (test : Text → Bool) → Ensures is_flag test
-flags_ensure test positional value only takes = cc
-flags_ensure test (needed values) value only takes = cc
-flags_ensure test (optional values) value only takes = cc
 flags_ensure test flag value only takes = absurd takes
+flags_ensure test _ value only takes = cc
 
 -- what a flag says passes the test, where a flag does
 abbrev PassesFlag : KindTest → (Text → Bool) → Type 0
@@ -243,14 +216,21 @@ use_said name (u ∷ us) on = by_test (bytes_eq (use_name u) name) refl (use_sai
 
 -- ---- the options of a form
 
--- the form has the parameter, which is needed
-pub record HasNeeded (f : FormView) (p : ParameterView) : Type 0 where
-  pub at : Contains f.parameters p
-  pub is : is_needed p.kind ≡ true
+-- a plain list says it
+abbrev pub is_needed_name : Text → ParameterView → Bool
+is_needed_name name p = is_needed p.kind && bytes_eq p.name name
 
--- a plain list says something of it
-pub needed_said : (f : FormView) (positionals : List Text) (uses : List Use) (p : ParameterView) → HasNeeded f p → IsPlainLine f positionals uses
-    → (v : Text) × (value_of p.name uses ≡ Some v)
-needed_said f positionals uses p has plain =
+pub needed_said : (ps : List ParameterView) (name : Text) (uses : List Use) → list_any (is_needed_name name) ps ≡ true
+    → All (λ p. is_needed p.kind ≡ true → Contains (map use_name uses) p.name) ps → (v : Text) × (value_of name uses ≡ Some v)
+needed_said [] name uses e complete = cc
+needed_said (p ∷ ps) name uses e complete =
     let Used : ParameterView → Type 0 = λ q. is_needed q.kind ≡ true → Contains (map use_name uses) q.name in
-    value_said p.name uses (All-contains Used f.parameters p plain.complete has.at has.is)
+    by_test (is_needed p.kind) (bytes_eq p.name name) refl (All-head Used p ps complete)
+    (λ later. needed_said ps name uses later (All-tail Used p ps complete)) e where
+      by_test : (needs same : Bool) → bytes_eq p.name name ≡ same → (needs ≡ true → Contains (map use_name uses) p.name)
+          → (list_any (is_needed_name name) ps ≡ true → (v : Text) × (value_of name uses ≡ Some v))
+          → ((needs && same) || list_any (is_needed_name name) ps) ≡ true → (v : Text) × (value_of name uses ≡ Some v)
+      by_test true true is used later at =
+          subst (λ (n : Text). (v : Text) × (value_of n uses ≡ Some v)) ((bytes_eq-Decides p.name name).0 is) (value_said p.name uses (used refl))
+      by_test true false is used later at = later at
+      by_test false same is used later at = later at

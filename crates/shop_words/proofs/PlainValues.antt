@@ -1,5 +1,5 @@
 -- What the rows of a plain list say of a name.
-use Rattle.std.proofs.Common.{◌≡◌, ◌∙◌, ap, refl, Bool, true, false, List, [], ◌∷◌, ◌++◌, Option, Some, None, cond, ◌||◌, fold, not, find, option_map, option_and_then, slice_get, is_some, if◌then◌else◌}
+use Rattle.std.proofs.Common.{◌≡◌, ◌∙◌, sym, ap, refl, Bool, true, false, List, [], ◌∷◌, ◌++◌, Option, Some, None, cond, ◌||◌, fold, not, find, option_map, option_and_then, slice_get, is_some, if◌then◌else◌}
 use Rattle.std.proofs.lemmas.Bool.{and_parts, not-true}
 use Rattle.std.specs.Str.{bytes_eq}
 use Rattle.std.specs.List.{list_all}
@@ -9,7 +9,7 @@ use Rattle.shop_words.specs.Plain.{Use, alone, valued, use_name, use_value, valu
 use Rattle.shop_words.proofs.PlainUses.{use_row, use_rows, text_row, at_row-missing}
 use Rattle.shop_words.proofs.PlainGiven.{find_some-append, defaults_add}
 use Rattle.shop_words.proofs.PlainLine.{positional_rows}
-use Rattle.shop_words.specs.Job.{is_on, positional_said}
+use Rattle.shop_words.specs.Job.{positional_said}
 
 -- the rows say v of the name, and the defaults leave it
 pub record Says (id : Text) (rows : List Row) (v : Text) : Type 0 where
@@ -139,12 +139,12 @@ option_same names positionals uses c id off = by_value (positional_said names po
   by_value (Some v) e = first_of-says id _ v (says-finished id _ v c (says-line names positionals uses id v e))
   by_value None e = is_none _ (off-finished is_some refl id _ c off (ap is_some (none-line names positionals uses id e)))
 
--- a flag is on where the line has it
-pub flag_same : (names positionals : List Text) (uses : List Use) (c : List Rule) (id : Text) → list_all (leaves_off is_on id) c ≡ true
-    → is_on (first_of id (fold with_default (positional_rows names positionals ++ use_rows uses) c))
-    ≡ is_on (positional_said names positionals (λ x. value_of x uses) id)
-flag_same names positionals uses c id off = by_value (positional_said names positionals (λ x. value_of x uses) id) refl where
+-- a test says the same of both
+pub test_same : (q : Test) → q None ≡ false → (names positionals : List Text) (uses : List Use) (c : List Rule) (id : Text)
+    → list_all (leaves_off q id) c ≡ true
+    → q (first_of id (fold with_default (positional_rows names positionals ++ use_rows uses) c)) ≡ q (positional_said names positionals (λ x. value_of x uses) id)
+test_same q none names positionals uses c id off = by_value (positional_said names positionals (λ x. value_of x uses) id) refl where
   by_value : (o : Option Text) → positional_said names positionals (λ x. value_of x uses) id ≡ o
-      → is_on (first_of id (fold with_default (positional_rows names positionals ++ use_rows uses) c)) ≡ is_on o
-  by_value (Some v) e = ap is_on (first_of-says id _ v (says-finished id _ v c (says-line names positionals uses id v e)))
-  by_value None e = off-finished is_on refl id _ c off (ap is_on (none-line names positionals uses id e))
+      → q (first_of id (fold with_default (positional_rows names positionals ++ use_rows uses) c)) ≡ q o
+  by_value (Some v) e = ap q (first_of-says id _ v (says-finished id _ v c (says-line names positionals uses id v e)))
+  by_value None e = off-finished q none id _ c off (ap q (none-line names positionals uses id e) ∙ none) ∙ sym none

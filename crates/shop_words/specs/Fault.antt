@@ -1,12 +1,13 @@
 -- Why words are no job.
-use Rattle.std.specs.Prelude.{◌≡◌, ◌≢◌, ◌⊎◌, List, [], None}
+use Rattle.std.specs.Prelude.{◌≡◌, ◌≢◌, ◌⊎◌, List, [], Option, None}
 use Rattle.clap.specs.Faults.{fault_of}
 use Rattle.clap.specs.Kinds.{IsAmong, Kinds}
-use Rattle.clap.specs.Simple.{subcommand_of}
 use Rattle.clap.specs.declared.error.kind.ErrorKind.{ErrorKind}
-use Rattle.clap.specs.declared.error.kind.ErrorKind.TheVariants.{DisplayHelp, OutOfMemory}
+use Rattle.clap.specs.declared.error.kind.ErrorKind.TheVariants.{DisplayHelp, DisplayVersion, OutOfMemory}
+use Rattle.shop_jobs.specs.Job.{JobView}
+use Rattle.shop_words.specs.Asked.{asked_job, asked_list}
 use Rattle.shop_words.specs.Grammar.{shop}
-use Rattle.shop_words.specs.Job.{found_job, meant_words}
+use Rattle.shop_words.specs.Job.{meant_words}
 use Rattle.shop_words.specs.Table.{Text}
 use Rattle.shop_words.specs.declared.fault.WordsFault.{WordsFault}
 use Rattle.shop_words.specs.declared.fault.WordsFault.TheVariants as faults
@@ -16,27 +17,54 @@ use Rattle.shop_words.specs.declared.fault.WordsFault.TheVariants as faults
 unfoldable pub ends_of : List Text → Kinds
 ends_of words = fault_of shop words
 
--- they ask for help, as by `--help`, `-h` or `help`
+-- help or the version is what is asked for, as by `--help`, `-h`, `help`, `--version` or `-V`
+abbrev pub IsAsked : ErrorKind → Type 0
+IsAsked kind = (kind ≡ DisplayHelp) ⊎ (kind ≡ DisplayVersion)
+
+-- the words may ask for it
 abbrev pub MayAskHelp : List Text → Type 0
-MayAskHelp words = IsAmong DisplayHelp (ends_of words)
+MayAskHelp words = IsAmong DisplayHelp (ends_of words) ⊎ IsAmong DisplayVersion (ends_of words)
 
--- something else is wrong with them, or clap takes them and an option does not take its value
+-- something else is wrong with them
+abbrev pub AreRefused : List Text → Type 0
+AreRefused words = (kind : ErrorKind) × (¬ IsAsked kind) × IsAmong kind (ends_of words)
+
+-- or clap takes them, and they have no job: an option does not take its value, or the words do not go together
 abbrev pub AreMistaken : List Text → Type 0
-AreMistaken words = ((kind : ErrorKind) × (kind ≢ DisplayHelp) × IsAmong kind (ends_of words))
-    ⊎ ((ends_of words ≡ []) × (found_job (subcommand_of shop words) ≡ None))
+AreMistaken words = AreRefused (meant_words words)
+    ⊎ ((ends_of (meant_words words) ≡ []) × (asked_job words ≡ None))
 
--- help is told of words that may ask for it, and a refusal of words that are mistaken
+-- or clap takes them, and they are those of no command
+abbrev pub AreStray : List Text → Type 0
+AreStray words = AreRefused (meant_words words)
+    ⊎ ((ends_of (meant_words words) ≡ []) × (asked_list words ≡ None))
+
+-- help is told of words that may ask for it, and a refusal of words that are refused
 abbrev pub IsFaultIn : List Text → WordsFault → Type 0
-IsFaultIn words (faults.Help text) = MayAskHelp words
-IsFaultIn words (faults.Refused text) = AreMistaken words
+IsFaultIn words (faults.Help text) = MayAskHelp (meant_words words)
+IsFaultIn words (faults.Refused text) = AreStray words
 IsFaultIn words faults.Memory = Unit {0}
 
--- the same of all words: no words stand for others, and are never at fault
+-- the same where a job is asked for: a refusal of words that are mistaken
 abbrev pub IsFaultOf : List Text → WordsFault → Type 0
-IsFaultOf words fault = IsFaultIn (meant_words words) fault
+IsFaultOf words (faults.Help text) = MayAskHelp (meant_words words)
+IsFaultOf words (faults.Refused text) = AreMistaken words
+IsFaultOf words faults.Memory = Unit {0}
 
 -- what is told of words that clap refuses in this way
 abbrev pub IsFaultBy : ErrorKind → WordsFault → Type 0
-IsFaultBy kind (faults.Help text) = kind ≡ DisplayHelp
-IsFaultBy kind (faults.Refused text) = (kind ≢ DisplayHelp) × (kind ≢ OutOfMemory)
+IsFaultBy kind (faults.Help text) = IsAsked kind
+IsFaultBy kind (faults.Refused text) = (¬ IsAsked kind) × (kind ≢ OutOfMemory)
 IsFaultBy kind faults.Memory = Unit {0}
+
+-- why words of a command have no job: what is wrong with them, or want of memory
+abbrev pub IsMisfitFault : Option JobView → WordsFault → Type 0
+IsMisfitFault job (faults.Help text) = ⊥
+IsMisfitFault job (faults.Refused text) = job ≡ None
+IsMisfitFault job faults.Memory = Unit {0}
+
+-- a refusal, or want of memory
+abbrev pub IsRefused : WordsFault → Type 0
+IsRefused (faults.Help text) = ⊥
+IsRefused (faults.Refused text) = Unit {0}
+IsRefused faults.Memory = Unit {0}

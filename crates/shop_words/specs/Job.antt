@@ -1,37 +1,17 @@
 -- What the words ask for.
-use Rattle.std.specs.Prelude.{
-  ◌≡◌,
-  ℕ,
-  Bool,
-  true,
-  false,
-  ◌==◌,
-  ◌&&◌,
-  ◌||◌,
-  not,
-  IsSome,
-  List,
-  [],
-  ◌∷◌,
-  Option,
-  Some,
-  None,
-  codes,
-  nat_le,
-  option_map,
-  option_and_then,
-  if◌then◌else◌,
-}
+use Rattle.std.specs.Prelude.{ℕ, Bool, true, false, ◌==◌, ◌&&◌, ◌||◌, not, List, [], ◌∷◌, Option, Some, None, codes, nat_le, find, is_some, option_map, option_and_then, if◌then◌else◌}
 use Rattle.std.specs.Str.{bytes_eq}
 use Rattle.std.specs.Str.Parse.{digits_value}
-use Rattle.clap.specs.Simple.{subcommand_of}
-use Rattle.clap.specs.Takes.{takes}
 use Rattle.clap.specs.Walk.{Row, first_of}
 use Rattle.a2_device.specs.declared.order.Order.{Order}
 use Rattle.a2_device.specs.declared.order.Order.TheVariants as orders
-use Rattle.shop_words.specs.Grammar.{shop}
 use Rattle.shop_words.specs.Hexadecimal.{bytes_named}
-use Rattle.shop_words.specs.Table.{Text, FormView, fewest_blocks, greatest_number, most_blocks, most_comment, most_writes}
+use Rattle.shop_words.specs.Ways.{Said, Words, is_auto_word, is_on, left_open, settled}
+use Rattle.shop_words.specs.declared.table.Verb.{Verb}
+use Rattle.shop_words.specs.declared.table.Verb.TheVariants as verbs
+use Rattle.shop_words.specs.declared.ways.LeftOpen.{LeftOpen}
+use Rattle.shop_words.specs.declared.ways.Ways.{Ways}
+use Rattle.shop_words.specs.Table.{Text, FormView, forms, fewest_blocks, greatest_number, most_blocks, most_comment, most_writes}
 use Rattle.shop_words.specs.Plain.{Use, address_named, is_number, is_short, positional_names, value_of}
 use Rattle.apple_text.specs.declared.form.HighBit.{HighBit}
 use Rattle.apple_text.specs.declared.form.HighBit.TheVariants as high_bits
@@ -154,15 +134,7 @@ boot_said false boot = Some boot
 boot_said true None = Some None
 boot_said true (Some boot) = None
 
--- ---- what is said under each parameter's name; a flag says `true`
-
-abbrev pub Said : Type 0
-Said = Text → Option Text
-
--- a flag is on where it says `true`
-abbrev pub is_on : Option Text → Bool
-is_on None = false
-is_on (Some text) = bytes_eq text (codes "true")
+-- ---- what is said of a volume
 
 -- what the image is read as
 abbrev pub volume_by : Said → Option VolumeOptions
@@ -497,10 +469,10 @@ add_by said = add_of (volume_by said) (addition_by said) (said (codes "out")) (s
 
 -- ---- a new directory
 
--- the file system of a volume that has directories is ProDOS, said or left out
+-- the file system of a volume that has directories is ProDOS, said or left out or to the image
 abbrev pub is_prodos : Option Text → Bool
 is_prodos None = true
-is_prodos (Some word) = bytes_eq word (codes "prodos")
+is_prodos (Some word) = bytes_eq word (codes "prodos") || is_auto_word word
 
 -- a ProDOS volume of an image in an order; it is no data disk
 abbrev pub prodos_in : Option Order → Option VolumeOptions
@@ -519,32 +491,31 @@ abbrev pub mkdir_by : Said → Option AskView
 mkdir_by said = change_on (prodos_by said) (directory_made_by said) said
 
 -- what a command asks, by what is said under each name
-abbrev pub ask_by : Text → Said → Option AskView
-ask_by command said =
-    if bytes_eq command (codes "catalog") then look_by (Some Catalog) None said else
-    if bytes_eq command (codes "list") then look_by (list_by said) None said else
-    if bytes_eq command (codes "compare") then look_by (compare_by said) None said else
-    if bytes_eq command (codes "map") then look_by (Some Map) (said (codes "reserve")) said else
-    if bytes_eq command (codes "check") then look_by (Some (check_by said)) (said (codes "reserve")) said else
-    if bytes_eq command (codes "read") then look_by (read_by said) None said else
-    if bytes_eq command (codes "extract") then extract_by said else
-    if bytes_eq command (codes "convert") then convert_by said else
-    if bytes_eq command (codes "plan") then look_by (Some (plan_by said)) (said (codes "reserve")) said else
-    if bytes_eq command (codes "optimize") then change_by (optimize_by said) said else
-    if bytes_eq command (codes "lock") then change_by (edit_by Lock said) said else
-    if bytes_eq command (codes "unlock") then change_by (edit_by Unlock said) said else
-    if bytes_eq command (codes "delete") then change_by (edit_by Delete said) said else
-    if bytes_eq command (codes "rename") then change_by (rename_by said) said else
-    if bytes_eq command (codes "save") then change_by (save_by said) said else
-    if bytes_eq command (codes "verify") then look_by (verify_by said) (said (codes "reserve")) said else
-    if bytes_eq command (codes "identify") then Some Identify else
-    if bytes_eq command (codes "wrap") then wrap_by said else
-    if bytes_eq command (codes "unwrap") then unwrap_by said else
-    if bytes_eq command (codes "survey") then survey_by said else
-    if bytes_eq command (codes "create") then create_by said else
-    if bytes_eq command (codes "reclaim") then change_by (Some Reclaim) said else
-    if bytes_eq command (codes "add") then add_by said else
-    if bytes_eq command (codes "mkdir") then mkdir_by said else None
+abbrev pub ask_by : Verb → Said → Option AskView
+ask_by verbs.Catalog said = look_by (Some Catalog) None said
+ask_by verbs.List said = look_by (list_by said) None said
+ask_by verbs.Compare said = look_by (compare_by said) None said
+ask_by verbs.Map said = look_by (Some Map) (said (codes "reserve")) said
+ask_by verbs.Check said = look_by (Some (check_by said)) (said (codes "reserve")) said
+ask_by verbs.Read said = look_by (read_by said) None said
+ask_by verbs.Extract said = extract_by said
+ask_by verbs.Convert said = convert_by said
+ask_by verbs.Plan said = look_by (Some (plan_by said)) (said (codes "reserve")) said
+ask_by verbs.Optimize said = change_by (optimize_by said) said
+ask_by verbs.Lock said = change_by (edit_by Lock said) said
+ask_by verbs.Unlock said = change_by (edit_by Unlock said) said
+ask_by verbs.Delete said = change_by (edit_by Delete said) said
+ask_by verbs.Rename said = change_by (rename_by said) said
+ask_by verbs.Save said = change_by (save_by said) said
+ask_by verbs.Verify said = look_by (verify_by said) (said (codes "reserve")) said
+ask_by verbs.Identify said = Some Identify
+ask_by verbs.Wrap said = wrap_by said
+ask_by verbs.Unwrap said = unwrap_by said
+ask_by verbs.Survey said = survey_by said
+ask_by verbs.Create said = create_by said
+ask_by verbs.Reclaim said = change_by (Some Reclaim) said
+ask_by verbs.Add said = add_by said
+ask_by verbs.MakeDirectory said = mkdir_by said
 
 -- ---- the job
 
@@ -553,22 +524,36 @@ job_of (Some image) (Some ask) = Some (record { image = image; ask = ask })
 job_of _ _ = None
 
 -- where the image is, or what a survey looks at; a volume is made of no image
-abbrev pub place_by : Text → Said → Option Text
-place_by command said =
-    if bytes_eq command (codes "survey") then said (codes "path") else
-    if bytes_eq command (codes "create") then Some [] else said (codes "image")
+abbrev pub place_by : Verb → Said → Option Text
+place_by verbs.Survey said = said (codes "path")
+place_by verbs.Create said = Some []
+place_by verb said = said (codes "image")
 
 -- the job of a command: the image, and what is asked of it
-abbrev pub job_by : Text → Said → Option JobView
-job_by command said = job_of (place_by command said) (ask_by command said)
+abbrev pub job_by : Verb → Said → Option JobView
+job_by verb said = job_of (place_by verb said) (ask_by verb said)
+
+-- ---- the words that clap finds
 
 -- what rows say under each name
 abbrev pub rows_say : List Row → Said
 rows_say rows = λ name. first_of name rows
 
--- the job of the command that clap finds, by the rows that it finds
-abbrev pub found_job : Option (Text × List Row) → Option JobView
-found_job found = option_and_then (λ p. job_by p.0 (rows_say p.1)) found
+-- a flag of the program that may stand more than once says how often it does
+abbrev pub is_counted : Option Text → Bool
+is_counted None = false
+is_counted (Some text) = not (bytes_eq text (codes "0"))
+
+-- whether one is there, before the command's name or behind it
+abbrev pub is_flagged : Text → List Row → List Row → Bool
+is_flagged name above rows = is_counted (first_of name above) || is_counted (first_of name rows)
+
+-- the form of a command
+abbrev pub form_of : Text → Option FormView
+form_of command = find (λ f. bytes_eq f.name command) forms
+
+abbrev pub words_by : List Row → List Row → FormView → Words
+words_by above rows f = record { form = f; is_auto = is_flagged (codes "auto") above rows; say = rows_say rows }
 
 -- what no words stand for
 abbrev pub standard_words : List Text
@@ -578,13 +563,28 @@ abbrev pub meant_words : List Text → List Text
 meant_words [] = standard_words
 meant_words (w ∷ ws) = w ∷ ws
 
--- the job that the words ask for, whatever they are
-abbrev pub asked_job : List Text → Option JobView
-asked_job words = found_job (subcommand_of shop (meant_words words))
+-- ---- the job that they ask for
 
--- clap takes the words, and they have a job
-abbrev pub IsTaken : List Text → Type 0
-IsTaken words = (takes shop (meant_words words) ≡ true) × IsSome (asked_job words)
+-- `--auto` is nothing that is said of a new volume
+abbrev pub takes_auto : Verb → Bool → Bool
+takes_auto verbs.Create auto = not auto
+takes_auto verb auto = true
+
+-- the job of words, where the images have these ways
+abbrev pub job_with : Ways → Words → Option JobView
+job_with ways w = if takes_auto w.form.verb w.is_auto then job_by w.form.verb (settled ways w) else None
+
+-- nothing is left to the images
+abbrev pub is_closed : LeftOpen → Bool
+is_closed left = not left.file_system && (not (is_some left.order) && not (is_some left.other_order))
+
+-- what is put in the place of what is left to the images until they are known
+abbrev pub unsettled : Ways
+unsettled = record { file_system = file_systems.Dos; order = orders.Dos; other_order = orders.Dos }
+
+-- the job of words that leave nothing to the images
+abbrev pub closed_job : Words → Option JobView
+closed_job w = if is_closed (left_open w) then job_with unsettled w else None
 
 -- ---- what a plain list says under each name: the value of its use, or its positional word
 
@@ -597,4 +597,4 @@ line_said f positionals uses = positional_said (positional_names f) positionals 
 
 -- the job of a plain list
 abbrev pub line_job : FormView → List Text → List Use → Option JobView
-line_job f positionals uses = job_by f.name (line_said f positionals uses)
+line_job f positionals uses = job_by f.verb (line_said f positionals uses)

@@ -5,7 +5,7 @@ use Rattle.std.specs.List.{AllPass, AllZip, IsDistinct, list_all}
 use Rattle.std.specs.Char.{is_ascii_digit}
 use Rattle.std.specs.Str.{bytes_eq}
 use Rattle.std.specs.Str.Parse.{digits_value}
-use Rattle.shop_words.specs.Table.{Text, ValuesView, address, any, between, one_of, number, KindView, positional, needed, optional, flag, ParameterView, FormView, aux, blocks, boot, data_disk, date, directory, file_system, format, forms, high, in_place, name_of_file, out_file, parameter, places, read_as, save_as, short, stored, volume_name, whole}
+use Rattle.shop_words.specs.Table.{Text, ValuesView, address, any, between, one_of, number, KindView, positional, needed, way, optional, flag, ParameterView, FormView, aux, blocks, boot, data_disk, date, directory, file_system, format, forms, high, in_place, name_of_file, out_file, parameter, places, read_as, save_as, short, stored, volume_name, whole}
 use Rattle.shop_words.specs.Hexadecimal.{bytes_named, hex_number}
 
 -- `-`
@@ -21,8 +21,10 @@ abbrev pub is_positional : KindView → Bool
 is_positional positional = true
 is_positional _ = false
 
+-- a plain list says it
 abbrev pub is_needed : KindView → Bool
 is_needed (needed values) = true
+is_needed (way values) = true
 is_needed _ = false
 
 abbrev pub positional_names : FormView → List Text
@@ -94,6 +96,7 @@ IsOfValues (short most) value = is_short most value ≡ true
 abbrev pub TakesValue : KindView → Text → Type 0
 TakesValue positional value = ⊥
 TakesValue (needed values) value = IsOfValues values value
+TakesValue (way values) value = IsOfValues values value
 TakesValue (optional values) value = IsOfValues values value
 TakesValue flag value = ⊥
 

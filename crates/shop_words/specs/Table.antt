@@ -6,6 +6,11 @@ use Rattle.shop_words.specs.declared.table.Kind.{Kind}
 use Rattle.shop_words.specs.declared.table.Kind.TheVariants as kinds
 use Rattle.shop_words.specs.declared.table.Parameter.{Parameter}
 use Rattle.shop_words.specs.declared.table.Form.{Form}
+use Rattle.shop_words.specs.declared.table.Reading.{Reading}
+use Rattle.shop_words.specs.declared.table.Reading.TheVariants as readings
+use Rattle.shop_words.specs.declared.table.LeftOut.TheVariants as left
+use Rattle.shop_words.specs.declared.table.Verb.{Verb}
+use Rattle.shop_words.specs.declared.table.Verb.TheVariants as verbs
 
 -- the bytes of a word
 abbrev pub Text : Type 0
@@ -20,9 +25,12 @@ pub data ValuesView : Type 0 where
   address : ValuesView
   short : ℕ → ValuesView
 
+-- how a parameter stands among the words; a `way` says how an image is read: a plain list says it, and other words may
+-- leave it to the image
 pub data KindView : Type 0 where
   positional : KindView
   needed : ValuesView → KindView
+  way : ValuesView → KindView
   optional : ValuesView → KindView
   flag : KindView
 
@@ -30,13 +38,17 @@ pub record ParameterView : Type 0 where
   pub name : Text
   pub kind : KindView
 
+-- a command: its name, what it does, how its words say in which way its image is read, and its parameters
 pub record FormView : Type 0 where
   pub name : Text
+  pub verb : Verb
+  pub reading : Reading
   pub parameters : List ParameterView
 
 abbrev pub values_view : Values → ValuesView
 values_view values.Any = any
 values_view (values.OneOf words) = one_of (map (λ w. w.now) words.now)
+values_view (values.Way words stand_ins) = one_of (map (λ w. w.now) words.now)
 values_view (values.Number greatest) = number greatest
 values_view (values.Between least greatest) = between least greatest
 values_view values.Address = address
@@ -45,6 +57,7 @@ values_view (values.Short most) = short most
 abbrev pub kind_view : Kind → KindView
 kind_view kinds.Positional = positional
 kind_view (kinds.Needed vs) = needed (values_view vs)
+kind_view (kinds.Way vs) = way (values_view vs)
 kind_view (kinds.Optional vs) = optional (values_view vs)
 kind_view kinds.Flag = flag
 
@@ -52,7 +65,12 @@ abbrev pub parameter_view : Parameter → ParameterView
 parameter_view p = record { name = p.name.now; kind = kind_view p.kind }
 
 abbrev pub form_view : Form → FormView
-form_view f = record { name = f.name.now; parameters = map parameter_view f.parameters.now }
+form_view f = record {
+  name = f.name.now;
+  verb = f.verb;
+  reading = f.reading;
+  parameters = map parameter_view f.parameters.now;
+}
 
 -- the greatest number that an option takes, where it takes any
 abbrev pub greatest_number : ℕ
@@ -65,6 +83,9 @@ most_writes = greatest_number
 abbrev pub parameter : Text → KindView → ParameterView
 parameter name kind = record { name = name; kind = kind }
 
+abbrev pub file_system_words : List Text
+file_system_words = codes "dos" ∷ codes "prodos" ∷ []
+
 abbrev pub order_words : List Text
 order_words = codes "dos" ∷ codes "prodos" ∷ codes "nibble" ∷ []
 
@@ -73,10 +94,10 @@ abbrev pub image : ParameterView
 image = parameter (codes "image") positional
 
 abbrev pub file_system : ParameterView
-file_system = parameter (codes "fs") (needed (one_of (codes "dos" ∷ codes "prodos" ∷ [])))
+file_system = parameter (codes "fs") (way (one_of file_system_words))
 
 abbrev pub order : ParameterView
-order = parameter (codes "order") (needed (one_of order_words))
+order = parameter (codes "order") (way (one_of order_words))
 
 abbrev pub data_disk : ParameterView
 data_disk = parameter (codes "data-disk") flag
@@ -84,6 +105,8 @@ data_disk = parameter (codes "data-disk") flag
 abbrev pub catalog_form : FormView
 catalog_form = record {
   name = codes "catalog";
+  verb = verbs.Catalog;
+  reading = readings.Volume left.ByAuto;
   parameters = image ∷ file_system ∷ order ∷ data_disk ∷ [];
 }
 
@@ -103,6 +126,8 @@ most = parameter (codes "most") (optional (number greatest_number))
 abbrev pub list_form : FormView
 list_form = record {
   name = codes "list";
+  verb = verbs.List;
+  reading = readings.Volume left.Always;
   parameters = image ∷ file_system ∷ order ∷ format ∷ digests ∷ places ∷ most ∷ data_disk ∷ [];
 }
 
@@ -119,6 +144,8 @@ all_files = parameter (codes "all") flag
 abbrev pub compare_form : FormView
 compare_form = record {
   name = codes "compare";
+  verb = verbs.Compare;
+  reading = readings.Volume left.Always;
   parameters = image ∷ other ∷ file_system ∷ order ∷ other_order ∷ all_files ∷ most ∷ data_disk ∷ [];
 }
 
@@ -129,6 +156,8 @@ reserve = parameter (codes "reserve") (optional any)
 abbrev pub map_form : FormView
 map_form = record {
   name = codes "map";
+  verb = verbs.Map;
+  reading = readings.Volume left.Always;
   parameters = image ∷ file_system ∷ order ∷ data_disk ∷ reserve ∷ [];
 }
 
@@ -139,6 +168,8 @@ bodies = parameter (codes "bodies") flag
 abbrev pub check_form : FormView
 check_form = record {
   name = codes "check";
+  verb = verbs.Check;
+  reading = readings.Volume left.ByAuto;
   parameters = image ∷ file_system ∷ order ∷ bodies ∷ data_disk ∷ reserve ∷ [];
 }
 
@@ -165,6 +196,8 @@ read_as = parameter (codes "as") (optional (one_of
 abbrev pub read_form : FormView
 read_form = record {
   name = codes "read";
+  verb = verbs.Read;
+  reading = readings.Volume left.ByAuto;
   parameters = image ∷ name_of_file ∷ file_system ∷ order ∷ whole ∷ read_as ∷ out_file ∷ data_disk ∷ stored ∷ [];
 }
 
@@ -181,6 +214,8 @@ texts = parameter (codes "texts") flag
 abbrev pub extract_form : FormView
 extract_form = record {
   name = codes "extract";
+  verb = verbs.Extract;
+  reading = readings.Volume left.Always;
   parameters = image ∷ file_system ∷ order ∷ into ∷ names ∷ texts ∷ most ∷ data_disk ∷ [];
 }
 
@@ -205,6 +240,8 @@ volume = parameter (codes "volume") (optional (number 255))
 abbrev pub convert_form : FormView
 convert_form = record {
   name = codes "convert";
+  verb = verbs.Convert;
+  reading = readings.Order left.ByAuto;
   parameters = image ∷ order ∷ to ∷ out ∷ volume ∷ data_disk ∷ [];
 }
 
@@ -227,35 +264,43 @@ from = parameter (codes "from") (needed any)
 abbrev pub plan_form : FormView
 plan_form = record {
   name = codes "plan";
+  verb = verbs.Plan;
+  reading = readings.Volume left.ByAuto;
   parameters = image ∷ file_system ∷ order ∷ data_disk ∷ reserve ∷ reclaim ∷ in_words ∷ [];
 }
 
 abbrev pub optimize_form : FormView
 optimize_form = record {
   name = codes "optimize";
+  verb = verbs.Optimize;
+  reading = readings.Volume left.ByAuto;
   parameters = image ∷ file_system ∷ order ∷ out_file ∷ in_place ∷ data_disk ∷ reserve ∷ reclaim ∷ stop_after ∷ cert
       ∷ [];
 }
 
 -- a command that changes a file
-abbrev pub edit_form : Text → FormView
-edit_form command = record {
+abbrev pub edit_form : Text → Verb → FormView
+edit_form command verb = record {
   name = command;
+  verb = verb;
+  reading = readings.Volume left.ByAuto;
   parameters = image ∷ name_of_file ∷ file_system ∷ order ∷ out_file ∷ in_place ∷ data_disk ∷ reserve ∷ stored ∷ [];
 }
 
 abbrev pub lock_form : FormView
-lock_form = edit_form (codes "lock")
+lock_form = edit_form (codes "lock") verbs.Lock
 
 abbrev pub unlock_form : FormView
-unlock_form = edit_form (codes "unlock")
+unlock_form = edit_form (codes "unlock") verbs.Unlock
 
 abbrev pub delete_form : FormView
-delete_form = edit_form (codes "delete")
+delete_form = edit_form (codes "delete") verbs.Delete
 
 abbrev pub rename_form : FormView
 rename_form = record {
   name = codes "rename";
+  verb = verbs.Rename;
+  reading = readings.Volume left.ByAuto;
   parameters = image ∷ name_of_file ∷ new_name ∷ file_system ∷ order ∷ out_file ∷ in_place ∷ data_disk ∷ reserve
       ∷ stored ∷ [];
 }
@@ -284,6 +329,8 @@ replace = parameter (codes "replace") flag
 abbrev pub save_form : FormView
 save_form = record {
   name = codes "save";
+  verb = verbs.Save;
+  reading = readings.Volume left.ByAuto;
   parameters = image ∷ name_of_file ∷ file_system ∷ order ∷ from ∷ save_as ∷ high ∷ out_file ∷ in_place ∷ type_of_file
       ∷ aux ∷ date
       ∷ data_disk ∷ reserve ∷ replace ∷ [];
@@ -292,12 +339,16 @@ save_form = record {
 abbrev pub verify_form : FormView
 verify_form = record {
   name = codes "verify";
+  verb = verbs.Verify;
+  reading = readings.Volume left.ByAuto;
   parameters = image ∷ file_system ∷ order ∷ from ∷ data_disk ∷ reserve ∷ reclaim ∷ [];
 }
 
 abbrev pub identify_form : FormView
 identify_form = record {
   name = codes "identify";
+  verb = verbs.Identify;
+  reading = readings.Nothing;
   parameters = image ∷ [];
 }
 
@@ -315,12 +366,16 @@ protect = parameter (codes "protect") flag
 abbrev pub wrap_form : FormView
 wrap_form = record {
   name = codes "wrap";
+  verb = verbs.Wrap;
+  reading = readings.Bare left.Always;
   parameters = image ∷ order ∷ out ∷ comment ∷ volume ∷ protect ∷ [];
 }
 
 abbrev pub unwrap_form : FormView
 unwrap_form = record {
   name = codes "unwrap";
+  verb = verbs.Unwrap;
+  reading = readings.Nothing;
   parameters = image ∷ out ∷ [];
 }
 
@@ -334,6 +389,8 @@ survey_format = parameter (codes "format") (optional (one_of (codes "lines" ∷ 
 abbrev pub survey_form : FormView
 survey_form = record {
   name = codes "survey";
+  verb = verbs.Survey;
+  reading = readings.Nothing;
   parameters = path ∷ survey_format ∷ [];
 }
 
@@ -344,7 +401,10 @@ fewest_blocks = 16
 abbrev pub most_blocks : ℕ
 most_blocks = 65535
 
--- `--order ORDER`, `--blocks N`, `--name NAME` and `--boot FILE` of a new volume
+-- `--fs FS`, `--order ORDER`, `--blocks N`, `--name NAME` and `--boot FILE` of a new volume
+abbrev pub new_file_system : ParameterView
+new_file_system = parameter (codes "fs") (needed (one_of file_system_words))
+
 abbrev pub new_order : ParameterView
 new_order = parameter (codes "order") (optional (one_of order_words))
 
@@ -360,12 +420,16 @@ boot = parameter (codes "boot") (optional any)
 abbrev pub create_form : FormView
 create_form = record {
   name = codes "create";
-  parameters = file_system ∷ new_order ∷ out ∷ blocks ∷ volume_name ∷ date ∷ volume ∷ data_disk ∷ boot ∷ [];
+  verb = verbs.Create;
+  reading = readings.Nothing;
+  parameters = new_file_system ∷ new_order ∷ out ∷ blocks ∷ volume_name ∷ date ∷ volume ∷ data_disk ∷ boot ∷ [];
 }
 
 abbrev pub reclaim_form : FormView
 reclaim_form = record {
   name = codes "reclaim";
+  verb = verbs.Reclaim;
+  reading = readings.Volume left.UnlessInPlace;
   parameters = image ∷ file_system ∷ order ∷ out_file ∷ in_place ∷ data_disk ∷ reserve ∷ [];
 }
 
@@ -376,6 +440,8 @@ directory = parameter (codes "into") (optional any)
 abbrev pub add_form : FormView
 add_form = record {
   name = codes "add";
+  verb = verbs.Add;
+  reading = readings.Volume left.Always;
   parameters = image ∷ file_system ∷ order ∷ from ∷ out ∷ directory ∷ date ∷ data_disk ∷ reserve ∷ [];
 }
 
@@ -386,6 +452,8 @@ only_prodos = parameter (codes "fs") (optional (one_of (codes "prodos" ∷ [])))
 abbrev pub mkdir_form : FormView
 mkdir_form = record {
   name = codes "mkdir";
+  verb = verbs.MakeDirectory;
+  reading = readings.Order left.UnlessInPlace;
   parameters = image ∷ name_of_file ∷ only_prodos ∷ order ∷ out_file ∷ in_place ∷ date ∷ reserve ∷ [];
 }
 

@@ -1,26 +1,27 @@
 //! What is asked by `create`.
-ghost use Rattle.std.specs.Prelude.{◌≡◌, codes, IfOk, option_map};
-ghost use Rattle.clap.specs.Matches.{found_of};
-ghost use Rattle.clap.specs.Walk.{rows_of};
+ghost use Rattle.std.specs.Prelude.{◌≡◌, option_map};
 ghost use Rattle.shop_jobs.specs.Job.{ask_view, creation_view, new_volume_view};
+ghost use Rattle.shop_words.specs.Given.{said_of};
+ghost use Rattle.shop_words.specs.Gives.{Gives};
 ghost use Rattle.shop_words.specs.Job.{
   ask_by,
-  blocks_said as blocks_of,
-  boot_said as boot_of,
+  blocks_said,
+  boot_said,
   creation_by,
   new_volume_of,
   new_volume_words,
-  order_said as order_of,
-  rows_say,
+  order_said,
   usual_order as order_for,
 };
+ghost use Rattle.shop_words.specs.declared.table.Verb.TheVariants as verbs;
 
 use crate::converting::volume_number;
-use crate::reading::{file_system_in, has_flag, number_named, order_in, said, text_of, text_said};
+use crate::given::{Given, order};
+use crate::misfit::Misfit;
+use crate::reading::{number_named, text_of};
 use a2_device::Order;
-use clap::ArgMatches;
 use shop_jobs::{Ask, CreateOptions, FileSystem, NewVolume};
-use std::alloc::{AllocError, Global};
+use std::alloc::Global;
 
 /// The fewest blocks of a ProDOS volume, the most, and those of a disk.
 const FEWEST_BLOCKS: u64 = 16;
@@ -30,15 +31,18 @@ const MOST_BLOCKS: u64 = 65_535;
 const DISK_BLOCKS: u16 = 280;
 
 // How many blocks a new volume has, those of a disk where none are said.
-fn blocks_said(word: Option<&str>) -> Option<u16>
-    ensures { result ≡ blocks_of (option_map (λ s. s.now) word.entry) }
+fn blocks_said<'a>(word: Option<&'a str>) -> Result<u16, Misfit<'a>>
+    ensures { Gives (λ b. b) (blocks_said (option_map (λ s. s.now) word.entry)) result }
 {
-    let Some(digits) = word else {
-        return Some(DISK_BLOCKS);
+    let Some(word) = word else {
+        return Ok(DISK_BLOCKS);
     };
-    match number_named(digits, MOST_BLOCKS) {
-        Some(blocks) if blocks >= FEWEST_BLOCKS => Some(blocks as u16),
-        _ => None,
+    match number_named(word, MOST_BLOCKS) {
+        Some(blocks) if blocks >= FEWEST_BLOCKS => Ok(blocks as u16),
+        _ => Err(Misfit::Value {
+            name: "blocks",
+            word,
+        }),
     }
 }
 
@@ -53,115 +57,89 @@ fn usual_order(file_system: FileSystem) -> Order
 }
 
 // The order of the image of a new volume.
-fn order_said(matches: &ArgMatches<'_>, file_system: FileSystem) -> Option<Order>
-    ensures { result ≡ order_of file_system (rows_say (rows_of (found_of matches.now)) (codes "order")) }
+fn order_said<'a>(file_system: FileSystem, word: Option<&'a str>) -> Result<Order, Misfit<'a>>
+    ensures { Gives (λ o. o) (order_said file_system (option_map (λ s. s.now) word.entry)) result }
 {
-    match said(matches, "order") {
-        Some(_) => order_in(matches, "order"),
-        None => Some(usual_order(file_system)),
+    match word {
+        Some(word) => order("order", word),
+        None => Ok(usual_order(file_system)),
     }
 }
 
-// The image whose system is copied, or that none is; to a data disk none is.
-fn boot_said(data_disk: bool, boot: Option<&str>) -> Option<Option<&str>>
-    ensures { option_map (λ b. option_map (λ s. s.now) b) result
-        ≡ boot_of data_disk (option_map (λ s. s.now) boot.entry) }
+// The image whose system is copied, where one is said; to a data disk none is.
+fn boot_said<'a>(data_disk: bool, boot: Option<&'a str>) -> Result<Option<&'a str>, Misfit<'a>>
+    ensures { Gives (λ b. option_map (λ s. s.now) b)
+        (boot_said data_disk (option_map (λ s. s.now) boot.entry)) result }
 {
     match (data_disk, boot) {
-        (true, Some(_)) => None,
-        (_, boot) => Some(boot),
+        (true, Some(_)) => Err(Misfit::BootOfDataDisk),
+        (_, boot) => Ok(boot),
     }
 }
 
 // A DOS 3.3 disk, of which no blocks, no name and no date are said.
-fn dos_volume_in(matches: &ArgMatches<'_>) -> Option<NewVolume>
-    ensures { option_map new_volume_view result
-        ≡ new_volume_of (new_volume_words (rows_say (rows_of (found_of matches.now)))) FileSystem.Dos }
+fn dos_volume_in<'a>(given: &Given<'_, 'a>) -> Result<NewVolume, Misfit<'a>>
+    ensures { Gives new_volume_view (new_volume_of (new_volume_words (said_of given.now)) FileSystem.Dos) result }
 {
-    let data_disk = has_flag(matches, "data-disk");
-    match (
-        said(matches, "blocks"),
-        said(matches, "name"),
-        said(matches, "date"),
-    ) {
-        (None, None, None) => Some(NewVolume::Dos { data_disk }),
-        _ => None,
+    let data_disk = given.has("data-disk");
+    match (given.said("blocks"), given.said("name"), given.said("date")) {
+        (None, None, None) => Ok(NewVolume::Dos { data_disk }),
+        (Some(_), _, _) => Err(Misfit::OfProdos { name: "blocks" }),
+        (None, Some(_), _) => Err(Misfit::OfProdos { name: "name" }),
+        (None, None, Some(_)) => Err(Misfit::OfProdos { name: "date" }),
     }
 }
 
 // A ProDOS volume.
-fn prodos_volume_in(
-    alloc: Global,
-    matches: &ArgMatches<'_>,
-) -> Result<Option<NewVolume>, AllocError>
-    ensures { IfOk result (λ volume. option_map new_volume_view volume
-        ≡ new_volume_of (new_volume_words (rows_say (rows_of (found_of matches.now)))) FileSystem.Prodos) }
+fn prodos_volume_in<'a>(alloc: Global, given: &Given<'_, 'a>) -> Result<NewVolume, Misfit<'a>>
+    ensures { Gives new_volume_view (new_volume_of (new_volume_words (said_of given.now)) FileSystem.Prodos) result }
 {
-    let Some(blocks) = blocks_said(said(matches, "blocks")) else {
-        return Ok(None);
-    };
-    Ok(Some(NewVolume::Prodos {
+    let blocks = blocks_said(given.said("blocks"))?;
+    Ok(NewVolume::Prodos {
         blocks,
-        name: text_said(alloc, matches, "name")?,
-        date: text_said(alloc, matches, "date")?,
-    }))
+        name: given.text(alloc, "name")?,
+        date: given.text(alloc, "date")?,
+    })
 }
 
 // A new volume of a file system.
-fn volume_in(
+fn volume_in<'a>(
     alloc: Global,
-    matches: &ArgMatches<'_>,
+    given: &Given<'_, 'a>,
     file_system: FileSystem,
-) -> Result<Option<NewVolume>, AllocError>
-    ensures { IfOk result (λ volume. option_map new_volume_view volume
-        ≡ new_volume_of (new_volume_words (rows_say (rows_of (found_of matches.now)))) file_system) }
+) -> Result<NewVolume, Misfit<'a>>
+    ensures { Gives new_volume_view (new_volume_of (new_volume_words (said_of given.now)) file_system) result }
 {
     match file_system {
-        FileSystem::Dos => Ok(dos_volume_in(matches)),
-        FileSystem::Prodos => prodos_volume_in(alloc, matches),
+        FileSystem::Dos => dos_volume_in(given),
+        FileSystem::Prodos => prodos_volume_in(alloc, given),
     }
 }
 
 // How a new volume is made.
-fn options_in(alloc: Global, matches: &ArgMatches<'_>) -> Result<Option<CreateOptions>, AllocError>
-    ensures { IfOk result (λ options. option_map creation_view options
-        ≡ creation_by (rows_say (rows_of (found_of matches.now)))) }
+fn create_options_in<'a>(alloc: Global, given: &Given<'_, 'a>) -> Result<CreateOptions, Misfit<'a>>
+    ensures { Gives creation_view (creation_by (said_of given.now)) result }
 {
-    let Some(file_system) = file_system_in(matches) else {
-        return Ok(None);
-    };
-    let Some(order) = order_said(matches, file_system) else {
-        return Ok(None);
-    };
-    let Some(number) = volume_number(said(matches, "volume")) else {
-        return Ok(None);
-    };
-    let Some(volume) = volume_in(alloc, matches, file_system)? else {
-        return Ok(None);
-    };
-    Ok(Some(CreateOptions {
+    let file_system = given.file_system()?;
+    let order = order_said(file_system, given.order_word())?;
+    let number = volume_number(given.said("volume"))?;
+    let volume = volume_in(alloc, given, file_system)?;
+    Ok(CreateOptions {
         volume,
         order,
         number,
-    }))
+    })
 }
 
-pub fn create_in(alloc: Global, matches: &ArgMatches<'_>) -> Result<Option<Ask>, AllocError>
-    ensures { IfOk result (λ ask. option_map ask_view ask
-        ≡ ask_by (codes "create") (rows_say (rows_of (found_of matches.now)))) }
+pub fn create_in<'a>(alloc: Global, given: &Given<'_, 'a>) -> Result<Ask, Misfit<'a>>
+    ensures { Gives ask_view (ask_by verbs.Create (said_of given.now)) result }
 {
-    let Some(out) = said(matches, "out") else {
-        return Ok(None);
-    };
-    let Some(boot) = boot_said(has_flag(matches, "data-disk"), said(matches, "boot")) else {
-        return Ok(None);
-    };
-    let Some(options) = options_in(alloc, matches)? else {
-        return Ok(None);
-    };
-    Ok(Some(Ask::Create {
+    let boot = boot_said(given.has("data-disk"), given.said("boot"))?;
+    let options = create_options_in(alloc, given)?;
+    let out = given.needed("out")?;
+    Ok(Ask::Create {
         options,
         boot: text_of(alloc, boot)?,
         out: out.to_string(alloc)?,
-    }))
+    })
 }

@@ -1,52 +1,111 @@
-//! What is asked by `extract`.
-ghost use Rattle.std.specs.Prelude.{◌≡◌, codes, IfOk, option_map};
-ghost use Rattle.clap.specs.Matches.{found_of};
-ghost use Rattle.clap.specs.Walk.{rows_of};
-ghost use Rattle.shop_jobs.specs.Job.{ask_view};
-ghost use Rattle.shop_words.specs.Job.{ask_by, extraction_by, naming_said as naming_of, rows_say};
+//! What is asked by `extract` and `add`.
+ghost use Rattle.std.specs.Prelude.{◌≡◌, option_map};
+ghost use Rattle.shop_jobs.specs.Job.{addition_view, ask_view};
+ghost use Rattle.shop_words.specs.Given.{said_of};
+ghost use Rattle.shop_words.specs.Gives.{Gives};
+ghost use Rattle.shop_words.specs.Job.{
+  addition_by,
+  ask_by,
+  directory_by,
+  extraction_by,
+  naming_named as naming_of,
+  naming_said,
+};
+ghost use Rattle.shop_words.specs.declared.table.Verb.TheVariants as verbs;
 
-use crate::looking::most_bytes;
-use crate::reading::{has_flag, said, volume_in};
-use clap::ArgMatches;
+use crate::given::Given;
+use crate::misfit::Misfit;
+use crate::reading::{most_bytes, text_of};
 use host_folders::Naming;
-use shop_jobs::{Ask, ExtractOptions};
-use std::alloc::{AllocError, Global};
+use shop_jobs::{AddOptions, Ask, ExtractOptions, FileSystem};
+use std::alloc::Global;
 
-// How files are named, with their types where nothing is said.
-fn naming_said(word: Option<&str>) -> Option<Naming>
-    ensures { result ≡ naming_of (option_map (λ s. s.now) word.entry) }
+fn naming_named(word: &str) -> Option<Naming>
+    ensures { result ≡ naming_of word.now }
 {
     match word {
-        None | Some("naps") => Some(Naming::Naps),
-        Some("plain") => Some(Naming::Plain),
-        Some(_) => None,
+        "naps" => Some(Naming::Naps),
+        "plain" => Some(Naming::Plain),
+        _ => None,
+    }
+}
+
+// How files are named, with their types where nothing is said.
+fn naming_said<'a>(word: Option<&'a str>) -> Result<Naming, Misfit<'a>>
+    ensures { Gives (λ n. n) (naming_said (option_map (λ s. s.now) word.entry)) result }
+{
+    let Some(word) = word else {
+        return Ok(Naming::Naps);
+    };
+    match naming_named(word) {
+        Some(naming) => Ok(naming),
+        None => Err(Misfit::Value {
+            name: "names",
+            word,
+        }),
     }
 }
 
 // How the files of a volume are put into a folder.
-fn options_in(matches: &ArgMatches<'_>) -> Option<ExtractOptions>
-    ensures { result ≡ extraction_by (rows_say (rows_of (found_of matches.now))) }
+fn extract_options_in<'a>(given: &Given<'_, 'a>) -> Result<ExtractOptions, Misfit<'a>>
+    ensures { Gives (λ o. o) (extraction_by (said_of given.now)) result }
 {
-    Some(ExtractOptions {
-        naming: naming_said(said(matches, "names"))?,
-        texts: has_flag(matches, "texts"),
-        most: most_bytes(said(matches, "most"))?,
+    let naming = naming_said(given.said("names"))?;
+    let most = most_bytes(given.said("most"))?;
+    Ok(ExtractOptions {
+        naming,
+        texts: given.has("texts"),
+        most,
     })
 }
 
-pub fn extract_in(alloc: Global, matches: &ArgMatches<'_>) -> Result<Option<Ask>, AllocError>
-    ensures { IfOk result (λ ask. option_map ask_view ask
-        ≡ ask_by (codes "extract") (rows_say (rows_of (found_of matches.now)))) }
+pub fn extract_in<'a>(alloc: Global, given: &Given<'_, 'a>) -> Result<Ask, Misfit<'a>>
+    ensures { Gives ask_view (ask_by verbs.Extract (said_of given.now)) result }
 {
-    let (Some(into), Some(options)) = (said(matches, "into"), options_in(matches)) else {
-        return Ok(None);
-    };
-    let Some(volume) = volume_in(matches) else {
-        return Ok(None);
-    };
-    Ok(Some(Ask::Extract {
+    let volume = given.volume()?;
+    let options = extract_options_in(given)?;
+    let into = given.needed("into")?;
+    Ok(Ask::Extract {
         volume,
         options,
         into: into.to_string(alloc)?,
-    }))
+    })
+}
+
+// The directory of the volume under which the paths of the files begin, where one is said; a DOS 3.3 disk has none.
+fn directory_in<'a>(given: &Given<'_, 'a>) -> Result<Option<&'a str>, Misfit<'a>>
+    ensures { Gives (λ d. option_map (λ s. s.now) d) (directory_by (said_of given.now)) result }
+{
+    let into = given.said("into");
+    match (given.file_system()?, into) {
+        (FileSystem::Dos, Some(_)) => Err(Misfit::OfProdos { name: "into" }),
+        (_, into) => Ok(into),
+    }
+}
+
+// How the files of a folder are added.
+fn add_options_in<'a>(alloc: Global, given: &Given<'_, 'a>) -> Result<AddOptions, Misfit<'a>>
+    ensures { Gives addition_view (addition_by (said_of given.now)) result }
+{
+    let from = given.needed("from")?;
+    let into = directory_in(given)?;
+    Ok(AddOptions {
+        from: from.to_string(alloc)?,
+        into: text_of(alloc, into)?,
+        date: given.text(alloc, "date")?,
+    })
+}
+
+pub fn add_in<'a>(alloc: Global, given: &Given<'_, 'a>) -> Result<Ask, Misfit<'a>>
+    ensures { Gives ask_view (ask_by verbs.Add (said_of given.now)) result }
+{
+    let volume = given.volume()?;
+    let options = add_options_in(alloc, given)?;
+    let out = given.needed("out")?;
+    Ok(Ask::Add {
+        volume,
+        reserve: given.text(alloc, "reserve")?,
+        options,
+        out: out.to_string(alloc)?,
+    })
 }

@@ -1,185 +1,176 @@
 //! What is asked by the commands that only read a volume.
-ghost use Rattle.std.specs.Prelude.{◌≡◌, codes, IfOk, None, option_map, Some};
-ghost use Rattle.clap.specs.Matches.{found_of};
-ghost use Rattle.clap.specs.Walk.{rows_of};
+ghost use Rattle.std.specs.Prelude.{◌≡◌, codes, None, option_map, Some};
 ghost use Rattle.shop_jobs.specs.Job.{ask_view, look_view};
+ghost use Rattle.shop_words.specs.Given.{said_of, words_of};
+ghost use Rattle.shop_words.specs.Gives.{Gives};
 ghost use Rattle.shop_words.specs.Job.{
   ask_by,
   compare_by,
   form_for as form_taken,
+  form_named as form_with_name,
   form_said,
+  list_by,
   look_by,
-  most_bytes,
   options_by,
   other_named as names_other,
-  other_order as order_of_other,
   read_by,
   read_form_named,
   read_form_said,
-  rows_say,
 };
+ghost use Rattle.shop_words.specs.declared.table.Verb.TheVariants as verbs;
 
-use crate::reading::{has_flag, name_in, number_named, order_in, said, text_said, volume_in};
-use a2_device::Order;
-use clap::ArgMatches;
+use crate::given::Given;
+use crate::misfit::Misfit;
+use crate::reading::most_bytes;
 use file_forms::FileForm;
 use shop_jobs::{Ask, CompareOptions, ListForm, ListOptions, Look, ReadForm};
-use std::alloc::{AllocError, Global};
-
-/// How many bytes files may have in all that are read or written, where the words say nothing.
-const MOST_BYTES: u64 = 1 << 30;
+use std::alloc::Global;
 
 /// What is asked by a command that looks for this, and reserves no places.
-fn listing_in(matches: &ArgMatches<'_>, look: Look) -> Option<Ask>
-    ensures { option_map ask_view result
-        ≡ look_by (Some (look_view look)) None (rows_say (rows_of (found_of matches.now))) }
+fn listing_in<'a>(given: &Given<'_, 'a>, look: Look) -> Result<Ask, Misfit<'a>>
+    ensures { Gives ask_view (look_by (Some (look_view look)) None (said_of given.now)) result }
 {
-    Some(Ask::Look {
-        volume: volume_in(matches)?,
+    Ok(Ask::Look {
+        volume: given.volume()?,
         reserve: None,
         look,
     })
 }
 
-pub fn catalog_in(matches: &ArgMatches<'_>) -> Option<Ask>
-    ensures { option_map ask_view result ≡ ask_by (codes "catalog") (rows_say (rows_of (found_of matches.now))) }
+pub fn catalog_in<'a>(given: &Given<'_, 'a>) -> Result<Ask, Misfit<'a>>
+    ensures { Gives ask_view (ask_by verbs.Catalog (said_of given.now)) result }
 {
-    listing_in(matches, Look::Catalog)
+    listing_in(given, Look::Catalog)
 }
 
-// The form of a list, the names where none is said.
-fn form_said(word: Option<&str>) -> Option<ListForm>
-    ensures { result ≡ form_said (option_map (λ s. s.now) word.entry) }
+fn form_named(word: &str) -> Option<ListForm>
+    ensures { result ≡ form_with_name word.now }
 {
     match word {
-        None | Some("names") => Some(ListForm::Names),
-        Some("json") => Some(ListForm::Json),
-        Some("csv") => Some(ListForm::Csv),
-        Some(_) => None,
-    }
-}
-
-// The form of a list, which is JSON where places are told.
-fn form_for(places: bool, form: Option<ListForm>) -> Option<ListForm>
-    ensures { result ≡ form_taken places form }
-{
-    match form {
-        Some(ListForm::Json) => Some(ListForm::Json),
-        Some(form) if !places => Some(form),
+        "names" => Some(ListForm::Names),
+        "json" => Some(ListForm::Json),
+        "csv" => Some(ListForm::Csv),
         _ => None,
     }
 }
 
-/// How many bytes files may have in all.
-pub fn most_bytes(word: Option<&str>) -> Option<u64>
-    ensures { result ≡ most_bytes (option_map (λ s. s.now) word.entry) }
+// The form of a list, the names where none is said.
+fn form_said<'a>(word: Option<&'a str>) -> Result<ListForm, Misfit<'a>>
+    ensures { Gives (λ f. f) (form_said (option_map (λ s. s.now) word.entry)) result }
 {
-    match word {
-        Some(digits) => number_named(digits, u64::MAX),
-        None => Some(MOST_BYTES),
+    let Some(word) = word else {
+        return Ok(ListForm::Names);
+    };
+    match form_named(word) {
+        Some(form) => Ok(form),
+        None => Err(Misfit::Value {
+            name: "format",
+            word,
+        }),
     }
 }
 
-pub fn list_in(matches: &ArgMatches<'_>) -> Option<Ask>
-    ensures { option_map ask_view result ≡ ask_by (codes "list") (rows_say (rows_of (found_of matches.now))) }
+// The form of a list, which is JSON where places are told.
+fn form_for<'a>(places: bool, form: ListForm) -> Result<ListForm, Misfit<'a>>
+    ensures { Gives (λ f. f) (form_taken places (Some form)) result }
 {
-    let places = has_flag(matches, "places");
-    let options = ListOptions {
-        form: form_for(places, form_said(said(matches, "format")))?,
-        digests: has_flag(matches, "digests"),
-        places,
-        most: most_bytes(said(matches, "most"))?,
-    };
-    listing_in(matches, Look::Entries(options))
+    match form {
+        ListForm::Names | ListForm::Csv if places => Err(Misfit::PlacesWithoutJson),
+        form => Ok(form),
+    }
 }
 
-/// What is asked by a command that looks for this, and may reserve places.
-fn look_in(alloc: Global, matches: &ArgMatches<'_>, look: Look) -> Result<Option<Ask>, AllocError>
-    ensures { IfOk result (λ ask. option_map ask_view ask
-        ≡ (let said = rows_say (rows_of (found_of matches.now)) in
-        look_by (Some (look_view look)) (said (codes "reserve")) said)) }
+// How the entries of a volume are told.
+fn list_options_in<'a>(given: &Given<'_, 'a>) -> Result<Look, Misfit<'a>>
+    ensures { Gives look_view (list_by (said_of given.now)) result }
 {
-    let Some(volume) = volume_in(matches) else {
-        return Ok(None);
-    };
-    Ok(Some(Ask::Look {
-        volume,
-        reserve: text_said(alloc, matches, "reserve")?,
-        look,
+    let places = given.has("places");
+    let form = form_said(given.said("format"))?;
+    let form = form_for(places, form)?;
+    let most = most_bytes(given.said("most"))?;
+    Ok(Look::Entries(ListOptions {
+        form,
+        digests: given.has("digests"),
+        places,
+        most,
     }))
 }
 
-// The path of the other image of a comparison; `None` where both are standard input.
-fn other_named<'a>(image: Option<&'a str>, other: Option<&'a str>) -> Option<&'a str>
-    ensures { option_map (λ s. s.now) result
-        ≡ names_other (option_map (λ s. s.now) image.entry) (option_map (λ s. s.now) other.entry) }
+pub fn list_in<'a>(given: &Given<'_, 'a>) -> Result<Ask, Misfit<'a>>
+    ensures { Gives ask_view (ask_by verbs.List (said_of given.now)) result }
 {
-    match (image?, other?) {
-        ("-", "-") => None,
-        (_, other) => Some(other),
-    }
+    let look = list_options_in(given)?;
+    listing_in(given, look)
 }
 
-// The order of the other image, that of the image where none is said.
-fn other_order(matches: &ArgMatches<'_>) -> Option<Order>
-    ensures { result ≡ (let say = rows_say (rows_of (found_of matches.now)) in
-        order_of_other (say (codes "other-order")) (say (codes "order"))) }
+/// What is asked by a command that looks for this, and may reserve places.
+fn look_in<'a>(alloc: Global, given: &Given<'_, 'a>, look: Look) -> Result<Ask, Misfit<'a>>
+    ensures { Gives ask_view (look_by (Some (look_view look)) (said_of given.now (codes "reserve")) (said_of given.now))
+        result }
 {
-    match said(matches, "other-order") {
-        Some(_) => order_in(matches, "other-order"),
-        None => order_in(matches, "order"),
+    Ok(Ask::Look {
+        volume: given.volume()?,
+        reserve: given.text(alloc, "reserve")?,
+        look,
+    })
+}
+
+// The path of the other image of a comparison; not both are standard input.
+fn other_named<'a>(given: &Given<'_, 'a>) -> Result<&'a str, Misfit<'a>>
+    ensures { Gives (λ s. s.now) (names_other (said_of given.now (codes "image")) (said_of given.now (codes "other")))
+        result }
+{
+    let image = given.needed("image")?;
+    let other = given.needed("other")?;
+    if image == "-" && other == "-" {
+        return Err(Misfit::TwoInputs);
     }
+    Ok(other)
 }
 
 // How another image is compared with the image.
-fn options_in(matches: &ArgMatches<'_>) -> Option<CompareOptions>
-    ensures { result ≡ options_by (rows_say (rows_of (found_of matches.now))) }
+fn compare_options_in<'a>(given: &Given<'_, 'a>) -> Result<CompareOptions, Misfit<'a>>
+    ensures { Gives (λ o. o) (options_by (said_of given.now)) result }
 {
-    Some(CompareOptions {
-        other_order: other_order(matches)?,
-        all: has_flag(matches, "all"),
-        most: most_bytes(said(matches, "most"))?,
+    let other_order = given.other_order()?;
+    let most = most_bytes(given.said("most"))?;
+    Ok(CompareOptions {
+        other_order,
+        all: given.has("all"),
+        most,
     })
 }
 
 // The other image that words name, and how it is compared.
-fn comparison_in(alloc: Global, matches: &ArgMatches<'_>) -> Result<Option<Look>, AllocError>
-    ensures { IfOk result (λ look. option_map look_view look
-        ≡ compare_by (rows_say (rows_of (found_of matches.now)))) }
+fn comparison_in<'a>(alloc: Global, given: &Given<'_, 'a>) -> Result<Look, Misfit<'a>>
+    ensures { Gives look_view (compare_by (said_of given.now)) result }
 {
-    let other = other_named(said(matches, "image"), said(matches, "other"));
-    let (Some(other), Some(options)) = (other, options_in(matches)) else {
-        return Ok(None);
-    };
-    Ok(Some(Look::Compare {
+    let other = other_named(given)?;
+    let options = compare_options_in(given)?;
+    Ok(Look::Compare {
         other: other.to_string(alloc)?,
         options,
-    }))
+    })
 }
 
-pub fn compare_in(alloc: Global, matches: &ArgMatches<'_>) -> Result<Option<Ask>, AllocError>
-    ensures { IfOk result (λ ask. option_map ask_view ask
-        ≡ ask_by (codes "compare") (rows_say (rows_of (found_of matches.now)))) }
+pub fn compare_in<'a>(alloc: Global, given: &Given<'_, 'a>) -> Result<Ask, Misfit<'a>>
+    ensures { Gives ask_view (ask_by verbs.Compare (said_of given.now)) result }
 {
-    match comparison_in(alloc, matches)? {
-        Some(look) => Ok(listing_in(matches, look)),
-        None => Ok(None),
-    }
+    let look = comparison_in(alloc, given)?;
+    listing_in(given, look)
 }
 
-pub fn map_in(alloc: Global, matches: &ArgMatches<'_>) -> Result<Option<Ask>, AllocError>
-    ensures { IfOk result (λ ask. option_map ask_view ask
-        ≡ ask_by (codes "map") (rows_say (rows_of (found_of matches.now)))) }
+pub fn map_in<'a>(alloc: Global, given: &Given<'_, 'a>) -> Result<Ask, Misfit<'a>>
+    ensures { Gives ask_view (ask_by verbs.Map (said_of given.now)) result }
 {
-    look_in(alloc, matches, Look::Map)
+    look_in(alloc, given, Look::Map)
 }
 
-pub fn check_in(alloc: Global, matches: &ArgMatches<'_>) -> Result<Option<Ask>, AllocError>
-    ensures { IfOk result (λ ask. option_map ask_view ask
-        ≡ ask_by (codes "check") (rows_say (rows_of (found_of matches.now)))) }
+pub fn check_in<'a>(alloc: Global, given: &Given<'_, 'a>) -> Result<Ask, Misfit<'a>>
+    ensures { Gives ask_view (ask_by verbs.Check (said_of given.now)) result }
 {
-    let bodies = has_flag(matches, "bodies");
-    look_in(alloc, matches, Look::Check { bodies })
+    let bodies = given.has("bodies");
+    look_in(alloc, given, Look::Check { bodies })
 }
 
 // The form of a file that a word names.
@@ -197,67 +188,52 @@ fn read_form_named(word: &str) -> Option<ReadForm>
 }
 
 // As what a file is read: its body, the whole of it or a form of it.
-fn read_form_said(whole: bool, word: Option<&str>) -> Option<ReadForm>
-    ensures { result ≡ read_form_said whole (option_map (λ s. s.now) word.entry) }
+fn read_form_said<'a>(whole: bool, word: Option<&'a str>) -> Result<ReadForm, Misfit<'a>>
+    ensures { Gives (λ f. f) (read_form_said whole (option_map (λ s. s.now) word.entry)) result }
 {
     match (whole, word) {
-        (false, None) => Some(ReadForm::Body),
-        (true, None) => Some(ReadForm::Whole),
-        (false, Some(word)) => read_form_named(word),
-        (true, Some(_)) => None,
+        (false, None) => Ok(ReadForm::Body),
+        (true, None) => Ok(ReadForm::Whole),
+        (true, Some(_)) => Err(Misfit::WholeAndForm),
+        (false, Some(word)) => match read_form_named(word) {
+            Some(form) => Ok(form),
+            None => Err(Misfit::Value { name: "as", word }),
+        },
     }
 }
 
 // The file that is read, and where its bytes go.
-fn reading_in(alloc: Global, matches: &ArgMatches<'_>) -> Result<Option<Look>, AllocError>
-    ensures { IfOk result (λ look. option_map look_view look
-        ≡ read_by (rows_say (rows_of (found_of matches.now)))) }
+fn reading_in<'a>(alloc: Global, given: &Given<'_, 'a>) -> Result<Look, Misfit<'a>>
+    ensures { Gives look_view (read_by (said_of given.now)) result }
 {
-    let Some(name) = name_in(alloc, matches)? else {
-        return Ok(None);
-    };
-    let Some(form) = read_form_said(has_flag(matches, "whole"), said(matches, "as")) else {
-        return Ok(None);
-    };
-    Ok(Some(Look::Read {
+    let form = read_form_said(given.has("whole"), given.said("as"))?;
+    let name = given.name(alloc)?;
+    Ok(Look::Read {
         name,
         form,
-        out: text_said(alloc, matches, "out")?,
-    }))
+        out: given.text(alloc, "out")?,
+    })
 }
 
-pub fn read_in(alloc: Global, matches: &ArgMatches<'_>) -> Result<Option<Ask>, AllocError>
-    ensures { IfOk result (λ ask. option_map ask_view ask
-        ≡ ask_by (codes "read") (rows_say (rows_of (found_of matches.now)))) }
+pub fn read_in<'a>(alloc: Global, given: &Given<'_, 'a>) -> Result<Ask, Misfit<'a>>
+    ensures { Gives ask_view (ask_by verbs.Read (said_of given.now)) result }
 {
-    match reading_in(alloc, matches)? {
-        Some(look) => Ok(listing_in(matches, look)),
-        None => Ok(None),
-    }
+    let look = reading_in(alloc, given)?;
+    listing_in(given, look)
 }
 
-pub fn plan_in(alloc: Global, matches: &ArgMatches<'_>) -> Result<Option<Ask>, AllocError>
-    ensures { IfOk result (λ ask. option_map ask_view ask
-        ≡ ask_by (codes "plan") (rows_say (rows_of (found_of matches.now)))) }
+pub fn plan_in<'a>(alloc: Global, given: &Given<'_, 'a>) -> Result<Ask, Misfit<'a>>
+    ensures { Gives ask_view (ask_by verbs.Plan (said_of given.now)) result }
 {
-    let reclaim = has_flag(matches, "reclaim");
-    let words = has_flag(matches, "words");
-    look_in(alloc, matches, Look::Plan { reclaim, words })
+    let reclaim = given.has("reclaim");
+    let words = given.has("words");
+    look_in(alloc, given, Look::Plan { reclaim, words })
 }
 
-pub fn verify_in(alloc: Global, matches: &ArgMatches<'_>) -> Result<Option<Ask>, AllocError>
-    ensures { IfOk result (λ ask. option_map ask_view ask
-        ≡ ask_by (codes "verify") (rows_say (rows_of (found_of matches.now)))) }
+pub fn verify_in<'a>(alloc: Global, given: &Given<'_, 'a>) -> Result<Ask, Misfit<'a>>
+    ensures { Gives ask_view (ask_by verbs.Verify (said_of given.now)) result }
 {
-    let (Some(from), Some(volume)) = (said(matches, "from"), volume_in(matches)) else {
-        return Ok(None);
-    };
-    Ok(Some(Ask::Look {
-        volume,
-        reserve: text_said(alloc, matches, "reserve")?,
-        look: Look::Verify {
-            from: from.to_string(alloc)?,
-            reclaim: has_flag(matches, "reclaim"),
-        },
-    }))
+    let from = given.needed("from")?.to_string(alloc)?;
+    let reclaim = given.has("reclaim");
+    look_in(alloc, given, Look::Verify { from, reclaim })
 }

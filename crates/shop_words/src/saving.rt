@@ -1,8 +1,8 @@
 //! What is asked by `save`.
-ghost use Rattle.std.specs.Prelude.{◌≡◌, codes, IfOk, option_map};
-ghost use Rattle.clap.specs.Matches.{found_of};
-ghost use Rattle.clap.specs.Walk.{rows_of};
+ghost use Rattle.std.specs.Prelude.{◌≡◌, IfErr, IfOk, option_map, Some};
 ghost use Rattle.shop_jobs.specs.Job.{ask_view, attributes_view, change_view};
+ghost use Rattle.shop_words.specs.Given.{said_of, words_of};
+ghost use Rattle.shop_words.specs.Gives.{Gives};
 ghost use Rattle.shop_words.specs.Job.{
   ask_by,
   attributes_by,
@@ -13,29 +13,33 @@ ghost use Rattle.shop_words.specs.Job.{
   high_named,
   high_said,
   is_loadable,
-  rows_say,
   save_by,
   usual_high,
 };
+ghost use Rattle.shop_words.specs.declared.table.Verb.TheVariants as verbs;
 
 use crate::changing::change_in;
-use crate::reading::{address_named, file_system_in, has_flag, said, text_said};
+use crate::given::Given;
+use crate::misfit::Misfit;
+use crate::reading::address_named;
 use apple_text::HighBit;
-use clap::ArgMatches;
 use file_forms::GivenForm;
 use shop_jobs::{Ask, Change, FileSystem, SaveAttributes};
-use std::alloc::{AllocError, Global};
+use std::alloc::Global;
 
 /// Where a program in Applesoft BASIC is loaded.
-pub const PROGRAM_START: u16 = 0x0801;
+const PROGRAM_START: u16 = 0x0801;
 
 // The auxiliary type, if one is said.
-fn aux_named(word: Option<&str>) -> Option<Option<u16>>
-    ensures { result ≡ aux_named (option_map (λ s. s.now) word.entry) }
+fn aux_named<'a>(word: Option<&'a str>) -> Result<Option<u16>, Misfit<'a>>
+    ensures { Gives (λ a. a) (aux_named (option_map (λ s. s.now) word.entry)) result }
 {
-    match word {
-        Some(word) => Some(Some(address_named(word)?)),
-        None => Some(None),
+    let Some(word) = word else {
+        return Ok(None);
+    };
+    match address_named(word) {
+        Some(aux) => Ok(Some(aux)),
+        None => Err(Misfit::Value { name: "aux", word }),
     }
 }
 
@@ -60,53 +64,57 @@ fn high_named(word: &str) -> Option<HighBit>
 }
 
 // The highest bit of the bytes of a text.
-fn high_said(file_system: FileSystem, word: Option<&str>) -> Option<HighBit>
-    ensures { result ≡ high_said file_system (option_map (λ s. s.now) word.entry) }
+fn high_said<'a>(file_system: FileSystem, word: Option<&'a str>) -> Result<HighBit, Misfit<'a>>
+    ensures { Gives (λ h. h) (high_said file_system (option_map (λ s. s.now) word.entry)) result }
 {
-    match word {
-        Some(word) => high_named(word),
-        None => Some(usual_high(file_system)),
+    let Some(word) = word else {
+        return Ok(usual_high(file_system));
+    };
+    match high_named(word) {
+        Some(high) => Ok(high),
+        None => Err(Misfit::Value { name: "high", word }),
     }
 }
 
 // The form that a word names, with the highest bit that is said of a text.
-fn given_form_named(
-    word: &str,
-    high: Option<&str>,
+fn given_form_named<'a>(
+    word: &'a str,
+    high: Option<&'a str>,
     file_system: FileSystem,
-) -> Option<Option<GivenForm>>
-    ensures { result ≡ given_form_named word.now (option_map (λ s. s.now) high.entry) file_system }
+) -> Result<Option<GivenForm>, Misfit<'a>>
+    ensures { Gives (λ f. f) (given_form_named word.now (option_map (λ s. s.now) high.entry) file_system) result }
 {
     match (word, high) {
-        ("text", high) => Some(Some(GivenForm::Text(high_said(file_system, high)?))),
-        ("applesoft", None) => Some(Some(GivenForm::Applesoft)),
-        ("single", None) => Some(Some(GivenForm::Single)),
-        _ => None,
+        ("text", high) => Ok(Some(GivenForm::Text(high_said(file_system, high)?))),
+        ("applesoft", None) => Ok(Some(GivenForm::Applesoft)),
+        ("single", None) => Ok(Some(GivenForm::Single)),
+        ("applesoft" | "single", Some(_)) => Err(Misfit::HighWithoutText),
+        _ => Err(Misfit::Value { name: "as", word }),
     }
 }
 
-// The form in which a new file is given; `None` in it is its bytes.
-fn given_form_said(
-    word: Option<&str>,
-    high: Option<&str>,
+// The form in which a new file is given; `None` is its bytes.
+fn given_form_said<'a>(
+    word: Option<&'a str>,
+    high: Option<&'a str>,
     file_system: FileSystem,
-) -> Option<Option<GivenForm>>
-    ensures { result ≡ given_form_said (option_map (λ s. s.now) word.entry) (option_map (λ s. s.now) high.entry)
-        file_system }
+) -> Result<Option<GivenForm>, Misfit<'a>>
+    ensures { Gives (λ f. f) (given_form_said (option_map (λ s. s.now) word.entry)
+        (option_map (λ s. s.now) high.entry) file_system) result }
 {
     match (word, high) {
         (Some(word), high) => given_form_named(word, high, file_system),
-        (None, None) => Some(None),
-        (None, Some(_)) => None,
+        (None, None) => Ok(None),
+        (None, Some(_)) => Err(Misfit::HighWithoutText),
     }
 }
 
 // The same as the words say it.
-fn given_form_in(matches: &ArgMatches<'_>) -> Option<Option<GivenForm>>
-    ensures { result ≡ given_form_by (rows_say (rows_of (found_of matches.now))) }
+fn given_form_in<'a>(given: &Given<'_, 'a>) -> Result<Option<GivenForm>, Misfit<'a>>
+    ensures { Gives (λ f. f) (given_form_by (said_of given.now)) result }
 {
-    let file_system = file_system_in(matches)?;
-    given_form_said(said(matches, "as"), said(matches, "high"), file_system)
+    let file_system = given.file_system()?;
+    given_form_said(given.said("as"), given.said("high"), file_system)
 }
 
 // Whether a file that is given so may have this auxiliary type: a program is made for one place.
@@ -120,47 +128,45 @@ fn is_loadable(form: Option<GivenForm>, aux: Option<u16>) -> bool
 }
 
 // What the words say of a new file with this auxiliary type.
-fn attributes_in(
+fn attributes_in<'a>(
     alloc: Global,
-    matches: &ArgMatches<'_>,
+    given: &Given<'_, 'a>,
     aux: Option<u16>,
-) -> Result<SaveAttributes, AllocError>
-    ensures { IfOk result (λ attributes. attributes_view attributes
-        ≡ attributes_by aux (rows_say (rows_of (found_of matches.now)))) }
+) -> Result<SaveAttributes, Misfit<'a>>
+    ensures attributes { IfOk result (λ attributes.
+        attributes_view attributes ≡ attributes_by aux (said_of given.now)) }
+    ensures memory { IfErr result (λ misfit. misfit ≡ Misfit.Memory) }
 {
     Ok(SaveAttributes {
-        kind: text_said(alloc, matches, "type")?,
+        kind: given.text(alloc, "type")?,
         aux,
-        date: text_said(alloc, matches, "date")?,
+        date: given.text(alloc, "date")?,
     })
 }
 
 // The change that is made by `save`.
-fn saving_in(alloc: Global, matches: &ArgMatches<'_>) -> Result<Option<Change>, AllocError>
-    ensures { IfOk result (λ change. option_map change_view change
-        ≡ save_by (rows_say (rows_of (found_of matches.now)))) }
+fn saving_in<'a>(alloc: Global, given: &Given<'_, 'a>) -> Result<Change, Misfit<'a>>
+    ensures { Gives change_view (save_by (said_of given.now)) result }
 {
-    let (Some(name), Some(aux)) = (said(matches, "name"), aux_named(said(matches, "aux"))) else {
-        return Ok(None);
-    };
-    let (Some(form), Some(from)) = (given_form_in(matches), said(matches, "from")) else {
-        return Ok(None);
-    };
+    let name = given.needed("name")?;
+    let aux = aux_named(given.said("aux"))?;
+    let form = given_form_in(given)?;
+    let from = given.needed("from")?;
     if !is_loadable(form, aux) {
-        return Ok(None);
+        return Err(Misfit::LoadedElsewhere);
     }
-    Ok(Some(Change::Save {
+    Ok(Change::Save {
         name: name.to_string(alloc)?,
-        attributes: attributes_in(alloc, matches, aux)?,
+        attributes: attributes_in(alloc, given, aux)?,
         form,
         from: from.to_string(alloc)?,
-        replace: has_flag(matches, "replace"),
-    }))
+        replace: given.has("replace"),
+    })
 }
 
-pub fn save_in(alloc: Global, matches: &ArgMatches<'_>) -> Result<Option<Ask>, AllocError>
-    ensures { IfOk result (λ ask. option_map ask_view ask
-        ≡ ask_by (codes "save") (rows_say (rows_of (found_of matches.now)))) }
+pub fn save_in<'a>(alloc: Global, given: &Given<'_, 'a>) -> Result<Ask, Misfit<'a>>
+    ensures { Gives ask_view (ask_by verbs.Save (said_of given.now)) result }
 {
-    change_in(alloc, matches, saving_in(alloc, matches)?)
+    let change = saving_in(alloc, given)?;
+    change_in(alloc, given, change)
 }

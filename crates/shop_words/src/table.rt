@@ -11,14 +11,26 @@ pub enum Values {
     Any,
     /// One of these words.
     OneOf(&'static [&'static str]),
+    /// One of these words, or one in whose place the program puts one of them.
+    Way {
+        words: &'static [&'static str],
+        stand_ins: &'static [&'static str],
+    },
     /// Decimal digits, of a number up to the greatest.
-    Number { greatest: u64 },
+    Number {
+        greatest: u64,
+    },
     /// Decimal digits, of a number from the least to the greatest.
-    Between { least: u64, greatest: u64 },
+    Between {
+        least: u64,
+        greatest: u64,
+    },
     /// A number of two bytes, in decimal digits or, behind `0x` or `$`, in hexadecimal ones.
     Address,
     /// Any word of up to so many bytes.
-    Short { most: usize },
+    Short {
+        most: usize,
+    },
 }
 
 /// How a parameter stands among the words of a command.
@@ -28,6 +40,9 @@ pub enum Kind {
     Positional,
     /// `--name VALUE`, which must be there.
     Needed(Values),
+    /// `--name VALUE`, which says in which way an image is read: it may be left to the image, where the command's
+    /// reading lets it.
+    Way(Values),
     /// `--name VALUE`, which may be left out.
     Optional(Values),
     /// `--name`, which may be left out.
@@ -42,10 +57,66 @@ pub struct Parameter {
     pub help: Help,
 }
 
-/// A command's name and its parameters; the positional ones are in the order of their words.
+/// What a command does.
+#[derive(Clone, Copy)]
+pub enum Verb {
+    Identify,
+    Survey,
+    Catalog,
+    List,
+    Map,
+    Check,
+    Compare,
+    Read,
+    Extract,
+    Save,
+    Add,
+    MakeDirectory,
+    Lock,
+    Unlock,
+    Rename,
+    Delete,
+    Reclaim,
+    Create,
+    Convert,
+    Wrap,
+    Unwrap,
+    Plan,
+    Optimize,
+    Verify,
+}
+
+/// When words may leave out in which way an image is read; it is then found.
+#[derive(Clone, Copy)]
+pub enum LeftOut {
+    /// Where they say `--auto`.
+    ByAuto,
+    /// Always.
+    Always,
+    /// Always, but where the image is changed in its own file; there by `--auto`.
+    UnlessInPlace,
+}
+
+/// Which ways to read an image the words of a command say.
+#[derive(Clone, Copy)]
+pub enum Reading {
+    /// None.
+    Nothing,
+    /// The file system and the order.
+    Volume(LeftOut),
+    /// The order alone.
+    Order(LeftOut),
+    /// The order alone, of an image that stands in no container.
+    Bare(LeftOut),
+}
+
+/// A command: its name, what it does, how its words say in which way its image is read, and its parameters; the
+/// positional ones are in the order of their words.
 #[derive(Clone, Copy)]
 pub struct Form {
     pub name: &'static str,
+    pub verb: Verb,
+    pub reading: Reading,
     pub parameters: &'static [Parameter],
 }
 
@@ -69,21 +140,32 @@ const NEW: Parameter = Parameter {
 
 const FILE_SYSTEM: Parameter = Parameter {
     name: "fs",
-    kind: Kind::Needed(Values::OneOf(&["dos", "prodos"])),
+    kind: Kind::Way(Values::Way {
+        words: &["dos", "prodos"],
+        stand_ins: &["auto"],
+    }),
     help: Help::FileSystem,
 };
 
 const ORDERS: Values = Values::OneOf(&["dos", "prodos", "nibble"]);
 
+const IMAGE_ORDERS: Values = Values::Way {
+    words: &["dos", "prodos", "nibble"],
+    stand_ins: &["auto", "2img"],
+};
+
 const ORDER: Parameter = Parameter {
     name: "order",
-    kind: Kind::Needed(ORDERS),
+    kind: Kind::Way(IMAGE_ORDERS),
     help: Help::Order,
 };
 
 const IMAGE_ORDER: Parameter = Parameter {
     name: "order",
-    kind: Kind::Needed(ORDERS),
+    kind: Kind::Way(Values::Way {
+        words: &["dos", "prodos", "nibble"],
+        stand_ins: &["auto"],
+    }),
     help: Help::ImageOrder,
 };
 
@@ -121,6 +203,12 @@ const DATA_DISK: Parameter = Parameter {
     name: "data-disk",
     kind: Kind::Flag,
     help: Help::DataDisk,
+};
+
+const UNUSED_DATA_DISK: Parameter = Parameter {
+    name: "data-disk",
+    kind: Kind::Flag,
+    help: Help::UnusedDataDisk,
 };
 
 const RESERVE: Parameter = Parameter {
@@ -264,7 +352,7 @@ const OTHER: Parameter = Parameter {
 
 const OTHER_ORDER: Parameter = Parameter {
     name: "other-order",
-    kind: Kind::Optional(ORDERS),
+    kind: Kind::Optional(IMAGE_ORDERS),
     help: Help::OtherOrder,
 };
 
@@ -429,7 +517,10 @@ const FILES_DATE: Parameter = Parameter {
 
 const ONLY_PRODOS: Parameter = Parameter {
     name: "fs",
-    kind: Kind::Optional(Values::OneOf(&["prodos"])),
+    kind: Kind::Optional(Values::Way {
+        words: &["prodos"],
+        stand_ins: &["auto"],
+    }),
     help: Help::OnlyProdos,
 };
 
@@ -448,10 +539,14 @@ const DIRECTORY_DATE: Parameter = Parameter {
 const FORMS: &[Form] = &[
     Form {
         name: "catalog",
+        verb: Verb::Catalog,
+        reading: Reading::Volume(LeftOut::ByAuto),
         parameters: &[IMAGE, FILE_SYSTEM, ORDER, DATA_DISK],
     },
     Form {
         name: "list",
+        verb: Verb::List,
+        reading: Reading::Volume(LeftOut::Always),
         parameters: &[
             IMAGE,
             FILE_SYSTEM,
@@ -465,6 +560,8 @@ const FORMS: &[Form] = &[
     },
     Form {
         name: "compare",
+        verb: Verb::Compare,
+        reading: Reading::Volume(LeftOut::Always),
         parameters: &[
             IMAGE,
             OTHER,
@@ -478,14 +575,20 @@ const FORMS: &[Form] = &[
     },
     Form {
         name: "map",
+        verb: Verb::Map,
+        reading: Reading::Volume(LeftOut::Always),
         parameters: &[IMAGE, FILE_SYSTEM, ORDER, DATA_DISK, RESERVE],
     },
     Form {
         name: "check",
+        verb: Verb::Check,
+        reading: Reading::Volume(LeftOut::ByAuto),
         parameters: &[IMAGE, FILE_SYSTEM, ORDER, BODIES, DATA_DISK, RESERVE],
     },
     Form {
         name: "read",
+        verb: Verb::Read,
+        reading: Reading::Volume(LeftOut::ByAuto),
         parameters: &[
             IMAGE,
             NAME,
@@ -500,6 +603,8 @@ const FORMS: &[Form] = &[
     },
     Form {
         name: "extract",
+        verb: Verb::Extract,
+        reading: Reading::Volume(LeftOut::Always),
         parameters: &[
             IMAGE,
             FILE_SYSTEM,
@@ -513,10 +618,14 @@ const FORMS: &[Form] = &[
     },
     Form {
         name: "convert",
-        parameters: &[IMAGE, ORDER, TO, OUT, VOLUME, DATA_DISK],
+        verb: Verb::Convert,
+        reading: Reading::Order(LeftOut::ByAuto),
+        parameters: &[IMAGE, ORDER, TO, OUT, VOLUME, UNUSED_DATA_DISK],
     },
     Form {
         name: "plan",
+        verb: Verb::Plan,
+        reading: Reading::Volume(LeftOut::ByAuto),
         parameters: &[
             IMAGE,
             FILE_SYSTEM,
@@ -529,6 +638,8 @@ const FORMS: &[Form] = &[
     },
     Form {
         name: "optimize",
+        verb: Verb::Optimize,
+        reading: Reading::Volume(LeftOut::ByAuto),
         parameters: &[
             IMAGE,
             FILE_SYSTEM,
@@ -544,18 +655,26 @@ const FORMS: &[Form] = &[
     },
     Form {
         name: "lock",
+        verb: Verb::Lock,
+        reading: Reading::Volume(LeftOut::ByAuto),
         parameters: EDIT,
     },
     Form {
         name: "unlock",
+        verb: Verb::Unlock,
+        reading: Reading::Volume(LeftOut::ByAuto),
         parameters: EDIT,
     },
     Form {
         name: "delete",
+        verb: Verb::Delete,
+        reading: Reading::Volume(LeftOut::ByAuto),
         parameters: EDIT,
     },
     Form {
         name: "rename",
+        verb: Verb::Rename,
+        reading: Reading::Volume(LeftOut::ByAuto),
         parameters: &[
             IMAGE,
             NAME,
@@ -571,6 +690,8 @@ const FORMS: &[Form] = &[
     },
     Form {
         name: "save",
+        verb: Verb::Save,
+        reading: Reading::Volume(LeftOut::ByAuto),
         parameters: &[
             IMAGE,
             NAME,
@@ -591,26 +712,38 @@ const FORMS: &[Form] = &[
     },
     Form {
         name: "verify",
+        verb: Verb::Verify,
+        reading: Reading::Volume(LeftOut::ByAuto),
         parameters: &[IMAGE, FILE_SYSTEM, ORDER, FROM, DATA_DISK, RESERVE, RECLAIM],
     },
     Form {
         name: "identify",
+        verb: Verb::Identify,
+        reading: Reading::Nothing,
         parameters: &[IMAGE],
     },
     Form {
         name: "wrap",
+        verb: Verb::Wrap,
+        reading: Reading::Bare(LeftOut::Always),
         parameters: &[IMAGE, IMAGE_ORDER, CONTAINER, COMMENT, TOLD_VOLUME, PROTECT],
     },
     Form {
         name: "unwrap",
+        verb: Verb::Unwrap,
+        reading: Reading::Nothing,
         parameters: &[IMAGE, PAYLOAD],
     },
     Form {
         name: "survey",
+        verb: Verb::Survey,
+        reading: Reading::Nothing,
         parameters: &[PATH, SURVEY_FORMAT],
     },
     Form {
         name: "create",
+        verb: Verb::Create,
+        reading: Reading::Nothing,
         parameters: &[
             NEW_FILE_SYSTEM,
             NEW_ORDER,
@@ -625,6 +758,8 @@ const FORMS: &[Form] = &[
     },
     Form {
         name: "reclaim",
+        verb: Verb::Reclaim,
+        reading: Reading::Volume(LeftOut::UnlessInPlace),
         parameters: &[
             IMAGE,
             FILE_SYSTEM,
@@ -637,6 +772,8 @@ const FORMS: &[Form] = &[
     },
     Form {
         name: "add",
+        verb: Verb::Add,
+        reading: Reading::Volume(LeftOut::Always),
         parameters: &[
             IMAGE,
             FILE_SYSTEM,
@@ -651,6 +788,8 @@ const FORMS: &[Form] = &[
     },
     Form {
         name: "mkdir",
+        verb: Verb::MakeDirectory,
+        reading: Reading::Order(LeftOut::UnlessInPlace),
         parameters: &[
             IMAGE,
             NEW_DIRECTORY,

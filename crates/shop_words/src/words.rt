@@ -1,67 +1,109 @@
 //! What the words of a command line ask for.
-ghost use Rattle.std.specs.Prelude.{◌≡◌, [], IfErr, IfOk, IsSome, List, map, Some};
-ghost use Rattle.std.specs.Prelude.{string_bytes, true};
-ghost use Rattle.clap.specs.Simple.{subcommand_of};
+ghost use Rattle.std.specs.Prelude.{◌≡◌, [], IfErr, IfOk, IsSome, List, map, Some, string_bytes, true};
+ghost use Rattle.std.specs.List.{list_any};
+ghost use Rattle.clap.specs.Faults.{fault_of};
+ghost use Rattle.clap.specs.Kinds.{FailsBy};
+ghost use Rattle.clap.specs.Matches.{found_of};
+ghost use Rattle.clap.specs.Simple.{matches_of, subcommand_of, subcommand_rows_of};
 ghost use Rattle.clap.specs.Takes.{takes};
+ghost use Rattle.clap.specs.Values.{kind_of};
+ghost use Rattle.clap.specs.Walk.{rows_of};
 ghost use Rattle.shop_words.specs.Table.{FormView, Text};
-ghost use Rattle.shop_words.specs.Fault.{IsFaultIn, IsFaultOf};
+ghost use Rattle.shop_words.specs.Asked.{IsTaken, asked_job, asked_list, asked_view, is_explain_word};
+ghost use Rattle.shop_words.specs.Fault.{IsFaultIn, IsFaultOf, ends_of};
 ghost use Rattle.shop_words.specs.Grammar.{shop};
 ghost use Rattle.shop_jobs.specs.Job.{job_view};
-ghost use Rattle.shop_words.specs.Job.{asked_job, found_job, IsTaken, line_job};
+ghost use Rattle.shop_words.specs.Job.{line_job, meant_words, standard_words};
 ghost use Rattle.shop_words.specs.Plain.{IsLine, IsPlain, Use};
 
-use crate::asking::job_in;
+use crate::asked::{Asked, UNSETTLED, asked_in};
 use crate::fault::WordsFault;
 use crate::grammar::program;
-use crate::refusal::{misfit_text, refusal};
-use a2_device::Order;
-use shop_jobs::{Ask, FileSystem, Job, Look, VolumeOptions};
-use std::alloc::{AllocError, Global};
+use crate::telling::{open_fault, refusal, stray_fault};
+use clap::error::ErrorKind;
+use clap::{ArgMatches, Error};
+use shop_jobs::Job;
+use std::alloc::Global;
+use std::convert::AsStr;
 
-/// The job of `catalog --fs dos --order dos -`.
-fn standard_job(alloc: Global) -> Result<Job, AllocError>
-    ensures { IfOk result (λ job. asked_job [] ≡ Some (job_view job)) }
+/// What no words stand for.
+const STANDARD_WORDS: &[&str] = &["catalog", "--fs", "dos", "--order", "dos", "-"];
+
+// What clap finds in words.
+fn matches_in<'a, S: AsStr>(alloc: Global, words: &'a [S]) -> Result<ArgMatches<'a>, Error>
+    ensures found { IfOk result (λ m. (rows_of (found_of m) ≡ matches_of shop (map S.text words.now))
+        × (subcommand_rows_of m ≡ subcommand_of shop (map S.text words.now))) }
+    ensures taken { takes shop (map S.text words.now) ≡ true
+        → IfErr result (λ e. kind_of e ≡ ErrorKind.OutOfMemory) }
+    ensures kinds { FailsBy (fault_of shop (map S.text words.now)) result }
 {
-    Ok(Job {
-        image: "-".to_string(alloc)?,
-        ask: Ask::Look {
-            volume: VolumeOptions {
-                file_system: FileSystem::Dos,
-                order: Order::Dos,
-                data_disk: false,
-            },
-            reserve: None,
-            look: Look::Catalog,
-        },
-    })
+    program(alloc)?.try_get_matches_from(words)
 }
 
-/// The job of words that are there.
-fn job_of(alloc: Global, words: &[String]) -> Result<Job, WordsFault>
-    ensures job { IfOk result (λ job.
-        found_job (subcommand_of shop (map string_bytes words.now)) ≡ Some (job_view job)) }
-    ensures taken { takes shop (map string_bytes words.now) ≡ true
-        → IsSome (found_job (subcommand_of shop (map string_bytes words.now)))
-        → IfErr result (λ e. e ≡ WordsFault.Memory) }
-    ensures fault { IfErr result (IsFaultIn (map string_bytes words.now)) }
+// The same of the words that a list stands for.
+fn meant_matches<'a>(alloc: Global, words: &'a [String]) -> Result<ArgMatches<'a>, Error>
+    ensures found { IfOk result (λ m.
+        (rows_of (found_of m) ≡ matches_of shop (meant_words (map string_bytes words.now)))
+        × (subcommand_rows_of m ≡ subcommand_of shop (meant_words (map string_bytes words.now)))) }
+    ensures taken { takes shop (meant_words (map string_bytes words.now)) ≡ true
+        → IfErr result (λ e. kind_of e ≡ ErrorKind.OutOfMemory) }
+    ensures kinds { FailsBy (fault_of shop (meant_words (map string_bytes words.now))) result }
 {
-    let matches = match program(alloc)?.try_get_matches_from(words) {
-        Ok(matches) => matches,
-        Err(error) => return Err(refusal(alloc, words, &error)),
-    };
-    match job_in(alloc, &matches)? {
-        Some(job) => Ok(job),
-        None => Err(WordsFault::Refused(misfit_text(alloc, &matches)?)),
+    if words.is_empty() {
+        matches_in(alloc, STANDARD_WORDS)
+    } else {
+        matches_in(alloc, words)
     }
 }
 
-/// The job that the words after the program's name ask for; with no word it is that of
-/// `catalog --fs dos --order dos -`.
+/// What the words after the program's name ask for; with no word it is `catalog --fs dos --order dos -`.
 ///
-/// `Help` has the help that was asked for, `Refused` the text for the user: what is wrong, and the
-/// usage; words of the user that stand in it have their control characters escaped. A plain list
-/// is never refused. Beyond the plain lists, words are taken as `clap` takes them: `--name=value`,
+/// # Errors
+/// `Help` has the help that was asked for, `Refused` the text for the user: what is wrong, and the usage; words of the
+/// user that stand in it have their control characters escaped. `Memory` is want of memory.
+pub fn read_words<'a>(alloc: Global, words: &'a [String]) -> Result<Asked<'a>, WordsFault>
+    ensures asked { IfOk result (λ asked. asked_list (map string_bytes words.now) ≡ Some (asked_view asked)) }
+    ensures ends { IfOk result (λ _. ends_of (meant_words (map string_bytes words.now)) ≡ []) }
+
+    // words that clap takes and that are those of a command are refused for want of memory alone
+    ensures taken { takes shop (meant_words (map string_bytes words.now)) ≡ true
+        → IsSome (asked_list (map string_bytes words.now))
+        → IfErr result (λ e. e ≡ WordsFault.Memory) }
+
+    // help is told of words that may ask for it, and a refusal of words that are refused
+    ensures fault { IfErr result (IsFaultIn (map string_bytes words.now)) }
+{
+    let matches = match meant_matches(alloc, words) {
+        Ok(matches) => matches,
+        Err(error) => return Err(refusal(alloc, words, &error)),
+    };
+    match asked_in(matches) {
+        Some(asked) => Ok(asked),
+        None => Err(stray_fault(alloc)),
+    }
+}
+
+fn is_explain(word: &String) -> bool
+    ensures { result ≡ is_explain_word (string_bytes word.now) }
+{
+    word.as_str() == "--explain"
+}
+
+/// Whether words that are refused ask for an explanation: one of them is `--explain`.
+pub fn asks_explain(words: &[String]) -> bool
+    ensures { result ≡ list_any (λ word. is_explain_word (string_bytes word)) words.now }
+{
+    words.iter().any(|word| is_explain(word))
+}
+
+/// The job that the words after the program's name ask for, where they leave nothing to the images.
+///
+/// A plain list is never refused. Beyond the plain lists, words are taken as `clap` takes them: `--name=value`,
 /// and options before positional words.
+///
+/// # Errors
+/// Those of `read_words`. `Refused` has also what is wrong with words that are no job, or that leave to an image how
+/// it is read.
 pub fn parse_words(alloc: Global, words: &[String]) -> Result<Job, WordsFault>
     ensures job { IfOk result (λ job.
         asked_job (map string_bytes words.now) ≡ Some (job_view job)) }
@@ -82,9 +124,12 @@ pub fn parse_words(alloc: Global, words: &[String]) -> Result<Job, WordsFault>
         → IsLine (map string_bytes words.now) f positionals uses
         → IfOk result (λ job. line_job f positionals uses ≡ Some (job_view job)) }
 {
-    if words.is_empty() {
-        Ok(standard_job(alloc)?)
-    } else {
-        job_of(alloc, words)
+    let asked = match read_words(alloc, words) {
+        Ok(asked) => asked,
+        Err(fault) => return Err(fault),
+    };
+    if !asked.left_open().is_none() {
+        return Err(open_fault(alloc));
     }
+    asked.job(alloc, UNSETTLED)
 }

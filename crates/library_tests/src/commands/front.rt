@@ -1,191 +1,195 @@
-// Lists of words, and what is left of them.
+// What lists of words ask for, what they leave to the images, and the job with what these have.
+use crate::commands::answer::words_of;
+use a2_device::Order;
+use shop_jobs::{Ask, FileSystem, Job, image_order, volume_of};
 use shop_words::{
-    AutoOption, StandIn, asks_explain, asks_for, asks_version, filled_in, in_place, without_explain,
+    LeftOpen, StandIn, UNSETTLED, Ways, WordsFault, asks_explain, parse_words, read_words,
 };
-use std::alloc::{AllocError, Global};
+use std::alloc::Global;
+use std::process::Abort;
 use std::test::Fail;
 
-/// The words of a line.
-fn words_of(alloc: Global, line: &str) -> Result<Vec<String>, AllocError> {
-    let mut words = Vec::new(alloc);
-    for word in line.split(' ') {
-        words.push(word.to_string(alloc)?)?;
+/// Ways in which no image is read by default.
+const FOUND: Ways = Ways {
+    file_system: FileSystem::Prodos,
+    order: Order::Nibble,
+    other_order: Order::Prodos,
+};
+
+fn is_auto(left: Option<StandIn>) -> bool {
+    matches!(left, Some(StandIn::Auto))
+}
+
+fn is_container(left: Option<StandIn>) -> bool {
+    matches!(left, Some(StandIn::Container))
+}
+
+/// What the words of a line leave to the images.
+fn left_by(alloc: Global, line: &str) -> Result<LeftOpen, WordsFault> {
+    let words = words_of(alloc, line)?;
+    match read_words(alloc, words.as_slice()) {
+        Ok(asked) => Ok(asked.left_open()),
+        Err(fault) => Err(fault),
     }
-    Ok(words)
 }
 
-/// Words as a line, with a space behind each.
-fn line_of(alloc: Global, words: &[String]) -> Result<String, AllocError> {
-    let mut line = String::new(alloc);
-    for word in words {
-        line.push_str(word.as_str())?;
-        line.push_str(" ")?;
+/// The job of a line, where the images are read in these ways.
+fn job_of(alloc: Global, line: &str, ways: Ways) -> Result<Job, WordsFault> {
+    let words = words_of(alloc, line)?;
+    match read_words(alloc, words.as_slice()) {
+        Ok(asked) => asked.job(alloc, ways),
+        Err(fault) => Err(fault),
     }
-    Ok(line)
 }
 
-#[test]
-fn an_order_takes_the_place_of_auto(rt: HostRuntime) -> Result<(), Fail> {
-    let words = words_of(rt.alloc(), "read - auto --fs auto --order auto")?;
-    assert!(rt; asks_for(words.as_slice(), AutoOption::Order, StandIn::Auto));
-    let put = in_place(
-        rt.alloc(),
-        words.as_slice(),
-        AutoOption::Order,
-        StandIn::Auto,
-        "nibble",
-    )?;
-    assert!(rt;
-        line_of(rt.alloc(), put.as_slice())?.as_str() == "read - auto --fs auto --order nibble "
-    );
+/// The words leave both to the image, or nothing.
+fn leaves(rt: &impl Abort, alloc: Global, line: &str, both: bool) -> Result<(), WordsFault> {
+    let left = left_by(alloc, line)?;
+    assert!(rt; left.file_system == both, "for {line}");
+    assert!(rt; is_auto(left.order) == both, "for {line}");
+    assert!(rt; left.is_none() != both, "for {line}");
     Ok(())
 }
 
 #[test]
-fn auto_may_be_one_word_with_its_option(rt: HostRuntime) -> Result<(), Fail> {
-    let words = words_of(rt.alloc(), "check --fs=auto --order=dos auto --out auto")?;
-    assert!(rt; asks_for(words.as_slice(), AutoOption::FileSystem, StandIn::Auto));
-    assert!(rt; !asks_for(words.as_slice(), AutoOption::Order, StandIn::Auto));
-    let put = in_place(
-        rt.alloc(),
-        words.as_slice(),
-        AutoOption::FileSystem,
-        StandIn::Auto,
-        "prodos",
-    )?;
-    assert!(rt;
-        line_of(rt.alloc(), put.as_slice())?.as_str()
-            == "check --fs=prodos --order=dos auto --out auto "
-    );
-    Ok(())
-}
-
-#[test]
-fn an_order_takes_the_place_of_that_of_a_container(rt: HostRuntime) -> Result<(), Fail> {
-    let words = words_of(rt.alloc(), "read 2img --order 2img --order=2img --to 2img")?;
-    assert!(rt; asks_for(words.as_slice(), AutoOption::Order, StandIn::Container));
-    assert!(rt; !asks_for(words.as_slice(), AutoOption::Order, StandIn::Auto));
-    assert!(rt; !asks_for(words.as_slice(), AutoOption::OtherOrder, StandIn::Container));
-    let put = in_place(
-        rt.alloc(),
-        words.as_slice(),
-        AutoOption::Order,
-        StandIn::Container,
-        "dos",
-    )?;
-    assert!(rt;
-        line_of(rt.alloc(), put.as_slice())?.as_str()
-            == "read 2img --order dos --order=dos --to 2img "
-    );
-    Ok(())
-}
-
-// What `--auto` makes of the words of a line, as a line.
-fn filled_in_line(alloc: Global, line: &str) -> Result<String, AllocError> {
-    let filled = filled_in(alloc, words_of(alloc, line)?)?;
-    line_of(alloc, filled.as_slice())
-}
-
-#[test]
-fn what_is_left_out_is_auto(rt: HostRuntime) -> Result<(), Fail> {
-    for (line, wanted) in [
-        ("catalog a --auto", "catalog a --fs auto --order auto "),
-        (
-            "--auto check --auto a --fs dos",
-            "check a --fs dos --order auto ",
-        ),
-        (
-            "check a --order=dos --auto",
-            "check a --order=dos --fs auto ",
-        ),
-        (
-            "convert a --to dos --auto",
-            "convert a --to dos --order auto ",
-        ),
-        ("read --auto -- a b", "read --fs auto --order auto -- a b "),
-        ("identify a --auto", "identify a "),
-        ("reclaim a", "reclaim a --fs auto --order auto "),
-        ("reclaim a --in-place", "reclaim a --in-place "),
-        (
-            "reclaim a --in-place --auto",
-            "reclaim a --in-place --fs auto --order auto ",
-        ),
-        ("mkdir a SUB", "mkdir a SUB --fs auto --order auto "),
-        (
-            "mkdir a SUB --fs prodos",
-            "mkdir a SUB --fs prodos --order auto ",
-        ),
-        ("mkdir a SUB --in-place", "mkdir a SUB --in-place "),
-        (
-            "mkdir a SUB --in-place --auto",
-            "mkdir a SUB --in-place --fs auto --order auto ",
-        ),
-        ("create --auto --fs dos", "create --auto --fs dos "),
-        ("--auto create --fs dos", "--auto create --fs dos "),
-        ("list a", "list a --fs auto --order auto "),
-        ("list a --order dos --auto", "list a --order dos --fs auto "),
-        ("--auto list a --fs=dos", "list a --fs=dos --order auto "),
-        (
-            "compare a b",
-            "compare a b --fs auto --order auto --other-order auto ",
-        ),
-        (
-            "compare a b --order dos",
-            "compare a b --order dos --fs auto ",
-        ),
-        (
-            "compare a b --other-order dos",
-            "compare a b --other-order dos --fs auto --order auto ",
-        ),
-        (
-            "compare a b --fs dos --order=auto",
-            "compare a b --fs dos --order=auto --other-order auto ",
-        ),
-        (
-            "extract a --into out",
-            "extract a --into out --fs auto --order auto ",
-        ),
-        (
-            "add a --from files --out new",
-            "add a --from files --out new --fs auto --order auto ",
-        ),
-        (
-            "compare a b --fs dos --order 2img",
-            "compare a b --fs dos --order 2img --other-order 2img ",
-        ),
-        ("wrap a --out b", "wrap a --out b --order auto "),
-        ("unwrap a --out b", "unwrap a --out b "),
-        ("catalog list", "catalog list "),
-        ("frobnicate a --auto", "frobnicate a "),
-        ("--auto", "--auto "),
-        ("--auto --auto", "--auto --auto "),
-        ("catalog a --automatic", "catalog a --automatic "),
+fn what_is_left_out_is_found(rt: HostRuntime) -> Result<(), Fail> {
+    for line in [
+        "catalog a --auto",
+        "--auto catalog a",
+        "--auto catalog a --auto --auto",
+        "list a",
+        "map a",
+        "reclaim a --out b",
+        "reclaim a --in-place --auto",
+        "read a NAME --fs auto --order auto",
+        "read a NAME --fs=auto --order=auto",
     ] {
-        assert!(rt;
-            filled_in_line(rt.alloc(), line)?.as_str() == wanted,
-            "for {line}"
-        );
+        leaves(&rt, rt.alloc(), line, true)?;
+    }
+    for line in [
+        "catalog a --fs dos --order dos",
+        "catalog a --fs dos --order dos --auto",
+        "reclaim a --in-place --fs dos --order dos",
+        "identify a --auto",
+        "survey a",
+        "create --fs dos --out b",
+    ] {
+        leaves(&rt, rt.alloc(), line, false)?;
     }
     Ok(())
 }
 
 #[test]
-fn explain_is_taken_out_wherever_it_stands(rt: HostRuntime) -> Result<(), Fail> {
-    let words = words_of(rt.alloc(), "--explain read --explained a --from --explain")?;
-    assert!(rt; asks_explain(words.as_slice()));
-    let left = without_explain(words);
-    assert!(rt; !asks_explain(left.as_slice()));
-    assert!(rt; line_of(rt.alloc(), left.as_slice())?.as_str() == "read --explained a --from ");
+fn one_of_both_may_be_said(rt: HostRuntime) -> Result<(), Fail> {
+    let left = left_by(rt.alloc(), "check a --fs dos --auto")?;
+    assert!(rt; !left.file_system && is_auto(left.order));
+    let left = left_by(rt.alloc(), "check a --order nibble --fs auto")?;
+    assert!(rt; left.file_system && left.order.is_none());
+    let left = left_by(rt.alloc(), "check a --fs dos --order 2img")?;
+    assert!(rt; !left.file_system && is_container(left.order));
     Ok(())
 }
 
 #[test]
-fn the_version_is_asked_for_by_one_word(rt: HostRuntime) -> Result<(), Fail> {
+fn the_other_image_follows_the_one(rt: HostRuntime) -> Result<(), Fail> {
+    let left = left_by(rt.alloc(), "compare a b")?;
+    assert!(rt; is_auto(left.order) && is_auto(left.other_order));
+    let left = left_by(rt.alloc(), "compare a b --order 2img")?;
+    assert!(rt; is_container(left.order) && is_container(left.other_order));
+    let left = left_by(rt.alloc(), "compare a b --order dos")?;
+    assert!(rt; left.order.is_none() && left.other_order.is_none());
+    let left = left_by(rt.alloc(), "compare a b --order dos --other-order auto")?;
+    assert!(rt; left.order.is_none() && is_auto(left.other_order));
+    Ok(())
+}
+
+#[test]
+fn a_directory_is_of_prodos(rt: HostRuntime) -> Result<(), Fail> {
+    let left = left_by(rt.alloc(), "add a --from b --out c --into SUB")?;
+    assert!(rt; !left.file_system && is_auto(left.order));
+    let left = left_by(rt.alloc(), "mkdir a SUB --out c")?;
+    assert!(rt; !left.file_system && is_auto(left.order));
+    let left = left_by(rt.alloc(), "convert a --to dos --out c --auto")?;
+    assert!(rt; !left.file_system && is_auto(left.order));
+    Ok(())
+}
+
+#[test]
+fn the_job_has_what_the_image_has(rt: HostRuntime) -> Result<(), Fail> {
+    let job = job_of(rt.alloc(), "catalog a --auto", FOUND)?;
+    assert!(rt; image_order(&job) == Some(Order::Nibble));
+    assert!(rt; matches!(volume_of(&job), Some(volume) if volume.file_system == FileSystem::Prodos));
+    let job = job_of(rt.alloc(), "catalog a --fs dos --auto", FOUND)?;
+    assert!(rt; matches!(volume_of(&job), Some(volume) if volume.file_system == FileSystem::Dos));
+    let job = job_of(rt.alloc(), "wrap a --out b", FOUND)?;
+    assert!(rt; matches!(&job.ask, Ask::Wrap { options, .. } if options.order == Order::Nibble));
+    Ok(())
+}
+
+/// The words of a line are refused, with this in the text.
+fn refuses(rt: &impl Abort, alloc: Global, line: &str, wrong: &str) -> Result<(), WordsFault> {
+    match job_of(alloc, line, UNSETTLED) {
+        Err(WordsFault::Refused(text)) => {
+            assert!(rt; text.as_str().contains(wrong), "{text}");
+        }
+        Ok(_) | Err(WordsFault::Help(_) | WordsFault::Memory) => {
+            assert!(rt; false, "for {line}");
+        }
+    }
+    Ok(())
+}
+
+#[test]
+fn what_may_not_be_left_out_is_named(rt: HostRuntime) -> Result<(), Fail> {
+    refuses(&rt, rt.alloc(), "catalog a", "or say --auto\n")?;
+    refuses(&rt, rt.alloc(), "catalog a", "  --fs <FS>\n  --order <ORDER>")?;
+    refuses(&rt, rt.alloc(), "reclaim a --in-place", "or say --auto\n")?;
+    refuses(&rt, rt.alloc(), "create --fs auto --out b", "'auto'")?;
+    refuses(&rt, rt.alloc(), "--auto create --fs dos --out b", "'--auto'")?;
+    refuses(&rt, rt.alloc(), "wrap a --order 2img --out b", "'2img'")?;
+    Ok(())
+}
+
+#[test]
+fn words_of_a_job_leave_nothing_open(rt: HostRuntime) -> Result<(), Fail> {
+    let words = words_of(rt.alloc(), "catalog a --auto")?;
+    assert!(rt; matches!(
+        parse_words(rt.alloc(), words.as_slice()),
+        Err(WordsFault::Refused(_))
+    ));
+    Ok(())
+}
+
+fn is_explained(alloc: Global, line: &str) -> Result<bool, WordsFault> {
+    let words = words_of(alloc, line)?;
+    match read_words(alloc, words.as_slice()) {
+        Ok(asked) => Ok(asked.is_explained()),
+        Err(fault) => Err(fault),
+    }
+}
+
+#[test]
+fn an_explanation_is_asked_for_anywhere(rt: HostRuntime) -> Result<(), Fail> {
+    for line in [
+        "--explain catalog a --auto",
+        "catalog --explain a --auto --explain",
+    ] {
+        assert!(rt; is_explained(rt.alloc(), line)?, "for {line}");
+    }
+    assert!(rt; !is_explained(rt.alloc(), "catalog a --auto")?);
+    assert!(rt; !is_explained(rt.alloc(), "read a --auto -- --explain")?);
+    assert!(rt; asks_explain(words_of(rt.alloc(), "none --explain")?.as_slice()));
+    assert!(rt; !asks_explain(words_of(rt.alloc(), "none --help")?.as_slice()));
+    Ok(())
+}
+
+#[test]
+fn the_version_is_told(rt: HostRuntime) -> Result<(), Fail> {
     for line in ["--version", "-V"] {
-        assert!(rt; asks_version(words_of(rt.alloc(), line)?.as_slice()));
-    }
-    for line in ["", "-v", "--version 1", "check --version"] {
-        assert!(rt; !asks_version(words_of(rt.alloc(), line)?.as_slice()));
+        match job_of(rt.alloc(), line, UNSETTLED) {
+            Err(WordsFault::Help(text)) => assert!(rt; text.as_str() == "a2shop 1.0.0\n"),
+            _ => assert!(rt; false, "for {line}"),
+        }
     }
     Ok(())
 }

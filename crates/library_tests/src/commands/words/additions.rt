@@ -78,7 +78,7 @@ fn words_that_add_no_files_are_refused(rt: HostRuntime) {
         ),
         (
             "add a.po --fs dos --order dos --from files --out new --into SUB",
-            "the argument '--into <into>' can only be used with '--fs prodos'",
+            "the argument '--into <DIRECTORY>' can only be used with '--fs prodos'",
         ),
         (
             "add a.po --fs dos --order dos --from files --from more --out new",

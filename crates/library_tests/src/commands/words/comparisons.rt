@@ -67,7 +67,7 @@ fn a_comparison_names_two_images(rt: HostRuntime) -> Result<(), Fail> {
 #[test]
 fn words_that_compare_nothing_are_refused(rt: HostRuntime) {
     for (line, wrong) in [
-        ("compare a.dsk --fs dos --order dos", "<other>"),
+        ("compare a.dsk --fs dos --order dos", "<OTHER>"),
         ("compare a.dsk b.dsk --fs dos", "--order"),
         ("compare - - --fs dos --order dos", "-"),
         (

@@ -62,7 +62,7 @@ fn a_comment_may_have_so_many_bytes(rt: HostRuntime) -> Result<(), Fail> {
     };
     wraps(&rt, rt.alloc(), longest.as_str(), options)?;
     let longer = format!(in rt.alloc(); "{longest}x")?;
-    let wrong = "for '--comment <comment>'\n  [a text of up to 65472 bytes]";
+    let wrong = "for '--comment <TEXT>'\n  [a text of up to 65472 bytes]";
     refuses(&rt, rt.alloc(), longer.as_str(), wrong, WRAP_USAGE);
     Ok(())
 }
@@ -71,6 +71,6 @@ fn a_comment_may_have_so_many_bytes(rt: HostRuntime) -> Result<(), Fail> {
 fn a_container_is_not_put_into_one(rt: HostRuntime) {
     let line = "wrap a.dsk --order 2img --out b.2mg";
     let wrong =
-        "invalid value '2img' for '--order <order>'\n  [possible values: auto, dos, prodos, nibble]";
+        "invalid value '2img' for '--order <ORDER>'\n  [possible values: auto, dos, prodos, nibble]";
     refuses(&rt, rt.alloc(), line, wrong, WRAP_USAGE);
 }

@@ -58,7 +58,7 @@ fn a_conversion_has_a_volume_number(rt: HostRuntime) -> Result<(), Fail> {
 fn refuses_volume(rt: &impl Abort, alloc: Global, word: &str) -> Result<(), AllocError> {
     let more = format!(in alloc; "--volume {word}")?;
     let wrong = format!(in alloc;
-        "invalid value '{word}' for '--volume <volume>'\n  [a number from 0 to 255]"
+        "invalid value '{word}' for '--volume <N>'\n  [a number from 0 to 255]"
     )?;
     refuses_conversion(rt, alloc, more.as_str(), wrong.as_str())
 }
@@ -76,7 +76,7 @@ fn other_volume_numbers_are_refused(rt: HostRuntime) -> Result<(), Fail> {
 fn a_conversion_takes_no_other_words(rt: HostRuntime) -> Result<(), Fail> {
     for (more, wrong) in [
         ("--fs dos", "'--fs'"),
-        ("--to dos", "'--to <to>' cannot be used multiple times"),
+        ("--to dos", "'--to <ORDER>' cannot be used multiple times"),
         ("c.dsk", "'c.dsk'"),
     ] {
         refuses_conversion(&rt, rt.alloc(), more, wrong)?;

@@ -81,15 +81,15 @@ fn words_that_no_volume_has_are_refused(rt: HostRuntime) {
     for (line, wrong) in [
         (
             "create --fs prodos --out new --blocks 15",
-            "for '--blocks <blocks>'\n  [a number from 16 to 65535]",
+            "for '--blocks <N>'\n  [a number from 16 to 65535]",
         ),
         (
             "create --fs dos --out new --name A",
-            "'--name <name>' can only be used with '--fs prodos'",
+            "'--name <NAME>' can only be used with '--fs prodos'",
         ),
         (
             "create --fs dos --out new --boot a --data-disk",
-            "'--boot <boot>' cannot be used with '--data-disk'",
+            "'--boot <IMAGE>' cannot be used with '--data-disk'",
         ),
         (
             "create --fs auto --out new",

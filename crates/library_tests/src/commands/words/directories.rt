@@ -80,19 +80,15 @@ fn words_that_make_no_directory_are_refused(rt: HostRuntime) {
         ("mkdir --order prodos --out new", "image"),
         (
             "mkdir a.po SUB --order prodos",
-            "required arguments were not provided:\n  <--out <out>|--in-place>",
+            "required arguments were not provided:\n  <--out <FILE>|--in-place>",
         ),
         (
             "mkdir a.po SUB --order prodos --out new --in-place",
-            "the argument '--out <out>' cannot be used with '--in-place'",
+            "the argument '--out <FILE>' cannot be used with '--in-place'",
         ),
         (
             "mkdir a.po SUB --fs dos --order dos --out new",
-            "invalid value 'dos' for '--fs <fs>'\n  [possible values: auto, prodos]",
-        ),
-        (
-            "mkdir a.po SUB --fs auto --order prodos --out new",
-            "invalid value 'auto' for '--fs <fs>'\n  [possible values: auto, prodos]",
+            "invalid value 'dos' for '--fs <FS>'\n  [possible values: auto, prodos]",
         ),
         (
             "mkdir a.po SUB --order auto --out new",
@@ -118,7 +114,7 @@ fn words_that_make_no_directory_are_refused(rt: HostRuntime) {
 
 #[test]
 fn help_tells_why_no_directory_is_made(rt: HostRuntime) {
-    for wanted in ["auto or prodos", "REFUSED DirFull"] {
+    for wanted in ["auto, prodos", "REFUSED DirFull"] {
         helps(&rt, rt.alloc(), "mkdir --help", wanted, MKDIR_USAGE);
     }
 }

@@ -38,7 +38,7 @@ fn control_characters_are_escaped(rt: HostRuntime) -> Result<(), Fail> {
             "--fs",
             "d\u{7}os\u{7f}",
         ],
-        "invalid value 'd\\x07os\\x7F' for '--fs <fs>'",
+        "invalid value 'd\\x07os\\x7F' for '--fs <FS>'",
     )?;
     shows(
         &rt,

@@ -122,7 +122,7 @@ fn words_that_read_nothing_are_refused(rt: HostRuntime) {
         ),
         (
             "read a.dsk HELLO --fs dos --order dos --as text --whole",
-            "'--as <as>' cannot be used with '--whole'",
+            "'--as <FORM>' cannot be used with '--whole'",
         ),
         (
             "read a.dsk HELLO --fs dos --order dos --in-place",

@@ -1,7 +1,7 @@
 // Words that are refused, and the text that tells why.
 use super::{helps, refuses};
 
-const PROGRAM_USAGE: &str = "Usage: a2shop <COMMAND>";
+const PROGRAM_USAGE: &str = "Usage: a2shop COMMAND [WORDS]...";
 
 const CATALOG_USAGE: &str = "Usage: a2shop catalog ";
 
@@ -22,41 +22,41 @@ fn unknown_and_missing_words_are_refused(rt: HostRuntime) {
             PROGRAM_USAGE,
         ),
         ("--fs dos", "'--fs'", PROGRAM_USAGE),
-        ("catalog a.dsk --order dos", "--fs <fs>", CATALOG_USAGE),
-        ("catalog a.dsk --fs dos", "--order <order>", CATALOG_USAGE),
-        ("catalog --fs dos --order dos", "<image>", CATALOG_USAGE),
+        ("catalog a.dsk --order dos", "--fs <FS>", CATALOG_USAGE),
+        ("catalog a.dsk --fs dos", "--order <ORDER>", CATALOG_USAGE),
+        ("catalog --fs dos --order dos", "<IMAGE>", CATALOG_USAGE),
         (
             "catalog a.dsk --fs dos --order",
-            "'--order <order>'",
+            "'--order <ORDER>'",
             CATALOG_USAGE,
         ),
         (
             "read a.dsk --fs dos --order dos",
-            "<name>",
+            "<NAME>",
             "Usage: a2shop read ",
         ),
         (
             "convert a.dsk --order dos --to nibble",
-            "--out <out>",
+            "--out <FILE>",
             CONVERT_USAGE,
         ),
         (
             PLAIN_OPTIMIZATION,
-            "<--out <out>|--in-place>",
+            "<--out <FILE>|--in-place>",
             OPTIMIZE_USAGE,
         ),
         (
             "optimize a.po --fs prodos --order prodos --out b.po --in-place",
-            "'--out <out>' cannot be used with '--in-place'",
+            "'--out <FILE>' cannot be used with '--in-place'",
             OPTIMIZE_USAGE,
         ),
-        (VERIFICATION, "--from <from>", "Usage: a2shop verify "),
+        (VERIFICATION, "--from <FILE>", "Usage: a2shop verify "),
     ] {
         refuses(&rt, rt.alloc(), line, wrong, usage);
     }
 }
 
-const NO_STORED_NAME: &str = "for '<name>' with '--stored'\n  [hexadecimal digits, two a byte]";
+const NO_STORED_NAME: &str = "for '<NAME>' with '--stored'\n  [hexadecimal digits, two a byte]";
 
 #[test]
 fn stored_names_that_are_no_digits_are_refused(rt: HostRuntime) {
@@ -88,7 +88,7 @@ fn words_that_are_too_many_are_refused(rt: HostRuntime) {
         ("catalog a.dsk b.dsk --fs dos --order dos", "'b.dsk'"),
         (
             "catalog a.dsk --fs dos --order dos --fs dos",
-            "'--fs <fs>' cannot be used multiple times",
+            "'--fs <FS>' cannot be used multiple times",
         ),
         ("catalog a.dsk --fs dos --order dos --whole", "'--whole'"),
     ] {
@@ -101,17 +101,17 @@ fn words_out_of_their_set_are_refused(rt: HostRuntime) {
     for (line, wrong, usage) in [
         (
             "catalog a.dsk --fs cpm --order dos",
-            "invalid value 'cpm' for '--fs <fs>'\n  [possible values: auto, dos, prodos]",
+            "invalid value 'cpm' for '--fs <FS>'\n  [possible values: auto, dos, prodos]",
             CATALOG_USAGE,
         ),
         (
             "catalog a.dsk --fs dos --order DOS",
-            "invalid value 'DOS' for '--order <order>'\n  [possible values: auto, 2img, dos, prodos, nibble]",
+            "invalid value 'DOS' for '--order <ORDER>'\n  [possible values: auto, 2img, dos, prodos, nibble]",
             CATALOG_USAGE,
         ),
         (
             "convert a.dsk --order dos --to woz --out b.nib",
-            "invalid value 'woz' for '--to <to>'\n  [possible values: dos, prodos, nibble]",
+            "invalid value 'woz' for '--to <ORDER>'\n  [possible values: dos, prodos, nibble]",
             CONVERT_USAGE,
         ),
         (
@@ -144,7 +144,7 @@ fn help_is_told_where_it_is_asked_for(rt: HostRuntime) {
         ("help catalog", "REFUSED Length", CATALOG_USAGE),
         (
             "convert --help",
-            "of volume 254 where --volume is not given",
+            "254 if left out",
             CONVERT_USAGE,
         ),
     ] {
@@ -157,7 +157,6 @@ fn help_of_what_is_none_is_refused(rt: HostRuntime) {
     for (line, wrong, usage) in [
         ("help catolog", "'catolog'", PROGRAM_USAGE),
         ("catalog --colour --help", "'--colour'", CATALOG_USAGE),
-        ("--version", "'--version'", PROGRAM_USAGE),
     ] {
         refuses(&rt, rt.alloc(), line, wrong, usage);
     }

@@ -126,11 +126,11 @@ fn words_that_save_nothing_are_refused(rt: HostRuntime) {
         ("--as integer", "text, applesoft, single"),
         (
             "--high on",
-            "'--high <high>' can only be used with '--as text'",
+            "'--high <BIT>' can only be used with '--as text'",
         ),
         (
             "--high on --as single",
-            "'--high <high>' can only be used with '--as text'",
+            "'--high <BIT>' can only be used with '--as text'",
         ),
         ("--as text --high yes", "on, off"),
         (
