@@ -16,43 +16,45 @@ TABLES = [TOP / "crates/explanations/src" / name for name in ("refusals.rt", "fi
 
 DESCRIPTION = """\
 .B a2shop
-lists, checks, reads, converts and optimizes volumes of 5.25-inch Apple II disks, DOS 3.3 and ProDOS, in images of DOS order, of
-ProDOS order and of disk bytes. It writes to standard output and to the files of
-.B \\-\\-out
-and
-.BR \\-\\-cert ,
+lists, checks, reads, edits, converts and optimizes images of Apple II disks: volumes of DOS 3.3 and of ProDOS, in images in DOS order,
+in ProDOS order, of nibble tracks, and in 2IMG files.
+.PP
+Answers go to standard output. A command writes to no file but those that its words name: the image of
+.BR \\-\\-out ,
 with
 .B \\-\\-in\\-place
-to the image's own file, and to no other file.
+the image's own file, the certificate of
+.BR \\-\\-cert ,
+and the new folder of
+.BR "extract \\-\\-into" .
+A file that is replaced, and a new folder, are written beside their place and renamed once they are whole.
 .PP
-Without words it lists the DOS 3.3 volume of the image in DOS order on standard input.
+Without a command it lists the DOS 3.3 disk in DOS order on standard input.
 .PP
 .B \\-\\-auto
-may stand with any command: where
+finds out the file system and the order that the words leave out, as
+.B identify
+does; where no way to read the image is best, the command is refused. The value
+.B auto
+of
 .B \\-\\-fs
 or
 .B \\-\\-order
-is left out, the file system or the order is that which
-.B identify
-names; where it names none, the job is refused. The word
-.B auto
-says the same as the value of one of them.
+does the same for one of them, and
+.B \\-\\-order 2img
+uses the order in the header of a 2IMG file.
 .B \\-\\-explain
-may stand with any command: standard error then says in whole sentences what the answer means, and what to do next.
-.B \\-\\-version
-tells the version."""
+adds, on standard error, what the answer means and what to do next. Both may stand before the command's name and behind it."""
 
 STATUSES = [
-    ("0", "It is done, or help was asked for."),
-    ("1", "Something is wrong with the volume or the certificate, and the text says what."),
-    ("2", "The words make no sense, and the text says which."),
-    ("3", "The job is refused; one line says why."),
-    ("4", "A file, the image or memory failed."),
+    ("0", "Done; also for help and the version."),
+    ("1", "Something was found: a fault, a difference, a wrong certificate, a file that can't be read, or doubt about the order."),
+    ("2", "The command line is bad; the message says what is wrong."),
+    ("3", "Refused, and nothing was changed; one line says why."),
+    ("4", "Failed: a file, a sector, the output, or not enough memory."),
 ]
 
-AUTO = "Take the file system and the order that identify names, where they are left out"
-EXPLAIN = "Say on standard error what is told, and what to do next"
-VERSION = "Tell the version"
+VERSION = "Print the version"
 
 NOTES = [
     "Sectors 0 and 15 of a track are the same in DOS order and in ProDOS order, so a volume may seem sound in the wrong order."
@@ -73,12 +75,19 @@ NOTES = [
 ]
 
 EXAMPLES = [
-    ("Look how an image is to be read", "a2shop identify disk.dsk"),
+    ("See how an image can be read", "a2shop identify disk.dsk"),
     ("List a disk", "a2shop catalog disk.dsk --auto"),
-    ("Check it, and say what the faults mean", "a2shop check disk.dsk --auto --explain"),
+    ("List all about its files as JSON", "a2shop list disk.dsk --format json"),
+    ("Take all files out, with their texts in a form that can be read", "a2shop extract disk.dsk --into files --texts"),
+    ("Make a disk, and put the files in", "a2shop create --fs prodos --out new.po && a2shop add new.po --from files --out new.po"),
+    ("Save one text", "a2shop save disk.dsk LETTER --auto --from letter.txt --as text --out disk.dsk"),
+    ("Check a disk, and say what the faults mean", "a2shop check disk.dsk --auto --explain"),
     ("Put its files in order, in a file of its own", "a2shop optimize disk.dsk --auto --out ordered.dsk"),
-    ("Make disk bytes of it", "a2shop convert disk.dsk --order dos --to nibble --out disk.nib"),
+    ("Make nibble tracks of it", "a2shop convert disk.dsk --order dos --to nibble --out disk.nib"),
 ]
+
+# What help says of an option that takes some words alone.
+CHOICES = re.compile(r" ?\[possible values: (.*)\]$")
 
 
 class Command:
@@ -87,7 +96,7 @@ class Command:
     def __init__(self, program, name, text):
         self.name, self.text = name, text
         told = help_of(program, name)
-        self.usage = re.search(r"^Usage: (.*)$", told, re.M)[1]
+        self.usage = " ".join(re.search(r"^Usage: (.*(?:\n {7}.*)*)$", told, re.M)[1].split())
         self.arguments = rows_of(told, "Arguments")
         self.options = [row for row in rows_of(told, "Options") if row[0] != "-h, --help"]
 
@@ -97,23 +106,36 @@ def help_of(program, *words):
 
 
 def rows_of(told, section):
-    """The rows of a section: the words and what they mean."""
+    """The rows of a section: the words and what they mean, which may go on in further lines."""
     found = re.search(rf"^{section}:\n((?:  .*\n?)+)", told, re.M)
-    return re.findall(r"^ +(\S.*?)  +(\S.*)$", found[1], re.M) if found else []
+    rows = []
+    for line in found[1].splitlines() if found else []:
+        row = re.match(r" {2,6}([-<]\S.*?)  +(\S.*)$", line)
+        if row:
+            rows.append((row[1].replace("...", ""), row[2]))
+        elif rows:
+            rows[-1] = (rows[-1][0], f"{rows[-1][1]} {line.strip()}")
+    return rows
 
 
 def commands_of(program):
-    return [Command(program, name, text) for name, text in rows_of(help_of(program), "Commands") if name != "help"]
+    """The commands, in the order of the groups in which the program's help lists them."""
+    groups = re.findall(r"^[A-Z][a-z, ]*:\n((?:  [a-z]+ +\S.*\n)+)", help_of(program), re.M)
+    return [Command(program, name, text) for group in groups for name, text in re.findall(r"^  ([a-z]+) +(\S.*)$", group, re.M)]
 
 
 def choices_of(text):
-    """The words that an option takes, where its text ends with them."""
-    found = re.search(r": ((?:\w+, )*\w+ or \w+)$", text)
-    return re.split(r", | or ", found[1]) if found else []
+    """The words that an option takes, where it takes some words alone."""
+    found = CHOICES.search(text)
+    return found[1].split(", ") if found else []
 
 
-def takes_file(text):
-    return text.startswith(("File of", "File that", "File whose"))
+def meaning_of(text):
+    return CHOICES.sub("", text)
+
+
+def takes_file(words):
+    return words.endswith(("<FILE>", "<IMAGE>", "<FOLDER>"))
 
 
 def troff(text):
@@ -132,7 +154,7 @@ def explanations():
 def manual(commands):
     lines = ['.TH A2SHOP 1 "" "a2shop" "User Commands"', ".SH NAME", "a2shop \\- work on images of Apple II disks", ".SH SYNOPSIS"]
     for command in commands:
-        lines += [f".B {troff(command.usage.replace(' [OPTIONS]', ''))}", ".RI [ options ]", ".br"]
+        lines += [f".B {troff(command.usage)}", ".br"]
     lines += [".SH DESCRIPTION", DESCRIPTION, ".SH COMMANDS"]
     for command in commands:
         lines += [f".SS {troff(command.name)}", troff(command.text) + "."]
@@ -165,7 +187,7 @@ def bash(commands):
         "  local word=${COMP_WORDS[COMP_CWORD]} before=${COMP_WORDS[COMP_CWORD-1]}",
         "  COMPREPLY=()",
         '  if [ "$COMP_CWORD" -eq 1 ]; then',
-        f'    mapfile -t COMPREPLY < <(compgen -W "{names} help --help --version" -- "$word")',
+        f'    mapfile -t COMPREPLY < <(compgen -W "{names} help --auto --explain --help --version" -- "$word")',
         "    return",
         "  fi",
         '  case "${COMP_WORDS[1]} $before" in',
@@ -175,14 +197,14 @@ def bash(commands):
             flag, choices = flag_of(words), choices_of(text)
             if choices:
                 lines.append(f"""    '{command.name} {flag}') mapfile -t COMPREPLY < <(compgen -W "{' '.join(choices)}" -- "$word"); return ;;""")
-            elif takes_file(text):
+            elif takes_file(words):
                 lines.append(f"""    '{command.name} {flag}') mapfile -t COMPREPLY < <(compgen -f -- "$word"); return ;;""")
             elif "<" in words:
                 lines.append(f"    '{command.name} {flag}') return ;;")
     lines += ["  esac", '  if [[ $word != -* ]]; then', '    mapfile -t COMPREPLY < <(compgen -f -- "$word")', "    return", "  fi", '  case "${COMP_WORDS[1]}" in']
     for command in commands:
         flags = " ".join(flag_of(words) for words, _ in command.options)
-        lines.append(f"""    {command.name}) mapfile -t COMPREPLY < <(compgen -W "{flags} --auto --explain --help" -- "$word") ;;""")
+        lines.append(f"""    {command.name}) mapfile -t COMPREPLY < <(compgen -W "{flags} --help" -- "$word") ;;""")
     lines += ["  esac", "}", "complete -o filenames -F _a2shop a2shop"]
     return "\n".join(lines) + "\n"
 
@@ -199,10 +221,8 @@ def zsh(commands):
         lines.append(f"    {command.name}) _arguments \\")
         for words, text in command.options:
             flag, choices = flag_of(words), choices_of(text)
-            value = f":value:({' '.join(choices)})" if choices else ":file:_files" if takes_file(text) else ":value: " if "<" in words else ""
-            lines.append(f"      '{flag}[{quoted(text)}]{value}' \\")
-        lines.append(f"      '--auto[{AUTO}]' \\")
-        lines.append(f"      '--explain[{EXPLAIN}]' \\")
+            value = f":value:({' '.join(choices)})" if choices else ":file:_files" if takes_file(words) else ":value: " if "<" in words else ""
+            lines.append(f"      '{flag}[{quoted(meaning_of(text))}]{value}' \\")
         lines.append("      '*:file:_files' ;;")
     lines += ["  esac", "}", '_a2shop "$@"']
     return "\n".join(lines) + "\n"
@@ -212,16 +232,14 @@ def fish(commands):
     lines = [
         "# The completion of a2shop for fish.",
         f"complete -c a2shop -n __fish_use_subcommand -l version -d '{VERSION}'",
-        f"complete -c a2shop -n 'not __fish_use_subcommand' -l auto -d '{AUTO}'",
-        f"complete -c a2shop -n 'not __fish_use_subcommand' -l explain -d '{EXPLAIN}'",
     ]
     for command in commands:
         text = command.text.replace("'", "\\'")
         lines.append(f"complete -c a2shop -n __fish_use_subcommand -f -a {command.name} -d '{text}'")
         for words, text in command.options:
             flag, choices = flag_of(words)[2:], choices_of(text)
-            value = f" -x -a '{' '.join(choices)}'" if choices else " -r" if takes_file(text) else " -x" if "<" in words else ""
-            text = text.replace("'", "\\'")
+            value = f" -x -a '{' '.join(choices)}'" if choices else " -r" if takes_file(words) else " -x" if "<" in words else ""
+            text = meaning_of(text).replace("'", "\\'")
             lines.append(f"complete -c a2shop -n '__fish_seen_subcommand_from {command.name}' -l {flag}{value} -d '{text}'")
     return "\n".join(lines) + "\n"
 
