@@ -118,7 +118,9 @@ fn a_directory_is_of_prodos(rt: HostRuntime) -> Result<(), Fail> {
 fn the_job_has_what_the_image_has(rt: HostRuntime) -> Result<(), Fail> {
     let job = job_of(rt.alloc(), "catalog a --auto", FOUND)?;
     assert!(rt; image_order(&job) == Some(Order::Nibble));
-    assert!(rt; matches!(volume_of(&job), Some(volume) if volume.file_system == FileSystem::Prodos));
+    assert!(rt;
+        matches!(volume_of(&job), Some(volume) if volume.file_system == FileSystem::Prodos)
+    );
     let job = job_of(rt.alloc(), "catalog a --fs dos --auto", FOUND)?;
     assert!(rt; matches!(volume_of(&job), Some(volume) if volume.file_system == FileSystem::Dos));
     let job = job_of(rt.alloc(), "wrap a --out b", FOUND)?;
@@ -142,10 +144,20 @@ fn refuses(rt: &impl Abort, alloc: Global, line: &str, wrong: &str) -> Result<()
 #[test]
 fn what_may_not_be_left_out_is_named(rt: HostRuntime) -> Result<(), Fail> {
     refuses(&rt, rt.alloc(), "catalog a", "or say --auto\n")?;
-    refuses(&rt, rt.alloc(), "catalog a", "  --fs <FS>\n  --order <ORDER>")?;
+    refuses(
+        &rt,
+        rt.alloc(),
+        "catalog a",
+        "  --fs <FS>\n  --order <ORDER>",
+    )?;
     refuses(&rt, rt.alloc(), "reclaim a --in-place", "or say --auto\n")?;
     refuses(&rt, rt.alloc(), "create --fs auto --out b", "'auto'")?;
-    refuses(&rt, rt.alloc(), "--auto create --fs dos --out b", "'--auto'")?;
+    refuses(
+        &rt,
+        rt.alloc(),
+        "--auto create --fs dos --out b",
+        "'--auto'",
+    )?;
     refuses(&rt, rt.alloc(), "wrap a --order 2img --out b", "'2img'")?;
     Ok(())
 }
@@ -153,10 +165,12 @@ fn what_may_not_be_left_out_is_named(rt: HostRuntime) -> Result<(), Fail> {
 #[test]
 fn words_of_a_job_leave_nothing_open(rt: HostRuntime) -> Result<(), Fail> {
     let words = words_of(rt.alloc(), "catalog a --auto")?;
-    assert!(rt; matches!(
-        parse_words(rt.alloc(), words.as_slice()),
-        Err(WordsFault::Refused(_))
-    ));
+    assert!(rt;
+        matches!(
+            parse_words(rt.alloc(), words.as_slice()),
+            Err(WordsFault::Refused(_))
+        )
+    );
     Ok(())
 }
 

@@ -142,11 +142,7 @@ fn help_is_told_where_it_is_asked_for(rt: HostRuntime) {
             CATALOG_USAGE,
         ),
         ("help catalog", "REFUSED Length", CATALOG_USAGE),
-        (
-            "convert --help",
-            "254 if left out",
-            CONVERT_USAGE,
-        ),
+        ("convert --help", "254 if left out", CONVERT_USAGE),
     ] {
         helps(&rt, rt.alloc(), line, wanted, usage);
     }
