@@ -83,6 +83,7 @@ class DosVolume:
     GOOD = ["A", "ZZ", "NEW FILE", "X" * 30, "FILE 3", "FILE 4", "Q~{}", "MIXED case"]
     BAD = ["", "1A", "a", "A,B", "A ", " A", "X" * 31, "TILDE\u00e9"]
     LETTERS = {"T": 0x00, "I": 0x01, "A": 0x02, "B": 0x04, "S": 0x08, "R": 0x10}
+    TEXT = 0x00
     WRONG_KINDS = ["Q", "t", "TT", "06", "a"]
     SIZES = [3_000, 6_000, 45_000, 80_000, 144_000]
     EDGES = [31_228, 31_229, 31_232, 31_233, 62_465, 65_535, 65_536, 143_360, 143_361]
@@ -292,6 +293,7 @@ class ProVolume:
     UNIT = 512
     GOOD = ["A", "zz", "NEW.FILE", "X" * 15, "FILE.3", "file.4", "INNER", "Q9.9"]
     BAD = ["", "9A", ".A", "A B", "A_", "X" * 16, "A/B", "TILDE\u00e9"]
+    TEXT = 0x04
     WRONG_KINDS = ["T", "6", "006", "G0", "$6", "0x"]
     SIZES = [3_000, 6_000, 45_000, 80_000, 145_000, 300_000]
     EDGES = [131_071, 131_072, 131_073]
@@ -620,9 +622,13 @@ class Trial:
             at = self.volume.find(saved.path)
         except Refused:
             return saved
-        kind, aux = self.volume.taken_over(at)
+        old_kind, aux = self.volume.taken_over(at)
+        kind = old_kind if saved.kind is None else saved.kind
+        # An address is no length of records.
+        if self.volume.kind_of(kind) == self.volume.TEXT != old_kind:
+            aux = 0
         self.volume.delete(at)
-        return saved._replace(kind=kind if saved.kind is None else saved.kind, aux=aux if saved.aux is None else saved.aux)
+        return saved._replace(kind=kind, aux=aux if saved.aux is None else saved.aux)
 
     def replace(self, saved):
         """Saves a file in the place of the one that has its path, and answers it; a refusal leaves the volume as it was."""

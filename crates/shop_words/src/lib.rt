@@ -10,9 +10,9 @@
 //! `specs/Ways.antt`). The job is that of the same words with what the images have in its place (`settled`).
 //!
 //! A *plain list* is no word at all, or printed from a form: the command's name, its positional words, then its flags
-//! and options in any order, each option as `--name` and its value apart, `--fs` and `--order` said; a command that may
-//! change its image in place says exactly one of `--out` and `--in-place`. With no word the job is that of `catalog --fs
-//! dos --order dos -`.
+//! and options in any order, each option as `--name` and its value apart, `--fs` and `--order` said; a command that
+//! may change its image in place says exactly one of `--out` and `--in-place`. With no word the job is that of `catalog
+//! --fs dos --order dos -`.
 //!
 //! What always holds: a job that is answered is the stated function of the words, whatever they are; a plain list is
 //! never refused; help is answered only to words that may ask for it, and a refusal only to words in which something

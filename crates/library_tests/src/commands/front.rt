@@ -2,9 +2,7 @@
 use crate::commands::answer::words_of;
 use a2_device::Order;
 use shop_jobs::{Ask, FileSystem, Job, image_order, volume_of};
-use shop_words::{
-    LeftOpen, StandIn, UNSETTLED, Ways, WordsFault, asks_explain, parse_words, read_words,
-};
+use shop_words::{LeftOpen, StandIn, Ways, WordsFault, asks_explain, parse_words, read_words};
 use std::alloc::Global;
 use std::process::Abort;
 use std::test::Fail;
@@ -128,40 +126,6 @@ fn the_job_has_what_the_image_has(rt: HostRuntime) -> Result<(), Fail> {
     Ok(())
 }
 
-/// The words of a line are refused, with this in the text.
-fn refuses(rt: &impl Abort, alloc: Global, line: &str, wrong: &str) -> Result<(), WordsFault> {
-    match job_of(alloc, line, UNSETTLED) {
-        Err(WordsFault::Refused(text)) => {
-            assert!(rt; text.as_str().contains(wrong), "{text}");
-        }
-        Ok(_) | Err(WordsFault::Help(_) | WordsFault::Memory) => {
-            assert!(rt; false, "for {line}");
-        }
-    }
-    Ok(())
-}
-
-#[test]
-fn what_may_not_be_left_out_is_named(rt: HostRuntime) -> Result<(), Fail> {
-    refuses(&rt, rt.alloc(), "catalog a", "or say --auto\n")?;
-    refuses(
-        &rt,
-        rt.alloc(),
-        "catalog a",
-        "  --fs <FS>\n  --order <ORDER>",
-    )?;
-    refuses(&rt, rt.alloc(), "reclaim a --in-place", "or say --auto\n")?;
-    refuses(&rt, rt.alloc(), "create --fs auto --out b", "'auto'")?;
-    refuses(
-        &rt,
-        rt.alloc(),
-        "--auto create --fs dos --out b",
-        "'--auto'",
-    )?;
-    refuses(&rt, rt.alloc(), "wrap a --order 2img --out b", "'2img'")?;
-    Ok(())
-}
-
 #[test]
 fn words_of_a_job_leave_nothing_open(rt: HostRuntime) -> Result<(), Fail> {
     let words = words_of(rt.alloc(), "catalog a --auto")?;
@@ -194,16 +158,5 @@ fn an_explanation_is_asked_for_anywhere(rt: HostRuntime) -> Result<(), Fail> {
     assert!(rt; !is_explained(rt.alloc(), "read a --auto -- --explain")?);
     assert!(rt; asks_explain(words_of(rt.alloc(), "none --explain")?.as_slice()));
     assert!(rt; !asks_explain(words_of(rt.alloc(), "none --help")?.as_slice()));
-    Ok(())
-}
-
-#[test]
-fn the_version_is_told(rt: HostRuntime) -> Result<(), Fail> {
-    for line in ["--version", "-V"] {
-        match job_of(rt.alloc(), line, UNSETTLED) {
-            Err(WordsFault::Help(text)) => assert!(rt; text.as_str() == "a2shop 1.0.0\n"),
-            _ => assert!(rt; false, "for {line}"),
-        }
-    }
     Ok(())
 }

@@ -148,8 +148,8 @@ fn a_list_names_an_image(rt: HostRuntime) -> Result<(), Fail> {
         &rt,
         rt.alloc(),
         "list a.dsk --order dos",
-        "--fs",
-        "a2shop list",
+        "the words are to say",
+        "how each image is read",
     );
     Ok(())
 }

@@ -70,8 +70,7 @@ fn words_that_add_no_files_are_refused(rt: HostRuntime) {
     for (line, wrong) in [
         ("add a.po --fs dos --order dos --out new", "--from"),
         ("add a.po --fs dos --order dos --from files", "--out"),
-        ("add a.po --order dos --from files --out new", "--fs"),
-        ("add --fs dos --order dos --from files --out new", "image"),
+        ("add --fs dos --order dos --from files --out new", "<IMAGE>"),
         (
             "add a.po --fs dos --order dos --from files --out new --in-place",
             "--in-place",

@@ -68,7 +68,6 @@ fn a_comparison_names_two_images(rt: HostRuntime) -> Result<(), Fail> {
 fn words_that_compare_nothing_are_refused(rt: HostRuntime) {
     for (line, wrong) in [
         ("compare a.dsk --fs dos --order dos", "<OTHER>"),
-        ("compare a.dsk b.dsk --fs dos", "--order"),
         ("compare - - --fs dos --order dos", "-"),
         (
             "compare a.dsk b.dsk --fs dos --order dos --other-order cpm",

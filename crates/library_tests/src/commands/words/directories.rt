@@ -74,10 +74,9 @@ fn a_directory_is_made_in_place_by_all_words(rt: HostRuntime) -> Result<(), Fail
 #[test]
 fn words_that_make_no_directory_are_refused(rt: HostRuntime) {
     for (line, wrong) in [
-        ("mkdir a.po SUB --out new", "--order"),
         ("mkdir a.po SUB --in-place", "--order"),
-        ("mkdir a.po --order prodos --out new", "name"),
-        ("mkdir --order prodos --out new", "image"),
+        ("mkdir a.po --order prodos --out new", "<PATH>"),
+        ("mkdir --order prodos --out new", "<IMAGE>"),
         (
             "mkdir a.po SUB --order prodos",
             "required arguments were not provided:\n  <--out <FILE>|--in-place>",
@@ -91,7 +90,7 @@ fn words_that_make_no_directory_are_refused(rt: HostRuntime) {
             "invalid value 'dos' for '--fs <FS>'\n  [possible values: auto, prodos]",
         ),
         (
-            "mkdir a.po SUB --order auto --out new",
+            "mkdir a.po SUB --order woz --out new",
             "[possible values: auto, 2img, dos, prodos, nibble]",
         ),
         (

@@ -66,7 +66,6 @@ fn an_extraction_names_a_folder(rt: HostRuntime) -> Result<(), Fail> {
 fn words_that_extract_nothing_are_refused(rt: HostRuntime) {
     for (line, wrong) in [
         ("extract a.dsk --fs dos --order dos", "--into"),
-        ("extract a.dsk --into out --fs dos", "--order"),
         (
             "extract a.dsk --into out --fs dos --order dos --names both",
             "both",

@@ -28,7 +28,7 @@ fn unknown_and_missing_words_are_refused(rt: HostRuntime) {
         (
             "catalog a.dsk --fs dos --order",
             "'--order <ORDER>'",
-            CATALOG_USAGE,
+            "but none was supplied",
         ),
         (
             "read a.dsk --fs dos --order dos",
@@ -142,7 +142,11 @@ fn help_is_told_where_it_is_asked_for(rt: HostRuntime) {
             CATALOG_USAGE,
         ),
         ("help catalog", "REFUSED Length", CATALOG_USAGE),
-        ("convert --help", "254 if left out", CONVERT_USAGE),
+        (
+            "convert --help",
+            "of volume 254 where --volume",
+            CONVERT_USAGE,
+        ),
     ] {
         helps(&rt, rt.alloc(), line, wanted, usage);
     }
@@ -155,5 +159,42 @@ fn help_of_what_is_none_is_refused(rt: HostRuntime) {
         ("catalog --colour --help", "'--colour'", CATALOG_USAGE),
     ] {
         refuses(&rt, rt.alloc(), line, wrong, usage);
+    }
+}
+
+#[test]
+fn what_may_not_be_left_out_is_named(rt: HostRuntime) {
+    for (line, wrong, usage) in [
+        ("catalog a", "or say --auto\n", CATALOG_USAGE),
+        ("catalog a", "  --fs <FS>\n  --order <ORDER>", CATALOG_USAGE),
+        (
+            "reclaim a --in-place",
+            "or say --auto\n",
+            "Usage: a2shop reclaim ",
+        ),
+        (
+            "create --fs auto --out b",
+            "'auto'",
+            "Usage: a2shop create ",
+        ),
+        (
+            "--auto create --fs dos --out b",
+            "'--auto'",
+            "Usage: a2shop ",
+        ),
+        (
+            "wrap a --order 2img --out b",
+            "'2img'",
+            "Usage: a2shop wrap ",
+        ),
+    ] {
+        refuses(&rt, rt.alloc(), line, wrong, usage);
+    }
+}
+
+#[test]
+fn the_version_is_told(rt: HostRuntime) {
+    for line in ["--version", "-V"] {
+        helps(&rt, rt.alloc(), line, "a2shop 1.0.0\n", "a2shop 1.0.0\n");
     }
 }
