@@ -1,6 +1,7 @@
 // The job that words ask for.
 use crate::stop::Stop;
 use shop_commands::tell_words_fault;
+use shop_help::misfit_fault;
 use shop_jobs::Job;
 use shop_words::{Asked, Ways};
 use std::io::Write;
@@ -14,6 +15,9 @@ pub fn job_with<T: Write>(
 ) -> Result<Job, Stop> {
     match asked.job(rt.alloc(), ways) {
         Ok(job) => Ok(job),
-        Err(fault) => Err(Stop::Told(tell_words_fault(&fault, text))),
+        Err(misfit) => {
+            let fault = misfit_fault(rt.alloc(), asked, misfit);
+            Err(Stop::Told(tell_words_fault(&fault, text)))
+        }
     }
 }

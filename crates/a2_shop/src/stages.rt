@@ -15,9 +15,10 @@ use explanations::Overheard;
 use folder_adding::adds_files;
 use shop_commands::{extracts, tell_words_fault};
 use shop_files::{Ending, Found, JobFiles};
+use shop_help::read_fault;
 use shop_jobs::{Ask, Job};
 use shop_replies::{Failure, Refusal, Reply};
-use shop_words::{Asked, UNSETTLED, WordsFault, asks_explain, read_words};
+use shop_words::{Asked, UNSETTLED, Unread, asks_explain, read_words};
 use std::io::{BufWriter, Write};
 
 /// Does what the program's words ask for, and answers its status. Standard output is written
@@ -45,22 +46,19 @@ fn run_telling<T: Write>(rt: &HostRuntime, text: &mut T) -> u8 {
     greet(rt, words.as_slice());
     match read_words(rt.alloc(), words.as_slice()) {
         Ok(asked) => run_asked(rt, &asked, text),
-        Err(fault) => tell_refused(rt, words.as_slice(), &fault, text),
+        Err(unread) => tell_unread(rt, words.as_slice(), &unread, text),
     }
 }
 
-// Tells why words are no job, and explains it where they ask for that.
-fn tell_refused<T: Write>(
-    rt: &HostRuntime,
-    words: &[String],
-    fault: &WordsFault,
-    text: &mut T,
-) -> u8 {
+// Tells why words are not read, or the help that they ask for, and explains it where they ask for
+// that too.
+fn tell_unread<T: Write>(rt: &HostRuntime, words: &[String], unread: &Unread, text: &mut T) -> u8 {
+    let fault = read_fault(rt.alloc(), words, unread);
     if !asks_explain(words) {
-        return tell_words_fault(fault, text);
+        return tell_words_fault(&fault, text);
     }
     let mut text = Overheard::new(rt.alloc(), text);
-    let status = tell_words_fault(fault, &mut text);
+    let status = tell_words_fault(&fault, &mut text);
     let mut found = Found::new();
     found.is_wanted = true;
     explain_answer(rt, &found, &text.told);

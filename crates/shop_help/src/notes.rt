@@ -1,6 +1,6 @@
 //! What stands below the help of each command: an example, the statuses, and what is refused.
 
-use crate::table::Verb;
+use shop_words::Verb;
 
 pub const PROGRAM: &str = "\
 What a command takes, prints and refuses: a2shop COMMAND --help

@@ -2,8 +2,8 @@ use Rattle.std.proofs.Common.{◌∙◌, sym, ap, map-id}
 use Rattle.std.specs.Prelude.{flat_map}
 use Rattle.std.proofs.lemmas.Iterator.{YieldsList-from_chars}
 use Rattle.std.proofs.lemmas.Iterator.Consumers.{YieldsList-end}
-use Rattle.shop_words.specs.Escaping.{shown_character}
-use Rattle.shop_words.proofs.escaping.escaped.Goals as goal
+use Rattle.shown_text.specs.Escaping.{shown_character}
+use Rattle.shown_text.proofs.escaping.escaped.Goals as goal
 
 pub returns : goal.returns
 returns c =

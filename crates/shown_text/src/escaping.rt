@@ -1,6 +1,6 @@
 // The words of a user as they are shown.
 ghost use Rattle.std.specs.Prelude.{◌≡◌, ◌<◌, ◌++◌, ◌/◌, ◌%◌, IfOk, OnOk, map, string_bytes};
-ghost use Rattle.shop_words.specs.Escaping.{
+ghost use Rattle.shown_text.specs.Escaping.{
   escaped,
   hex_digit,
   hex_pair,

@@ -1,8 +1,7 @@
 //! The usage of a command, the help of its parameters, and the list of all commands, made of the table.
-use crate::asked::form_named;
 use crate::help::{self, GROUPS};
 use crate::notes;
-use crate::table::{Form, Kind, LeftOut, Parameter, Reading, Values};
+use shop_words::{Form, Kind, LeftOut, Parameter, Reading, Values, form_named};
 use std::alloc::{AllocError, Global};
 
 /// The most characters of a line of help.
@@ -111,7 +110,7 @@ pub fn help_of(alloc: Global, parameter: &Parameter) -> Result<String, AllocErro
         width: HELP_WIDTH,
         indent: 0,
     };
-    page.put_words(parameter.help.text())?;
+    page.put_words(help::text_of(parameter.help))?;
     if takes_words(parameter.kind) {
         let wanted = wanted_of(alloc, parameter.kind)?;
         page.put_words(format!(in alloc; "[{wanted}]")?.as_str())?;
@@ -133,7 +132,7 @@ fn ways_piece(alloc: Global, form: &Form) -> Result<String, AllocError> {
     for parameter in form.parameters {
         if matches!(parameter.kind, Kind::Way(_)) {
             let name = parameter.name;
-            let value = parameter.help.value();
+            let value = help::value_of(parameter.help);
             write!(text, " --{name} {value}")?;
         }
     }
@@ -151,7 +150,7 @@ fn has_parameter(form: &Form, name: &str) -> bool {
 /// How a parameter stands in the usage of a command; nothing, where it stands with another.
 fn piece_of(alloc: Global, form: &Form, parameter: &Parameter) -> Result<String, AllocError> {
     let name = parameter.name;
-    let value = parameter.help.value();
+    let value = help::value_of(parameter.help);
     match parameter.kind {
         Kind::Positional => value.to_string(alloc),
         Kind::Needed(_) => format!(in alloc; "--{name} {value}"),

@@ -1,6 +1,6 @@
 //! Why words are no job.
 ghost use Rattle.std.specs.Prelude.{◌≡◌};
-ghost use Rattle.shop_words.specs.declared.fault.WordsFault.TheVariants.{Memory};
+ghost use Rattle.shop_help.specs.declared.fault.WordsFault.TheVariants.{Memory};
 
 use std::alloc::AllocError;
 use thiserror::Error;

@@ -1,21 +1,14 @@
 -- Why words are no job.
-use Rattle.std.specs.Prelude.{◌≡◌, ◌≢◌, ◌⊎◌, List, [], Option, None}
-use Rattle.clap.specs.Faults.{fault_of}
-use Rattle.clap.specs.Kinds.{IsAmong, Kinds}
+use Rattle.std.specs.Prelude.{◌≡◌, ◌≢◌, ◌⊎◌, List, [], None}
+use Rattle.clap.specs.Kinds.{IsAmong}
 use Rattle.clap.specs.declared.error.kind.ErrorKind.{ErrorKind}
 use Rattle.clap.specs.declared.error.kind.ErrorKind.TheVariants.{DisplayHelp, DisplayVersion, OutOfMemory}
-use Rattle.shop_jobs.specs.Job.{JobView}
 use Rattle.shop_words.specs.Asked.{asked_job, asked_list}
-use Rattle.shop_words.specs.Grammar.{shop}
 use Rattle.shop_words.specs.Job.{meant_words}
 use Rattle.shop_words.specs.Table.{Text}
-use Rattle.shop_words.specs.declared.fault.WordsFault.{WordsFault}
-use Rattle.shop_words.specs.declared.fault.WordsFault.TheVariants as faults
-
--- what clap's reading of the words may end with in place of a job, by its first step that fails; nothing, where clap
--- takes them
-unfoldable pub ends_of : List Text → Kinds
-ends_of words = fault_of shop words
+use Rattle.shop_words.specs.Unread.{ends_of}
+use Rattle.shop_help.specs.declared.fault.WordsFault.{WordsFault}
+use Rattle.shop_help.specs.declared.fault.WordsFault.TheVariants as faults
 
 -- help or the version is what is asked for, as by `--help`, `-h`, `help`, `--version` or `-V`
 abbrev pub IsAsked : ErrorKind → Type 0
@@ -56,12 +49,6 @@ abbrev pub IsFaultBy : ErrorKind → WordsFault → Type 0
 IsFaultBy kind (faults.Help text) = IsAsked kind
 IsFaultBy kind (faults.Refused text) = (¬ IsAsked kind) × (kind ≢ OutOfMemory)
 IsFaultBy kind faults.Memory = Unit {0}
-
--- why words of a command have no job: what is wrong with them, or want of memory
-abbrev pub IsMisfitFault : Option JobView → WordsFault → Type 0
-IsMisfitFault job (faults.Help text) = ⊥
-IsMisfitFault job (faults.Refused text) = job ≡ None
-IsMisfitFault job faults.Memory = Unit {0}
 
 -- a refusal, or want of memory
 abbrev pub IsRefused : WordsFault → Type 0
