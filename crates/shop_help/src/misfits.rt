@@ -15,7 +15,7 @@ use std::alloc::{AllocError, Global};
 const OR_AUTO: &str = "\nSay how the image is read, or say --auto\n";
 
 /// The refusal of words that are no job, or want of memory.
-pub fn misfit_fault<'a>(alloc: Global, asked: &Asked<'a>, misfit: Misfit<'a>) -> WordsFault
+pub fn misfit_fault(alloc: Global, asked: &Asked<'_>, misfit: Misfit) -> WordsFault
     ensures refused { IsRefused result }
     ensures memory { misfit.entry ≡ Misfit.Memory → result ≡ WordsFault.Memory }
 {
@@ -26,11 +26,7 @@ pub fn misfit_fault<'a>(alloc: Global, asked: &Asked<'a>, misfit: Misfit<'a>) ->
 }
 
 /// What clap says of words of a command that are wrong in this way, with the command's usage.
-fn misfit_text<'a>(
-    alloc: Global,
-    asked: &Asked<'a>,
-    misfit: Misfit<'a>,
-) -> Result<String, AllocError> {
+fn misfit_text(alloc: Global, asked: &Asked<'_>, misfit: Misfit) -> Result<String, AllocError> {
     let texts = Texts::of_form(alloc, Some(asked.form()))?;
     let message = message_of(alloc, asked, misfit)?;
     let mut command = command_told(alloc, asked.form(), &texts)?;
@@ -42,9 +38,9 @@ fn misfit_text<'a>(
     Ok(text)
 }
 
-fn kind_of_misfit(misfit: Misfit<'_>) -> ErrorKind {
+fn kind_of_misfit(misfit: Misfit) -> ErrorKind {
     match misfit {
-        Misfit::Value { .. } | Misfit::NoStoredName { .. } => ErrorKind::InvalidValue,
+        Misfit::Value { .. } | Misfit::NoStoredName => ErrorKind::InvalidValue,
         Misfit::Missing { .. } | Misfit::NoTarget => ErrorKind::MissingRequiredArgument,
         _ => ErrorKind::ArgumentConflict,
     }
@@ -70,10 +66,15 @@ fn parameter_named(form: &Form, name: &str) -> Option<&'static Parameter> {
         .find(|parameter| parameter.name == name)
 }
 
+/// What the words say under a parameter's name, as it is shown.
+fn shown_word(alloc: Global, asked: &Asked<'_>, name: &str) -> Result<String, AllocError> {
+    escaped(alloc, asked.said(name).unwrap_or(""))
+}
+
 /// What is wrong with the value of an option.
-fn value_text(alloc: Global, form: &Form, name: &str, word: &str) -> Result<String, AllocError> {
-    let word = escaped(alloc, word)?;
-    match parameter_named(form, name) {
+fn value_text(alloc: Global, asked: &Asked<'_>, name: &str) -> Result<String, AllocError> {
+    let word = shown_word(alloc, asked, name)?;
+    match parameter_named(asked.form(), name) {
         Some(parameter) => {
             let value = value_of(parameter.help);
             let wanted = wanted_of(alloc, parameter.kind)?;
@@ -93,16 +94,12 @@ fn of_prodos_text(alloc: Global, form: &Form, name: &str) -> Result<String, Allo
 }
 
 /// What is wrong with words, in clap's words.
-fn message_of<'a>(
-    alloc: Global,
-    asked: &Asked<'a>,
-    misfit: Misfit<'a>,
-) -> Result<String, AllocError> {
+fn message_of(alloc: Global, asked: &Asked<'_>, misfit: Misfit) -> Result<String, AllocError> {
     match misfit {
         Misfit::Missing { .. } => missing_text(alloc, asked),
-        Misfit::Value { name, word } => value_text(alloc, asked.form(), name, word),
-        Misfit::NoStoredName { word } => {
-            let word = escaped(alloc, word)?;
+        Misfit::Value { name } => value_text(alloc, asked, name),
+        Misfit::NoStoredName => {
+            let word = shown_word(alloc, asked, "name")?;
             format!(in alloc;
                 "invalid value '{word}' for '<NAME>' with '--stored'\n  [hexadecimal digits, two a byte]"
             )
@@ -113,7 +110,7 @@ fn message_of<'a>(
 }
 
 /// The same where it repeats no word.
-fn fixed_message(misfit: Misfit<'_>) -> &'static str {
+fn fixed_message(misfit: Misfit) -> &'static str {
     match misfit {
         Misfit::PlacesWithoutJson => {
             "the argument '--places' can only be used with '--format json'"

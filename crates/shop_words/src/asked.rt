@@ -141,7 +141,7 @@ impl<'a> Asked<'a> {
     ///
     /// # Errors
     /// Why the words are no job, or want of memory.
-    pub fn job(&self, alloc: Global, ways: Ways) -> Result<Job, Misfit<'a>>
+    pub fn job(&self, alloc: Global, ways: Ways) -> Result<Job, Misfit>
         ensures job { Gives job_view (job_with ways (asked_view self.now).words) result }
 
         // a plain list has a job, where there is memory

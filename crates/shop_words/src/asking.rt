@@ -19,7 +19,7 @@ use shop_jobs::{Ask, Change, Edit, Job, Look};
 use std::alloc::Global;
 
 // What a command asks.
-fn ask_in<'a>(alloc: Global, verb: Verb, given: &Given<'_, 'a>) -> Result<Ask, Misfit<'a>>
+fn ask_in(alloc: Global, verb: Verb, given: &Given<'_, '_>) -> Result<Ask, Misfit>
     ensures { Gives ask_view (ask_by verb (said_of given.now)) result }
 {
     match verb {
@@ -51,7 +51,7 @@ fn ask_in<'a>(alloc: Global, verb: Verb, given: &Given<'_, 'a>) -> Result<Ask, M
 }
 
 // Where the image is, or what a survey looks at; a volume is made of no image.
-fn place_in<'a>(verb: Verb, given: &Given<'_, 'a>) -> Result<&'a str, Misfit<'a>>
+fn place_in<'a>(verb: Verb, given: &Given<'_, 'a>) -> Result<&'a str, Misfit>
     ensures { Gives (λ s. s.now) (place_by verb (said_of given.now)) result }
 {
     match verb {
@@ -62,7 +62,7 @@ fn place_in<'a>(verb: Verb, given: &Given<'_, 'a>) -> Result<&'a str, Misfit<'a>
 }
 
 // The job of a command.
-fn command_job<'a>(alloc: Global, verb: Verb, given: &Given<'_, 'a>) -> Result<Job, Misfit<'a>>
+fn command_job(alloc: Global, verb: Verb, given: &Given<'_, '_>) -> Result<Job, Misfit>
     ensures { Gives job_view (job_by verb (said_of given.now)) result }
 {
     let image = place_in(verb, given)?;
@@ -74,7 +74,7 @@ fn command_job<'a>(alloc: Global, verb: Verb, given: &Given<'_, 'a>) -> Result<J
 }
 
 /// The job of words, with the ways of the images.
-pub fn job_in<'a>(alloc: Global, given: &Given<'_, 'a>) -> Result<Job, Misfit<'a>>
+pub fn job_in(alloc: Global, given: &Given<'_, '_>) -> Result<Job, Misfit>
     ensures { Gives job_view (job_with given.now.ways (words_of given.now)) result }
 {
     let verb = given.form.verb;

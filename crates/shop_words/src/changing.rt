@@ -22,7 +22,7 @@ use shop_jobs::{Ask, Change, Edit, FileSystem, VolumeOptions};
 use std::alloc::Global;
 
 // After how many writes to stop, where that is said.
-fn limit_named<'a>(word: Option<&'a str>) -> Result<Option<u64>, Misfit<'a>>
+fn limit_named(word: Option<&str>) -> Result<Option<u64>, Misfit>
     ensures { Gives (λ l. l) (limit_named (option_map (λ s. s.now) word.entry)) result }
 {
     match word {
@@ -32,12 +32,12 @@ fn limit_named<'a>(word: Option<&'a str>) -> Result<Option<u64>, Misfit<'a>>
 }
 
 // What is asked by a command that changes a volume so.
-fn change_on<'a>(
+fn change_on(
     alloc: Global,
-    given: &Given<'_, 'a>,
+    given: &Given<'_, '_>,
     volume: VolumeOptions,
     change: Change,
-) -> Result<Ask, Misfit<'a>>
+) -> Result<Ask, Misfit>
     ensures { Gives ask_view (change_on (Some volume) (Some (change_view change)) (said_of given.now)) result }
 {
     let target = given.target(alloc)?;
@@ -50,11 +50,7 @@ fn change_on<'a>(
 }
 
 /// The same of the volume that the words name by its file system.
-pub fn change_in<'a>(
-    alloc: Global,
-    given: &Given<'_, 'a>,
-    change: Change,
-) -> Result<Ask, Misfit<'a>>
+pub fn change_in(alloc: Global, given: &Given<'_, '_>, change: Change) -> Result<Ask, Misfit>
     ensures { Gives ask_view (change_by (Some (change_view change)) (said_of given.now)) result }
 {
     let volume = given.volume()?;
@@ -62,7 +58,7 @@ pub fn change_in<'a>(
 }
 
 // The change that is made by `optimize`.
-fn optimization_in<'a>(alloc: Global, given: &Given<'_, 'a>) -> Result<Change, Misfit<'a>>
+fn optimization_in(alloc: Global, given: &Given<'_, '_>) -> Result<Change, Misfit>
     ensures { Gives change_view (optimize_by (said_of given.now)) result }
 {
     let stop_after = limit_named(given.said("stop-after"))?;
@@ -73,7 +69,7 @@ fn optimization_in<'a>(alloc: Global, given: &Given<'_, 'a>) -> Result<Change, M
     })
 }
 
-pub fn optimize_in<'a>(alloc: Global, given: &Given<'_, 'a>) -> Result<Ask, Misfit<'a>>
+pub fn optimize_in(alloc: Global, given: &Given<'_, '_>) -> Result<Ask, Misfit>
     ensures { Gives ask_view (ask_by verbs.Optimize (said_of given.now)) result }
 {
     let change = optimization_in(alloc, given)?;
@@ -81,27 +77,27 @@ pub fn optimize_in<'a>(alloc: Global, given: &Given<'_, 'a>) -> Result<Ask, Misf
 }
 
 /// What is asked by a command that changes a file so.
-pub fn edit_in<'a>(alloc: Global, given: &Given<'_, 'a>, edit: Edit) -> Result<Ask, Misfit<'a>>
+pub fn edit_in(alloc: Global, given: &Given<'_, '_>, edit: Edit) -> Result<Ask, Misfit>
     ensures { Gives ask_view (change_by (edit_by (edit_view edit) (said_of given.now)) (said_of given.now)) result }
 {
     let name = given.name(alloc)?;
     change_in(alloc, given, Change::Edit { name, edit })
 }
 
-pub fn rename_in<'a>(alloc: Global, given: &Given<'_, 'a>) -> Result<Ask, Misfit<'a>>
+pub fn rename_in(alloc: Global, given: &Given<'_, '_>) -> Result<Ask, Misfit>
     ensures { Gives ask_view (ask_by verbs.Rename (said_of given.now)) result }
 {
-    let new = given.needed("new")?.to_string(alloc)?;
+    let new = given.needed_text(alloc, "new")?;
     edit_in(alloc, given, Edit::Rename { new })
 }
 
 // The ProDOS volume that the image is read as.
-fn prodos_in<'a>(given: &Given<'_, 'a>) -> Result<VolumeOptions, Misfit<'a>>
+fn prodos_in(given: &Given<'_, '_>) -> Result<VolumeOptions, Misfit>
     ensures { Gives (λ v. v) (prodos_by (said_of given.now)) result }
 {
     match given.file_system_word() {
         None | Some("prodos") | Some("auto") => {}
-        Some(word) => return Err(Misfit::Value { name: "fs", word }),
+        Some(_) => return Err(Misfit::Value { name: "fs" }),
     }
     Ok(VolumeOptions {
         file_system: FileSystem::Prodos,
@@ -111,17 +107,16 @@ fn prodos_in<'a>(given: &Given<'_, 'a>) -> Result<VolumeOptions, Misfit<'a>>
 }
 
 // The directory that is made.
-fn directory_in<'a>(alloc: Global, given: &Given<'_, 'a>) -> Result<Change, Misfit<'a>>
+fn directory_in(alloc: Global, given: &Given<'_, '_>) -> Result<Change, Misfit>
     ensures { Gives change_view (directory_made_by (said_of given.now)) result }
 {
-    let path = given.needed("name")?;
     Ok(Change::MakeDirectory {
-        path: path.to_string(alloc)?,
+        path: given.needed_text(alloc, "name")?,
         date: given.text(alloc, "date")?,
     })
 }
 
-pub fn mkdir_in<'a>(alloc: Global, given: &Given<'_, 'a>) -> Result<Ask, Misfit<'a>>
+pub fn mkdir_in(alloc: Global, given: &Given<'_, '_>) -> Result<Ask, Misfit>
     ensures { Gives ask_view (ask_by verbs.MakeDirectory (said_of given.now)) result }
 {
     let volume = prodos_in(given)?;

@@ -27,7 +27,7 @@ const STANDARD_VOLUME: u8 = 254;
 const MOST_COMMENT: usize = 65_472;
 
 /// The volume number of tracks that are made.
-pub fn volume_number<'a>(word: Option<&'a str>) -> Result<u8, Misfit<'a>>
+pub fn volume_number(word: Option<&str>) -> Result<u8, Misfit>
     ensures { Gives (λ v. v) (volume_number (option_map (λ s. s.now) word.entry)) result }
 {
     match word {
@@ -36,23 +36,22 @@ pub fn volume_number<'a>(word: Option<&'a str>) -> Result<u8, Misfit<'a>>
     }
 }
 
-pub fn convert_in<'a>(alloc: Global, given: &Given<'_, 'a>) -> Result<Ask, Misfit<'a>>
+pub fn convert_in(alloc: Global, given: &Given<'_, '_>) -> Result<Ask, Misfit>
     ensures { Gives ask_view (ask_by verbs.Convert (said_of given.now)) result }
 {
     let from = given.order()?;
     let to = order("to", given.needed("to")?)?;
     let volume = volume_number(given.said("volume"))?;
-    let out = given.needed("out")?;
     Ok(Ask::Convert {
         order: from,
         to,
-        out: out.to_string(alloc)?,
+        out: given.needed_text(alloc, "out")?,
         volume,
     })
 }
 
 // The volume number that a container tells, where one is said.
-fn told_volume<'a>(word: Option<&'a str>) -> Result<Option<u8>, Misfit<'a>>
+fn told_volume(word: Option<&str>) -> Result<Option<u8>, Misfit>
     ensures { Gives (λ v. v) (told_volume (option_map (λ s. s.now) word.entry)) result }
 {
     match word {
@@ -62,21 +61,18 @@ fn told_volume<'a>(word: Option<&'a str>) -> Result<Option<u8>, Misfit<'a>>
 }
 
 // The comment, empty where none is said.
-fn comment_said<'a>(word: Option<&'a str>) -> Result<&'a str, Misfit<'a>>
+fn comment_said<'a>(word: Option<&'a str>) -> Result<&'a str, Misfit>
     ensures { Gives (λ s. s.now) (comment_said (option_map (λ s. s.now) word.entry)) result }
 {
     match word {
         None => Ok(""),
         Some(word) if word.len() <= MOST_COMMENT => Ok(word),
-        Some(word) => Err(Misfit::Value {
-            name: "comment",
-            word,
-        }),
+        Some(_) => Err(Misfit::Value { name: "comment" }),
     }
 }
 
 // How an image is put into a container.
-fn wrap_options_in<'a>(alloc: Global, given: &Given<'_, 'a>) -> Result<WrapOptions, Misfit<'a>>
+fn wrap_options_in(alloc: Global, given: &Given<'_, '_>) -> Result<WrapOptions, Misfit>
     ensures { Gives wrapping_view (wrapping_by (said_of given.now)) result }
 {
     let order = given.order()?;
@@ -90,41 +86,36 @@ fn wrap_options_in<'a>(alloc: Global, given: &Given<'_, 'a>) -> Result<WrapOptio
     })
 }
 
-pub fn wrap_in<'a>(alloc: Global, given: &Given<'_, 'a>) -> Result<Ask, Misfit<'a>>
+pub fn wrap_in(alloc: Global, given: &Given<'_, '_>) -> Result<Ask, Misfit>
     ensures { Gives ask_view (ask_by verbs.Wrap (said_of given.now)) result }
 {
     let options = wrap_options_in(alloc, given)?;
-    let out = given.needed("out")?;
     Ok(Ask::Wrap {
         options,
-        out: out.to_string(alloc)?,
+        out: given.needed_text(alloc, "out")?,
     })
 }
 
-pub fn unwrap_in<'a>(alloc: Global, given: &Given<'_, 'a>) -> Result<Ask, Misfit<'a>>
+pub fn unwrap_in(alloc: Global, given: &Given<'_, '_>) -> Result<Ask, Misfit>
     ensures { Gives ask_view (ask_by verbs.Unwrap (said_of given.now)) result }
 {
-    let out = given.needed("out")?;
     Ok(Ask::Unwrap {
-        out: out.to_string(alloc)?,
+        out: given.needed_text(alloc, "out")?,
     })
 }
 
 // The form of a survey, lines where nothing is said.
-fn survey_form_said<'a>(word: Option<&'a str>) -> Result<SurveyForm, Misfit<'a>>
+fn survey_form_said(word: Option<&str>) -> Result<SurveyForm, Misfit>
     ensures { Gives (λ f. f) (survey_form_said (option_map (λ s. s.now) word.entry)) result }
 {
     match word {
         None | Some("lines") => Ok(SurveyForm::Lines),
         Some("json") => Ok(SurveyForm::Json),
-        Some(word) => Err(Misfit::Value {
-            name: "format",
-            word,
-        }),
+        Some(_) => Err(Misfit::Value { name: "format" }),
     }
 }
 
-pub fn survey_in<'a>(given: &Given<'_, 'a>) -> Result<Ask, Misfit<'a>>
+pub fn survey_in(given: &Given<'_, '_>) -> Result<Ask, Misfit>
     ensures { Gives ask_view (ask_by verbs.Survey (said_of given.now)) result }
 {
     let form = survey_form_said(given.said("format"))?;

@@ -31,7 +31,7 @@ const MOST_BLOCKS: u64 = 65_535;
 const DISK_BLOCKS: u16 = 280;
 
 // How many blocks a new volume has, those of a disk where none are said.
-fn blocks_said<'a>(word: Option<&'a str>) -> Result<u16, Misfit<'a>>
+fn blocks_said(word: Option<&str>) -> Result<u16, Misfit>
     ensures { Gives (λ b. b) (blocks_said (option_map (λ s. s.now) word.entry)) result }
 {
     let Some(word) = word else {
@@ -39,10 +39,7 @@ fn blocks_said<'a>(word: Option<&'a str>) -> Result<u16, Misfit<'a>>
     };
     match number_named(word, MOST_BLOCKS) {
         Some(blocks) if blocks >= FEWEST_BLOCKS => Ok(blocks as u16),
-        _ => Err(Misfit::Value {
-            name: "blocks",
-            word,
-        }),
+        _ => Err(Misfit::Value { name: "blocks" }),
     }
 }
 
@@ -57,7 +54,7 @@ fn usual_order(file_system: FileSystem) -> Order
 }
 
 // The order of the image of a new volume.
-fn order_said<'a>(file_system: FileSystem, word: Option<&'a str>) -> Result<Order, Misfit<'a>>
+fn order_said(file_system: FileSystem, word: Option<&str>) -> Result<Order, Misfit>
     ensures { Gives (λ o. o) (order_said file_system (option_map (λ s. s.now) word.entry)) result }
 {
     match word {
@@ -67,7 +64,7 @@ fn order_said<'a>(file_system: FileSystem, word: Option<&'a str>) -> Result<Orde
 }
 
 // The image whose system is copied, where one is said; to a data disk none is.
-fn boot_said<'a>(data_disk: bool, boot: Option<&'a str>) -> Result<Option<&'a str>, Misfit<'a>>
+fn boot_said<'a>(data_disk: bool, boot: Option<&'a str>) -> Result<Option<&'a str>, Misfit>
     ensures { Gives (λ b. option_map (λ s. s.now) b)
         (boot_said data_disk (option_map (λ s. s.now) boot.entry)) result }
 {
@@ -78,7 +75,7 @@ fn boot_said<'a>(data_disk: bool, boot: Option<&'a str>) -> Result<Option<&'a st
 }
 
 // A DOS 3.3 disk, of which no blocks, no name and no date are said.
-fn dos_volume_in<'a>(given: &Given<'_, 'a>) -> Result<NewVolume, Misfit<'a>>
+fn dos_volume_in(given: &Given<'_, '_>) -> Result<NewVolume, Misfit>
     ensures { Gives new_volume_view (new_volume_of (new_volume_words (said_of given.now)) FileSystem.Dos) result }
 {
     let data_disk = given.has("data-disk");
@@ -91,7 +88,7 @@ fn dos_volume_in<'a>(given: &Given<'_, 'a>) -> Result<NewVolume, Misfit<'a>>
 }
 
 // A ProDOS volume.
-fn prodos_volume_in<'a>(alloc: Global, given: &Given<'_, 'a>) -> Result<NewVolume, Misfit<'a>>
+fn prodos_volume_in(alloc: Global, given: &Given<'_, '_>) -> Result<NewVolume, Misfit>
     ensures { Gives new_volume_view (new_volume_of (new_volume_words (said_of given.now)) FileSystem.Prodos) result }
 {
     let blocks = blocks_said(given.said("blocks"))?;
@@ -103,11 +100,11 @@ fn prodos_volume_in<'a>(alloc: Global, given: &Given<'_, 'a>) -> Result<NewVolum
 }
 
 // A new volume of a file system.
-fn volume_in<'a>(
+fn volume_in(
     alloc: Global,
-    given: &Given<'_, 'a>,
+    given: &Given<'_, '_>,
     file_system: FileSystem,
-) -> Result<NewVolume, Misfit<'a>>
+) -> Result<NewVolume, Misfit>
     ensures { Gives new_volume_view (new_volume_of (new_volume_words (said_of given.now)) file_system) result }
 {
     match file_system {
@@ -117,7 +114,7 @@ fn volume_in<'a>(
 }
 
 // How a new volume is made.
-fn create_options_in<'a>(alloc: Global, given: &Given<'_, 'a>) -> Result<CreateOptions, Misfit<'a>>
+fn create_options_in(alloc: Global, given: &Given<'_, '_>) -> Result<CreateOptions, Misfit>
     ensures { Gives creation_view (creation_by (said_of given.now)) result }
 {
     let file_system = given.file_system()?;
@@ -131,15 +128,14 @@ fn create_options_in<'a>(alloc: Global, given: &Given<'_, 'a>) -> Result<CreateO
     })
 }
 
-pub fn create_in<'a>(alloc: Global, given: &Given<'_, 'a>) -> Result<Ask, Misfit<'a>>
+pub fn create_in(alloc: Global, given: &Given<'_, '_>) -> Result<Ask, Misfit>
     ensures { Gives ask_view (ask_by verbs.Create (said_of given.now)) result }
 {
     let boot = boot_said(given.has("data-disk"), given.said("boot"))?;
     let options = create_options_in(alloc, given)?;
-    let out = given.needed("out")?;
     Ok(Ask::Create {
         options,
         boot: text_of(alloc, boot)?,
-        out: out.to_string(alloc)?,
+        out: given.needed_text(alloc, "out")?,
     })
 }

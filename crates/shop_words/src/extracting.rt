@@ -20,21 +20,18 @@ use shop_jobs::{AddOptions, Ask, ExtractOptions, FileSystem};
 use std::alloc::Global;
 
 // How files are named, with their types where nothing is said.
-fn naming_said<'a>(word: Option<&'a str>) -> Result<Naming, Misfit<'a>>
+fn naming_said(word: Option<&str>) -> Result<Naming, Misfit>
     ensures { Gives (λ n. n) (naming_said (option_map (λ s. s.now) word.entry)) result }
 {
     match word {
         None | Some("naps") => Ok(Naming::Naps),
         Some("plain") => Ok(Naming::Plain),
-        Some(word) => Err(Misfit::Value {
-            name: "names",
-            word,
-        }),
+        Some(_) => Err(Misfit::Value { name: "names" }),
     }
 }
 
 // How the files of a volume are put into a folder.
-fn extract_options_in<'a>(given: &Given<'_, 'a>) -> Result<ExtractOptions, Misfit<'a>>
+fn extract_options_in(given: &Given<'_, '_>) -> Result<ExtractOptions, Misfit>
     ensures { Gives (λ o. o) (extraction_by (said_of given.now)) result }
 {
     let naming = naming_said(given.said("names"))?;
@@ -46,21 +43,20 @@ fn extract_options_in<'a>(given: &Given<'_, 'a>) -> Result<ExtractOptions, Misfi
     })
 }
 
-pub fn extract_in<'a>(alloc: Global, given: &Given<'_, 'a>) -> Result<Ask, Misfit<'a>>
+pub fn extract_in(alloc: Global, given: &Given<'_, '_>) -> Result<Ask, Misfit>
     ensures { Gives ask_view (ask_by verbs.Extract (said_of given.now)) result }
 {
     let volume = given.volume()?;
     let options = extract_options_in(given)?;
-    let into = given.needed("into")?;
     Ok(Ask::Extract {
         volume,
         options,
-        into: into.to_string(alloc)?,
+        into: given.needed_text(alloc, "into")?,
     })
 }
 
 // The directory of the volume under which the paths of the files begin, where one is said; a DOS 3.3 disk has none.
-fn directory_in<'a>(given: &Given<'_, 'a>) -> Result<Option<&'a str>, Misfit<'a>>
+fn directory_in<'a>(given: &Given<'_, 'a>) -> Result<Option<&'a str>, Misfit>
     ensures { Gives (λ d. option_map (λ s. s.now) d) (directory_by (said_of given.now)) result }
 {
     let into = given.said("into");
@@ -71,28 +67,26 @@ fn directory_in<'a>(given: &Given<'_, 'a>) -> Result<Option<&'a str>, Misfit<'a>
 }
 
 // How the files of a folder are added.
-fn add_options_in<'a>(alloc: Global, given: &Given<'_, 'a>) -> Result<AddOptions, Misfit<'a>>
+fn add_options_in(alloc: Global, given: &Given<'_, '_>) -> Result<AddOptions, Misfit>
     ensures { Gives addition_view (addition_by (said_of given.now)) result }
 {
-    let from = given.needed("from")?;
     let into = directory_in(given)?;
     Ok(AddOptions {
-        from: from.to_string(alloc)?,
+        from: given.needed_text(alloc, "from")?,
         into: text_of(alloc, into)?,
         date: given.text(alloc, "date")?,
     })
 }
 
-pub fn add_in<'a>(alloc: Global, given: &Given<'_, 'a>) -> Result<Ask, Misfit<'a>>
+pub fn add_in(alloc: Global, given: &Given<'_, '_>) -> Result<Ask, Misfit>
     ensures { Gives ask_view (ask_by verbs.Add (said_of given.now)) result }
 {
     let volume = given.volume()?;
     let options = add_options_in(alloc, given)?;
-    let out = given.needed("out")?;
     Ok(Ask::Add {
         volume,
         reserve: given.text(alloc, "reserve")?,
         options,
-        out: out.to_string(alloc)?,
+        out: given.needed_text(alloc, "out")?,
     })
 }

@@ -51,7 +51,7 @@ impl<'a> Given<'_, 'a> {
     }
 
     /// The same of a parameter that must be said.
-    pub fn needed(&self, name: &'static str) -> Result<&'a str, Misfit<'a>>
+    pub fn needed(&self, name: &'static str) -> Result<&'a str, Misfit>
         ensures { Gives (λ s. s.now) ((words_of self.now).say name.now) result }
     {
         match self.said(name) {
@@ -61,7 +61,17 @@ impl<'a> Given<'_, 'a> {
     }
 
     /// The same as a text of its own.
-    pub fn text(&self, alloc: Global, name: &str) -> Result<Option<String>, Misfit<'a>>
+    pub fn needed_text(&self, alloc: Global, name: &'static str) -> Result<String, Misfit>
+        ensures { Gives string_bytes ((words_of self.now).say name.now) result }
+    {
+        match self.said(name) {
+            Some(word) => Ok(word.to_string(alloc)?),
+            None => Err(Misfit::Missing { name }),
+        }
+    }
+
+    /// What the words say under a parameter's name that may be left out, as a text of its own.
+    pub fn text(&self, alloc: Global, name: &str) -> Result<Option<String>, Misfit>
         ensures text { IfOk result (λ text. option_map string_bytes text ≡ (words_of self.now).say name.now) }
         ensures memory { IfErr result (λ misfit. misfit ≡ Misfit.Memory) }
     {
@@ -82,19 +92,19 @@ impl<'a> Given<'_, 'a> {
     }
 
     /// The file system of the image.
-    pub fn file_system(&self) -> Result<FileSystem, Misfit<'a>>
+    pub fn file_system(&self) -> Result<FileSystem, Misfit>
         ensures { Gives (λ f. f) (option_and_then file_system_named (said_of self.now (codes "fs"))) result }
     {
         match self.file_system_word() {
             Some("dos") => Ok(FileSystem::Dos),
             Some("prodos") => Ok(FileSystem::Prodos),
-            Some(word) => Err(Misfit::Value { name: "fs", word }),
+            Some(_) => Err(Misfit::Value { name: "fs" }),
             None => Err(Misfit::Missing { name: "fs" }),
         }
     }
 
     /// The order of the image.
-    pub fn order(&self) -> Result<Order, Misfit<'a>>
+    pub fn order(&self) -> Result<Order, Misfit>
         ensures { Gives (λ o. o) (option_and_then order_named (said_of self.now (codes "order"))) result }
     {
         match self.order_word() {
@@ -104,7 +114,7 @@ impl<'a> Given<'_, 'a> {
     }
 
     /// The order of the other image, that of the image where none is said.
-    pub fn other_order(&self) -> Result<Order, Misfit<'a>>
+    pub fn other_order(&self) -> Result<Order, Misfit>
         ensures { Gives (λ o. o)
             (other_order (said_of self.now (codes "other-order")) (said_of self.now (codes "order"))) result }
     {
@@ -115,7 +125,7 @@ impl<'a> Given<'_, 'a> {
     }
 
     /// What the image is read as.
-    pub fn volume(&self) -> Result<VolumeOptions, Misfit<'a>>
+    pub fn volume(&self) -> Result<VolumeOptions, Misfit>
         ensures { Gives (λ v. v) (volume_by (said_of self.now)) result }
     {
         Ok(VolumeOptions {
@@ -126,7 +136,7 @@ impl<'a> Given<'_, 'a> {
     }
 
     /// How the words name a file.
-    pub fn name(&self, alloc: Global) -> Result<FileName, Misfit<'a>>
+    pub fn name(&self, alloc: Global) -> Result<FileName, Misfit>
         ensures { Gives file_name_view (name_by (said_of self.now)) result }
     {
         let word = self.needed("name")?;
@@ -135,12 +145,12 @@ impl<'a> Given<'_, 'a> {
         }
         match bytes_named(alloc, word)? {
             Some(bytes) => Ok(FileName::Stored(bytes)),
-            None => Err(Misfit::NoStoredName { word }),
+            None => Err(Misfit::NoStoredName),
         }
     }
 
     /// Where the image goes.
-    pub fn target(&self, alloc: Global) -> Result<Target, Misfit<'a>>
+    pub fn target(&self, alloc: Global) -> Result<Target, Misfit>
         ensures { Gives target_view (target_by (said_of self.now)) result }
     {
         match (self.said("out"), self.has("in-place")) {
@@ -153,13 +163,13 @@ impl<'a> Given<'_, 'a> {
 }
 
 /// The order that a word names as the value of an option.
-pub fn order<'a>(name: &'static str, word: &'a str) -> Result<Order, Misfit<'a>>
+pub fn order(name: &'static str, word: &str) -> Result<Order, Misfit>
     ensures { Gives (λ o. o) (order_named word.now) result }
 {
     match word {
         "dos" => Ok(Order::Dos),
         "prodos" => Ok(Order::Prodos),
         "nibble" => Ok(Order::Nibble),
-        _ => Err(Misfit::Value { name, word }),
+        _ => Err(Misfit::Value { name }),
     }
 }

@@ -26,7 +26,7 @@ use shop_jobs::{Ask, CompareOptions, ListForm, ListOptions, Look, ReadForm};
 use std::alloc::Global;
 
 /// What is asked by a command that looks for this, and reserves no places.
-pub fn listing_in<'a>(given: &Given<'_, 'a>, look: Look) -> Result<Ask, Misfit<'a>>
+pub fn listing_in(given: &Given<'_, '_>, look: Look) -> Result<Ask, Misfit>
     ensures { Gives ask_view (look_by (Some (look_view look)) None (said_of given.now)) result }
 {
     Ok(Ask::Look {
@@ -37,22 +37,19 @@ pub fn listing_in<'a>(given: &Given<'_, 'a>, look: Look) -> Result<Ask, Misfit<'
 }
 
 // The form of a list, the names where none is said.
-fn form_said<'a>(word: Option<&'a str>) -> Result<ListForm, Misfit<'a>>
+fn form_said(word: Option<&str>) -> Result<ListForm, Misfit>
     ensures { Gives (λ f. f) (form_said (option_map (λ s. s.now) word.entry)) result }
 {
     match word {
         None | Some("names") => Ok(ListForm::Names),
         Some("json") => Ok(ListForm::Json),
         Some("csv") => Ok(ListForm::Csv),
-        Some(word) => Err(Misfit::Value {
-            name: "format",
-            word,
-        }),
+        Some(_) => Err(Misfit::Value { name: "format" }),
     }
 }
 
 // The form of a list, which is JSON where places are told.
-fn form_for<'a>(places: bool, form: ListForm) -> Result<ListForm, Misfit<'a>>
+fn form_for(places: bool, form: ListForm) -> Result<ListForm, Misfit>
     ensures { Gives (λ f. f) (form_taken places (Some form)) result }
 {
     match form {
@@ -62,7 +59,7 @@ fn form_for<'a>(places: bool, form: ListForm) -> Result<ListForm, Misfit<'a>>
 }
 
 // How the entries of a volume are told.
-fn list_options_in<'a>(given: &Given<'_, 'a>) -> Result<Look, Misfit<'a>>
+fn list_options_in(given: &Given<'_, '_>) -> Result<Look, Misfit>
     ensures { Gives look_view (list_by (said_of given.now)) result }
 {
     let places = given.has("places");
@@ -77,7 +74,7 @@ fn list_options_in<'a>(given: &Given<'_, 'a>) -> Result<Look, Misfit<'a>>
     }))
 }
 
-pub fn list_in<'a>(given: &Given<'_, 'a>) -> Result<Ask, Misfit<'a>>
+pub fn list_in(given: &Given<'_, '_>) -> Result<Ask, Misfit>
     ensures { Gives ask_view (ask_by verbs.List (said_of given.now)) result }
 {
     let look = list_options_in(given)?;
@@ -85,7 +82,7 @@ pub fn list_in<'a>(given: &Given<'_, 'a>) -> Result<Ask, Misfit<'a>>
 }
 
 /// What is asked by a command that looks for this, and may reserve places.
-pub fn look_in<'a>(alloc: Global, given: &Given<'_, 'a>, look: Look) -> Result<Ask, Misfit<'a>>
+pub fn look_in(alloc: Global, given: &Given<'_, '_>, look: Look) -> Result<Ask, Misfit>
     ensures { Gives ask_view (look_by (Some (look_view look)) (said_of given.now (codes "reserve")) (said_of given.now))
         result }
 {
@@ -97,7 +94,7 @@ pub fn look_in<'a>(alloc: Global, given: &Given<'_, 'a>, look: Look) -> Result<A
 }
 
 // The path of the other image of a comparison; not both are standard input.
-fn other_named<'a>(given: &Given<'_, 'a>) -> Result<&'a str, Misfit<'a>>
+fn other_named<'a>(given: &Given<'_, 'a>) -> Result<&'a str, Misfit>
     ensures { Gives (λ s. s.now) (names_other (said_of given.now (codes "image")) (said_of given.now (codes "other")))
         result }
 {
@@ -110,7 +107,7 @@ fn other_named<'a>(given: &Given<'_, 'a>) -> Result<&'a str, Misfit<'a>>
 }
 
 // How another image is compared with the image.
-fn compare_options_in<'a>(given: &Given<'_, 'a>) -> Result<CompareOptions, Misfit<'a>>
+fn compare_options_in(given: &Given<'_, '_>) -> Result<CompareOptions, Misfit>
     ensures { Gives (λ o. o) (options_by (said_of given.now)) result }
 {
     let other_order = given.other_order()?;
@@ -123,7 +120,7 @@ fn compare_options_in<'a>(given: &Given<'_, 'a>) -> Result<CompareOptions, Misfi
 }
 
 // The other image that words name, and how it is compared.
-fn comparison_in<'a>(alloc: Global, given: &Given<'_, 'a>) -> Result<Look, Misfit<'a>>
+fn comparison_in(alloc: Global, given: &Given<'_, '_>) -> Result<Look, Misfit>
     ensures { Gives look_view (compare_by (said_of given.now)) result }
 {
     let other = other_named(given)?;
@@ -134,14 +131,14 @@ fn comparison_in<'a>(alloc: Global, given: &Given<'_, 'a>) -> Result<Look, Misfi
     })
 }
 
-pub fn compare_in<'a>(alloc: Global, given: &Given<'_, 'a>) -> Result<Ask, Misfit<'a>>
+pub fn compare_in(alloc: Global, given: &Given<'_, '_>) -> Result<Ask, Misfit>
     ensures { Gives ask_view (ask_by verbs.Compare (said_of given.now)) result }
 {
     let look = comparison_in(alloc, given)?;
     listing_in(given, look)
 }
 
-pub fn check_in<'a>(alloc: Global, given: &Given<'_, 'a>) -> Result<Ask, Misfit<'a>>
+pub fn check_in(alloc: Global, given: &Given<'_, '_>) -> Result<Ask, Misfit>
     ensures { Gives ask_view (ask_by verbs.Check (said_of given.now)) result }
 {
     let bodies = given.has("bodies");
@@ -163,7 +160,7 @@ fn read_form_named(word: &str) -> Option<ReadForm>
 }
 
 // As what a file is read: its body, the whole of it or a form of it.
-fn read_form_said<'a>(whole: bool, word: Option<&'a str>) -> Result<ReadForm, Misfit<'a>>
+fn read_form_said(whole: bool, word: Option<&str>) -> Result<ReadForm, Misfit>
     ensures { Gives (λ f. f) (read_form_said whole (option_map (λ s. s.now) word.entry)) result }
 {
     match (whole, word) {
@@ -172,13 +169,13 @@ fn read_form_said<'a>(whole: bool, word: Option<&'a str>) -> Result<ReadForm, Mi
         (true, Some(_)) => Err(Misfit::WholeAndForm),
         (false, Some(word)) => match read_form_named(word) {
             Some(form) => Ok(form),
-            None => Err(Misfit::Value { name: "as", word }),
+            None => Err(Misfit::Value { name: "as" }),
         },
     }
 }
 
 // The file that is read, and where its bytes go.
-fn reading_in<'a>(alloc: Global, given: &Given<'_, 'a>) -> Result<Look, Misfit<'a>>
+fn reading_in(alloc: Global, given: &Given<'_, '_>) -> Result<Look, Misfit>
     ensures { Gives look_view (read_by (said_of given.now)) result }
 {
     let form = read_form_said(given.has("whole"), given.said("as"))?;
@@ -190,14 +187,14 @@ fn reading_in<'a>(alloc: Global, given: &Given<'_, 'a>) -> Result<Look, Misfit<'
     })
 }
 
-pub fn read_in<'a>(alloc: Global, given: &Given<'_, 'a>) -> Result<Ask, Misfit<'a>>
+pub fn read_in(alloc: Global, given: &Given<'_, '_>) -> Result<Ask, Misfit>
     ensures { Gives ask_view (ask_by verbs.Read (said_of given.now)) result }
 {
     let look = reading_in(alloc, given)?;
     listing_in(given, look)
 }
 
-pub fn plan_in<'a>(alloc: Global, given: &Given<'_, 'a>) -> Result<Ask, Misfit<'a>>
+pub fn plan_in(alloc: Global, given: &Given<'_, '_>) -> Result<Ask, Misfit>
     ensures { Gives ask_view (ask_by verbs.Plan (said_of given.now)) result }
 {
     let reclaim = given.has("reclaim");
@@ -205,10 +202,10 @@ pub fn plan_in<'a>(alloc: Global, given: &Given<'_, 'a>) -> Result<Ask, Misfit<'
     look_in(alloc, given, Look::Plan { reclaim, words })
 }
 
-pub fn verify_in<'a>(alloc: Global, given: &Given<'_, 'a>) -> Result<Ask, Misfit<'a>>
+pub fn verify_in(alloc: Global, given: &Given<'_, '_>) -> Result<Ask, Misfit>
     ensures { Gives ask_view (ask_by verbs.Verify (said_of given.now)) result }
 {
-    let from = given.needed("from")?.to_string(alloc)?;
+    let from = given.needed_text(alloc, "from")?;
     let reclaim = given.has("reclaim");
     look_in(alloc, given, Look::Verify { from, reclaim })
 }

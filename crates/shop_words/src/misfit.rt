@@ -6,13 +6,13 @@ use std::alloc::AllocError;
 
 /// Why words that clap takes are no job.
 #[derive(Clone, Copy)]
-pub enum Misfit<'a> {
+pub enum Misfit {
     /// A parameter that must be said is left out.
     Missing { name: &'static str },
     /// An option does not take its value.
-    Value { name: &'static str, word: &'a str },
+    Value { name: &'static str },
     /// The name of a file is to be the stored one, and is not in hexadecimal digits.
-    NoStoredName { word: &'a str },
+    NoStoredName,
     /// Places are to be told in another form than JSON.
     PlacesWithoutJson,
     /// A file is to be read whole and in a form.
@@ -37,7 +37,7 @@ pub enum Misfit<'a> {
     Memory,
 }
 
-impl From<AllocError> for Misfit<'_> {
+impl From<AllocError> for Misfit {
     ghost from_gives = { λ _ e. e ≡ Memory };
 
     fn from(_error: AllocError) -> Self {

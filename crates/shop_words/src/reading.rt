@@ -66,13 +66,13 @@ fn up_to(number: u64, greatest: u64) -> Option<u64>
 }
 
 /// The number that a word writes as the value of an option, up to the greatest.
-pub fn number<'a>(name: &'static str, word: &'a str, greatest: u64) -> Result<u64, Misfit<'a>>
+pub fn number(name: &'static str, word: &str, greatest: u64) -> Result<u64, Misfit>
     ensures value { Gives (λ n. n) (number_of greatest word.now) result }
     ensures within { IfOk result (λ n. n ≤ greatest) }
 {
     match number_named(word, greatest) {
         Some(number) => Ok(number),
-        None => Err(Misfit::Value { name, word }),
+        None => Err(Misfit::Value { name }),
     }
 }
 
@@ -88,7 +88,7 @@ pub fn address_named(word: &str) -> Option<u16>
 }
 
 /// How many bytes files may have in all.
-pub fn most_bytes(word: Option<&str>) -> Result<u64, Misfit<'_>>
+pub fn most_bytes(word: Option<&str>) -> Result<u64, Misfit>
     ensures { Gives (λ n. n) (bytes_said (option_map (λ s. s.now) word.entry)) result }
 {
     match word {

@@ -30,7 +30,7 @@ use std::alloc::Global;
 const PROGRAM_START: u16 = 0x0801;
 
 // The auxiliary type, if one is said.
-fn aux_named<'a>(word: Option<&'a str>) -> Result<Option<u16>, Misfit<'a>>
+fn aux_named(word: Option<&str>) -> Result<Option<u16>, Misfit>
     ensures { Gives (λ a. a) (aux_named (option_map (λ s. s.now) word.entry)) result }
 {
     let Some(word) = word else {
@@ -38,7 +38,7 @@ fn aux_named<'a>(word: Option<&'a str>) -> Result<Option<u16>, Misfit<'a>>
     };
     match address_named(word) {
         Some(aux) => Ok(Some(aux)),
-        None => Err(Misfit::Value { name: "aux", word }),
+        None => Err(Misfit::Value { name: "aux" }),
     }
 }
 
@@ -53,23 +53,23 @@ fn usual_high(file_system: FileSystem) -> HighBit
 }
 
 // The highest bit of the bytes of a text.
-fn high_said<'a>(file_system: FileSystem, word: Option<&'a str>) -> Result<HighBit, Misfit<'a>>
+fn high_said(file_system: FileSystem, word: Option<&str>) -> Result<HighBit, Misfit>
     ensures { Gives (λ h. h) (high_said file_system (option_map (λ s. s.now) word.entry)) result }
 {
     match word {
         None => Ok(usual_high(file_system)),
         Some("on") => Ok(HighBit::On),
         Some("off") => Ok(HighBit::Off),
-        Some(word) => Err(Misfit::Value { name: "high", word }),
+        Some(_) => Err(Misfit::Value { name: "high" }),
     }
 }
 
 // The form that a word names, with the highest bit that is said of a text.
-fn given_form_named<'a>(
-    word: &'a str,
-    high: Option<&'a str>,
+fn given_form_named(
+    word: &str,
+    high: Option<&str>,
     file_system: FileSystem,
-) -> Result<Option<GivenForm>, Misfit<'a>>
+) -> Result<Option<GivenForm>, Misfit>
     ensures { Gives (λ f. f) (given_form_named word.now (option_map (λ s. s.now) high.entry) file_system) result }
 {
     match (word, high) {
@@ -77,16 +77,16 @@ fn given_form_named<'a>(
         ("applesoft", None) => Ok(Some(GivenForm::Applesoft)),
         ("single", None) => Ok(Some(GivenForm::Single)),
         ("applesoft" | "single", Some(_)) => Err(Misfit::HighWithoutText),
-        _ => Err(Misfit::Value { name: "as", word }),
+        _ => Err(Misfit::Value { name: "as" }),
     }
 }
 
 // The form in which a new file is given; `None` is its bytes.
-fn given_form_said<'a>(
-    word: Option<&'a str>,
-    high: Option<&'a str>,
+fn given_form_said(
+    word: Option<&str>,
+    high: Option<&str>,
     file_system: FileSystem,
-) -> Result<Option<GivenForm>, Misfit<'a>>
+) -> Result<Option<GivenForm>, Misfit>
     ensures { Gives (λ f. f) (given_form_said (option_map (λ s. s.now) word.entry)
         (option_map (λ s. s.now) high.entry) file_system) result }
 {
@@ -98,7 +98,7 @@ fn given_form_said<'a>(
 }
 
 // The same as the words say it.
-fn given_form_in<'a>(given: &Given<'_, 'a>) -> Result<Option<GivenForm>, Misfit<'a>>
+fn given_form_in(given: &Given<'_, '_>) -> Result<Option<GivenForm>, Misfit>
     ensures { Gives (λ f. f) (given_form_by (said_of given.now)) result }
 {
     let file_system = given.file_system()?;
@@ -116,11 +116,11 @@ fn is_loadable(form: Option<GivenForm>, aux: Option<u16>) -> bool
 }
 
 // What the words say of a new file with this auxiliary type.
-fn attributes_in<'a>(
+fn attributes_in(
     alloc: Global,
-    given: &Given<'_, 'a>,
+    given: &Given<'_, '_>,
     aux: Option<u16>,
-) -> Result<SaveAttributes, Misfit<'a>>
+) -> Result<SaveAttributes, Misfit>
     ensures attributes { IfOk result (λ attributes.
         attributes_view attributes ≡ attributes_by aux (said_of given.now)) }
     ensures memory { IfErr result (λ misfit. misfit ≡ Misfit.Memory) }
@@ -133,26 +133,24 @@ fn attributes_in<'a>(
 }
 
 // The change that is made by `save`.
-fn saving_in<'a>(alloc: Global, given: &Given<'_, 'a>) -> Result<Change, Misfit<'a>>
+fn saving_in(alloc: Global, given: &Given<'_, '_>) -> Result<Change, Misfit>
     ensures { Gives change_view (save_by (said_of given.now)) result }
 {
-    let name = given.needed("name")?;
     let aux = aux_named(given.said("aux"))?;
     let form = given_form_in(given)?;
-    let from = given.needed("from")?;
     if !is_loadable(form, aux) {
         return Err(Misfit::LoadedElsewhere);
     }
     Ok(Change::Save {
-        name: name.to_string(alloc)?,
+        name: given.needed_text(alloc, "name")?,
         attributes: attributes_in(alloc, given, aux)?,
         form,
-        from: from.to_string(alloc)?,
+        from: given.needed_text(alloc, "from")?,
         replace: given.has("replace"),
     })
 }
 
-pub fn save_in<'a>(alloc: Global, given: &Given<'_, 'a>) -> Result<Ask, Misfit<'a>>
+pub fn save_in(alloc: Global, given: &Given<'_, '_>) -> Result<Ask, Misfit>
     ensures { Gives ask_view (ask_by verbs.Save (said_of given.now)) result }
 {
     let change = saving_in(alloc, given)?;

@@ -536,7 +536,7 @@ const DIRECTORY_DATE: Parameter = Parameter {
     help: Help::DirectoryDate,
 };
 
-const FORMS: &[Form] = &[
+static FORMS: [Form; 24] = [
     Form {
         name: "catalog",
         verb: Verb::Catalog,
@@ -808,5 +808,5 @@ const FORMS: &[Form] = &[
 pub fn all_forms() -> &'static [Form]
     ensures { map form_view result.now ≡ forms }
 {
-    FORMS
+    &FORMS
 }
