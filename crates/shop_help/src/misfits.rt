@@ -17,7 +17,7 @@ const OR_AUTO: &str = "\nSay how the image is read, or say --auto\n";
 /// The refusal of words that are no job, or want of memory.
 pub fn misfit_fault(alloc: Global, asked: &Asked<'_>, misfit: Misfit) -> WordsFault
     ensures refused { IsRefused result }
-    ensures memory { misfit.entry ≡ Misfit.Memory → result ≡ WordsFault.Memory }
+    ensures memory { misfit ≡ Misfit.Memory → result ≡ WordsFault.Memory }
 {
     if matches!(misfit, Misfit::Memory) {
         return WordsFault::Memory;
