@@ -17,7 +17,7 @@ use Rattle.shop_jobs.specs.declared.job.ReadForm.{ReadForm}
 use Rattle.shop_replies.specs.declared.refusal.Refusal.TheVariants as refusals
 use Rattle.shop_replies.specs.declared.refusal.Failure.TheVariants as failures
 use Rattle.shop_replies.specs.declared.reply.Reply.{Reply}
-use Rattle.shop_replies.specs.declared.reply.Status.TheVariants.{Done, Refused, Wrong}
+use Rattle.shop_replies.specs.declared.reply.Status.TheVariants.{Done, Wrong}
 use Rattle.shop_replies.specs.Reply.{IsMade, IsMadeReply}
 use Rattle.shop_replies.proofs.NotMade.{failed_not_made, refused_not_made, told_not_made}
 use Rattle.shop_volumes.proofs.NotMade.{unopened_told_not_made}
