@@ -16,7 +16,7 @@ import tempfile
 from readme import examples
 
 TOP = os.path.dirname(os.path.dirname(os.path.abspath(__file__)))
-CRATE = f"{TOP}/crates/a2_shop"
+CRATE = f"{TOP}/crates/shop_program"
 # The status that is wanted, and the command line. Each program has a folder of its own, with the samples and the copy as they are here,
 # so none finds what another wrote.
 LINES = (

@@ -16,7 +16,7 @@ import sys
 import time
 
 TOP = os.path.dirname(os.path.dirname(os.path.abspath(__file__)))
-PROGRAM = "a2_shop"
+PROGRAM = "shop_program"
 
 
 def lines_of(name):

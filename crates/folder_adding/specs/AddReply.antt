@@ -34,7 +34,7 @@ use Rattle.shop_replies.specs.declared.refusal.Refusal.{Refusal}
 use Rattle.shop_replies.specs.declared.reply.Reply.{Reply}
 use Rattle.shop_replies.specs.declared.reply.Status.TheVariants.{Done, Refused}
 use Rattle.shop_replies.specs.declared.reply.Told.TheVariants as tells
-use Rattle.shop_words.specs.Escaping.{escaped}
+use Rattle.shown_text.specs.Escaping.{escaped}
 use Rattle.vol_format.specs.Accepted.{IsVolume}
 use Rattle.vol_format.specs.Meaning.{Meaning}
 

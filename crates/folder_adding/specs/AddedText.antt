@@ -8,7 +8,7 @@ use Rattle.folder_adding.specs.Items.{BatchView, ItemView}
 use Rattle.row_text.specs.Shown.{shown}
 use Rattle.shop_jobs.specs.declared.job.FileSystem.{FileSystem}
 use Rattle.shop_jobs.specs.declared.job.FileSystem.TheVariants.{Dos, Prodos}
-use Rattle.shop_words.specs.Escaping.{escaped}
+use Rattle.shown_text.specs.Escaping.{escaped}
 
 -- a byte of a path of ProDOS, whose letters are stored as capitals
 abbrev pub shown_capital : ℕ → ℕ

@@ -4,7 +4,7 @@ ghost use Rattle.folder_adding.specs.HostEntries.{entry_view};
 ghost use Rattle.folder_adding.specs.AddedText.{passed_line, passed_lines};
 
 use crate::host_entry::HostEntry;
-use shop_words::escaped;
+use shown_text::escaped;
 use std::alloc::{AllocError, Global};
 
 // Adds the line of the entry that has this number.

@@ -4,7 +4,7 @@ ghost use Rattle.folder_adding.specs.AddReply.{IsOfEntry, TellsAt, line_at};
 ghost use Rattle.shop_replies.specs.Reply.{told_text};
 
 use shop_replies::{Failure, Refusal, Reply, Status, Told};
-use shop_words::escaped;
+use shown_text::escaped;
 use std::alloc::{AllocError, Global};
 
 // Whether a reply is a refusal for what an entry says or holds.

@@ -6,7 +6,7 @@ use Rattle.serde_json.specs.Written.{compact_text}
 use Rattle.file_listings.specs.DosText.{line}
 use Rattle.row_text.specs.Shown.{Text}
 use Rattle.shop_replies.specs.Reply.{AppendsFront, IsWritten}
-use Rattle.shop_words.specs.Escaping.{escaped}
+use Rattle.shown_text.specs.Escaping.{escaped}
 use Rattle.image_survey.specs.JsonLines.{file_data, same_data, totals_data}
 use Rattle.image_survey.specs.Lines.{file_text, same_text, totals_text}
 use Rattle.image_survey.specs.Same.{AreSameLines, candidate_at}

@@ -40,7 +40,7 @@ use crate::same::{SameLine, same_lines};
 use crate::surveyed::Surveyed;
 use shop_jobs::SurveyForm;
 use shop_replies::{write_whole, written};
-use shop_words::escaped;
+use shown_text::escaped;
 use std::alloc::{AllocError, Global};
 use std::io::Write;
 

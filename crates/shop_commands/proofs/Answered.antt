@@ -13,8 +13,8 @@ use Rattle.shop_jobs.specs.declared.job.FileSystem.{FileSystem}
 use Rattle.pro_dir.specs.declared.date.ProDate.{ProDate}
 use Rattle.shop_jobs.specs.declared.job.VolumeOptions.{VolumeOptions}
 use Rattle.shop_words.specs.Asked.{asked_job}
-use Rattle.shop_words.specs.declared.fault.WordsFault.{WordsFault}
-use Rattle.shop_words.specs.declared.fault.WordsFault.TheVariants as words
+use Rattle.shop_help.specs.declared.fault.WordsFault.{WordsFault}
+use Rattle.shop_help.specs.declared.fault.WordsFault.TheVariants as words
 use Rattle.shop_replies.specs.declared.refusal.Failure.{Failure}
 use Rattle.shop_replies.specs.declared.refusal.Refusal.TheVariants as refusals
 use Rattle.shop_replies.specs.declared.reply.Reply.{Reply}

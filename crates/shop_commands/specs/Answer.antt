@@ -15,9 +15,9 @@ use Rattle.shop_jobs.specs.declared.job.FileSystem.{FileSystem}
 use Rattle.shop_jobs.specs.declared.job.FileSystem.TheVariants as systems
 use Rattle.shop_jobs.specs.declared.job.VolumeOptions.{VolumeOptions}
 use Rattle.shop_words.specs.Asked.{asked_job, IsTaken}
-use Rattle.shop_words.specs.Fault.{IsFaultOf}
-use Rattle.shop_words.specs.declared.fault.WordsFault.{WordsFault}
-use Rattle.shop_words.specs.declared.fault.WordsFault.TheVariants as words
+use Rattle.shop_help.specs.Fault.{IsFaultOf}
+use Rattle.shop_help.specs.declared.fault.WordsFault.{WordsFault}
+use Rattle.shop_help.specs.declared.fault.WordsFault.TheVariants as words
 use Rattle.shop_replies.specs.declared.refusal.Failure.{Failure}
 use Rattle.shop_replies.specs.declared.refusal.Failure.TheVariants as failures
 use Rattle.shop_replies.specs.declared.refusal.Refusal.{Refusal}

@@ -15,9 +15,9 @@ ghost use Rattle.shop_commands.specs.Answer.{
 ghost use Rattle.shop_replies.specs.Reply.{held};
 
 use crate::job::run_job;
+use shop_help::{WordsFault, parse_words};
 use shop_jobs::Job;
 use shop_replies::{Failure, Reply, written};
-use shop_words::{WordsFault, parse_words};
 use std::alloc::Global;
 use std::io::{Read, Write};
 

@@ -12,7 +12,7 @@ use a2_device::Order;
 use disk_container::MOST_BYTES;
 use explanations::{Explanation, FINDINGS, REFUSALS, explained};
 use shop_replies::most_bytes;
-use shop_words::escaped;
+use shown_text::escaped;
 use std::alloc::AllocError;
 use std::{fmt, fs, io};
 

@@ -2,7 +2,7 @@
 use crate::image::{ImageUse, OpenImage};
 use apple_text::first_character;
 use disk_container::MOST_BYTES;
-use shop_words::escaped;
+use shown_text::escaped;
 use std::alloc::{AllocError, Global};
 use std::fs;
 

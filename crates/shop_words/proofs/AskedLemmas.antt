@@ -1,38 +1,103 @@
--- The job that words ask for: of no word, of other words, and of a plain list.
-use Rattle.std.proofs.Common.{◌≡◌, ◌∙◌, inl, inr, ap, refl, false, true, List, [], Some, None, codes, is_some}
+-- What plain lists ask for: of no word, and of words that are printed from a form.
+use Rattle.std.proofs.Common.{◌≡◌, ◌∙◌, inl, inr, ap, refl, subst, sym, true, List, [], Result, Ok, Err, IfErr, IfOk, Option, Some, None, is_some}
 use Rattle.clap.proofs.OnLiterals.{clap_on_literals}
 use Rattle.clap.specs.Takes.{takes}
-use Rattle.shop_words.specs.Table.{Text, FormView}
-use Rattle.shop_words.specs.Asked.{IsTaken, asked_job}
+use Rattle.shop_jobs.specs.Job.{JobView}
+use Rattle.shop_words.specs.Table.{Text, FormView, forms}
+use Rattle.shop_words.specs.Asked.{AskedView, asked_by, asked_list}
+use Rattle.shop_words.specs.Gives.{Gives}
 use Rattle.shop_words.specs.Grammar.{shop}
 use Rattle.shop_words.specs.Plain.{Use, IsLine, IsPlain}
-use Rattle.shop_jobs.specs.Job.{AskView, Catalog, LookAt}
-use Rattle.shop_words.specs.Job.{line_job, meant_words, standard_words}
-use Rattle.shop_jobs.specs.declared.job.FileSystem.TheVariants as file_systems
-use Rattle.a2_device.specs.declared.order.Order.TheVariants as orders
-use Rattle.shop_words.proofs.PlainTable.{asked_job-plain, is_some-line_job, takes-plain}
+use Rattle.shop_words.specs.Job.{is_closed, job_with, line_job, meant_words, standard_words}
+use Rattle.shop_words.specs.Ways.{left_open}
+use Rattle.shop_words.specs.declared.misfit.Misfit.{Misfit}
+use Rattle.shop_words.specs.declared.misfit.Misfit.TheVariants.{Memory}
+use Rattle.shop_words.specs.declared.ways.Ways.{Ways}
+use Rattle.shop_words.proofs.PlainTable.{asked_list-plain, is_some-line_job, takes-plain}
+use Rattle.shop_words.proofs.PlainTaken.{finished_rows, top_rows}
+use Rattle.shop_words.proofs.PlainWays.{closed-line, job_with-line}
+use Rattle.shop_words.proofs.CommandRows.{none_is_some}
 
-abbrev pub standard_ask : AskView
-standard_ask = LookAt (record { file_system = file_systems.Dos; order = orders.Dos; data_disk = false }) None Catalog
+-- what is asked leaves nothing to the images, and has a job whatever ways these have
+abbrev IsSettled : AskedView → Type 0
+IsSettled a = (is_closed (left_open a.words) ≡ true) × ((ways : Ways) → is_some (job_with ways a.words) ≡ true)
 
-pub asked_job-none : asked_job [] ≡ Some (record { image = codes "-"; ask = standard_ask })
-unfolding shop clap_on_literals
-asked_job-none = refl
+abbrev IsSettledIf : Option AskedView → Type 0
+IsSettledIf None = Unit {0}
+IsSettledIf (Some a) = IsSettled a
 
-pub asked_job-line : (words : List Text) (f : FormView) (positionals : List Text) (uses : List Use) → IsLine words f positionals uses
-    → asked_job words ≡ line_job f positionals uses
-asked_job-line words f positionals uses line = ap asked_job line.printed ∙ asked_job-plain f positionals uses line.form line.plain
+-- ---- no word
+
+no_word : IsSettledIf (asked_list [])
+unfolding forms shop clap_on_literals
+no_word = (refl, λ ways. refl)
+
+asked-standard : is_some (asked_list []) ≡ true
+unfolding forms shop clap_on_literals
+asked-standard = refl
 
 takes-standard : takes shop standard_words ≡ true
-unfolding shop clap_on_literals
+unfolding forms shop clap_on_literals
 takes-standard = refl
 
--- clap takes a plain list, which has a job
-pub plain_taken : (words : List Text) → IsPlain words → IsTaken words
+-- ---- a printed list
+
+asked_line : (words : List Text) (f : FormView) (positionals : List Text) (uses : List Use) → IsLine words f positionals uses
+    → asked_list words ≡ Some (asked_by top_rows (finished_rows f positionals uses) f)
+asked_line words f positionals uses line = ap asked_list line.printed ∙ asked_list-plain f positionals uses line.form line.plain
+
+line_settled : (words : List Text) (f : FormView) (positionals : List Text) (uses : List Use) → IsLine words f positionals uses
+    → IsSettled (asked_by top_rows (finished_rows f positionals uses) f)
+line_settled words f positionals uses line = (
+  closed-line f positionals uses line.form line.plain,
+  (λ ways. ap is_some (job_with-line f positionals uses line.form line.plain ways) ∙ is_some-line_job f positionals uses line.form line.plain),
+)
+
+pub line_job-with : (words : List Text) (f : FormView) (positionals : List Text) (uses : List Use) (a : AskedView) (ways : Ways)
+    → IsLine words f positionals uses → asked_list words ≡ Some a → job_with ways a.words ≡ line_job f positionals uses
+line_job-with words f positionals uses a ways line asked =
+    let b = asked_by top_rows (finished_rows f positionals uses) f in
+    let both : Some b ≡ Some a = sym (asked_line words f positionals uses line) ∙ asked in
+    let same : b ≡ a = cc in
+    subst (λ (v : AskedView). job_with ways v.words ≡ line_job f positionals uses) same
+    (job_with-line f positionals uses line.form line.plain ways)
+
+-- ---- a plain list
+
+plain_settled : (words : List Text) (a : AskedView) → IsPlain words → asked_list words ≡ Some a → IsSettled a
+plain_settled words a plain asked = elim plain [
+  | inl none ↦ subst IsSettledIf (ap asked_list (sym none) ∙ asked) no_word
+  | inr line ↦ subst IsSettledIf (sym (asked_line words line.0 line.1 line.2 line.3) ∙ asked) (line_settled words line.0 line.1 line.2 line.3)
+]
+
+pub plain_closed : (words : List Text) (a : AskedView) → IsPlain words → asked_list words ≡ Some a → is_closed (left_open a.words) ≡ true
+plain_closed words a plain asked = (plain_settled words a plain asked).0
+
+-- a job that is given is that of the line, and none is want of memory
+pub plain_gives : {T : Type 0} (view : T → JobView) (words : List Text) (a : AskedView) (ways : Ways) (r : Result T Misfit) → IsPlain words
+    → asked_list words ≡ Some a → Gives view (job_with ways a.words) r → IfErr r (λ misfit. misfit ≡ Memory)
+plain_gives view words a ways (Ok job) plain asked gives = tt
+plain_gives view words a ways (Err misfit) plain asked gives = elim gives [
+  | inl memory ↦ memory
+  | inr none ↦ absurd (none_is_some _ none ((plain_settled words a plain asked).1 ways))
+]
+
+pub line_gives : {T : Type 0} (view : T → JobView) (words : List Text) (f : FormView) (positionals : List Text) (uses : List Use) (a : AskedView)
+    (ways : Ways) (r : Result T Misfit) → IsLine words f positionals uses → asked_list words ≡ Some a → Gives view (job_with ways a.words) r
+    → IfOk r (λ job. line_job f positionals uses ≡ Some (view job))
+line_gives view words f positionals uses a ways (Ok job) line asked gives =
+    sym (line_job-with words f positionals uses a ways line asked) ∙ gives
+line_gives view words f positionals uses a ways (Err misfit) line asked gives = tt
+
+-- clap takes a plain list, which is that of a command
+pub plain_taken : (words : List Text) → IsPlain words → (takes shop (meant_words words) ≡ true) × (is_some (asked_list words) ≡ true)
 plain_taken words plain = elim plain [
-  | inl none ↦ (ap (λ (ws : List Text). takes shop (meant_words ws)) none ∙ takes-standard, (ap (λ (ws : List Text). is_some (asked_job ws)) none ∙ ap is_some asked_job-none))
+  | inl none ↦ (
+    ap (λ (ws : List Text). takes shop (meant_words ws)) none ∙ takes-standard,
+    (ap (λ (ws : List Text). is_some (asked_list ws)) none ∙ asked-standard),
+  )
   | inr line ↦ (
     ap (λ (ws : List Text). takes shop (meant_words ws)) line.3.printed ∙ takes-plain line.0 line.1 line.2 line.3.form line.3.plain,
-    (ap is_some (asked_job-line words line.0 line.1 line.2 line.3) ∙ is_some-line_job line.0 line.1 line.2 line.3.form line.3.plain),
+    ap is_some (asked_line words line.0 line.1 line.2 line.3),
   )
 ]

@@ -189,7 +189,7 @@ abbrev is_known_form : FormView → Bool
 is_known_form f = is_named f && (are_parameters_known f (shape_named f.name) && is_built_well f (shape_named f.name))
 
 forms_known : list_all is_known_form forms ≡ true
-unfolding clap_on_literals
+unfolding forms clap_on_literals
 forms_known = refl
 
 known_by : (f : FormView) → is_known_form f ≡ true → IsKnown f (shape_named f.name)
@@ -240,6 +240,7 @@ found_in (g ∷ gs) f (suc k) apart lt at =
     rw other (found_in gs f k parts.1 within at)
 
 forms_apart : are_apart forms ≡ true
+unfolding forms
 forms_apart = refl
 
 pub found_by_name : (f : FormView) → Contains forms f → find (λ g. bytes_eq g.name f.name) forms ≡ Some f

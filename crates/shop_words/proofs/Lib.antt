@@ -1,8 +1,8 @@
 mod TableLemmas
 mod Shop
 mod Meant
-mod FaultLemmas
-mod Refusals
+mod Ends
+mod CommandRows
 mod Numbers
 mod HexWords
 mod PlainWalk

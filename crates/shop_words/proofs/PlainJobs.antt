@@ -42,7 +42,7 @@ has_plain_defaults f = bytes_eq (shape_named f.name).name f.name && (leaves_all_
     && (leaves_all_off f is_on flag_names && list_all (leaves_off is_counted (codes "auto")) (shape_named f.name).rules))
 
 all_plain_defaults : list_all has_plain_defaults forms ≡ true
-unfolding clap_on_literals
+unfolding forms clap_on_literals
 all_plain_defaults = refl
 
 pub plain_defaults : (f : FormView) → Contains forms f → HasPlainDefaults f

@@ -1,10 +1,10 @@
 -- Each plain list of each form of the table is taken, and has the job that its form says.
-use Rattle.std.proofs.Common.{◌≡◌, ◌∙◌, ◌<◌, ap, ap₂, subst, true, ℕ, List, [], ◌∷◌, Some, is_some, option_and_then, option_map, length, slice_index_or, zero, suc, Contains, arith}
+use Rattle.std.proofs.Common.{◌≡◌, ◌∙◌, ◌<◌, ap, ap₂, subst, true, ℕ, List, [], ◌∷◌, Some, is_some, option_map, length, slice_index_or, zero, suc, Contains, arith}
 use Rattle.std.specs.List.{AllByRecursion}
 use Rattle.clap.specs.Takes.{takes}
-use Rattle.shop_words.specs.Asked.{AskedView, asked_by, asked_job, asked_list, found_asked}
+use Rattle.shop_words.specs.Asked.{asked_by, asked_list, found_asked}
 use Rattle.shop_words.specs.Grammar.{shop}
-use Rattle.shop_words.specs.Job.{closed_job, form_of, line_job}
+use Rattle.shop_words.specs.Job.{form_of, line_job}
 use Rattle.shop_words.specs.Plain.{Use, IsPlainLine, line_words}
 use Rattle.shop_words.specs.Table.{FormView, Text, forms}
 use Rattle.shop_words.proofs.KnownForms.{found_by_name, known}
@@ -16,9 +16,9 @@ use Rattle.shop_words.proofs.PlainMaking.{add_job, convert_job, create_job, unwr
 use Rattle.shop_words.proofs.PlainSaid.{HasJob}
 use Rattle.shop_words.proofs.PlainSaving.{save_job}
 use Rattle.shop_words.proofs.PlainTaken.{finished_rows, matches_of-line, subcommand_of-line, takes-line, top_rows}
-use Rattle.shop_words.proofs.PlainWays.{closed_job-line}
 
 all_jobs : AllByRecursion HasJob forms
+unfolding forms
 all_jobs =
     (catalog_job, (list_job, (compare_job, (map_job, (check_job, (read_job, (extract_job, (convert_job, (plan_job, (optimize_job, (lock_job, (unlock_job, (delete_job, (rename_job, (save_job, (verify_job, (identify_job, (wrap_job, (unwrap_job, (survey_job, (create_job, (reclaim_job, (add_job, (mkdir_job, tt))))))))))))))))))))))))
 
@@ -43,10 +43,3 @@ unfolding shop
 asked_list-plain f positionals uses at plain =
     ap₂ found_asked (matches_of-line f positionals uses (known f at)) (subcommand_of-line f positionals uses (known f at) plain)
     ∙ ap (option_map (asked_by top_rows (finished_rows f positionals uses))) (ap form_of (plain_defaults f at).name ∙ found_by_name f at)
-
--- the job of a plain list
-pub asked_job-plain : (f : FormView) (positionals : List Text) (uses : List Use) → Contains forms f → IsPlainLine f positionals uses
-    → asked_job (line_words f positionals uses) ≡ line_job f positionals uses
-asked_job-plain f positionals uses at plain =
-    ap (option_and_then (λ (a : AskedView). closed_job a.words)) (asked_list-plain f positionals uses at plain)
-    ∙ closed_job-line f positionals uses at plain

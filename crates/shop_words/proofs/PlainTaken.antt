@@ -6,7 +6,7 @@ use Rattle.clap.specs.Walk.{Names, Row, Rule, Text, Walk, finished, nothing_held
 use Rattle.clap.specs.Simple.{Shape, built, entered, is_simple, matches_of, rows_at, subcommand_of}
 use Rattle.clap.specs.Takes.{takes, walk_passes}
 use Rattle.shop_words.specs.Grammar.{shop}
-use Rattle.shop_words.specs.Table.{FormView}
+use Rattle.shop_words.specs.Table.{FormView, forms}
 use Rattle.shop_words.specs.Plain.{Use, all_use_words, IsPlainLine, line_words, positional_names}
 use Rattle.shop_words.proofs.PlainUses.{use_rows}
 use Rattle.shop_words.proofs.PlainLine.{positional_rows, rows_after-line}
@@ -44,6 +44,7 @@ walk_passes-line f s words known =
 
 pub takes-line : (f : FormView) (s : Shape) (positionals : List Text) (uses : List Use) → IsKnown f s → IsPlainLine f positionals uses
     → takes whole (line_words f positionals uses) ≡ true
+unfolding forms
 takes-line f s positionals uses known plain =
     let words = positionals ++ all_use_words uses in
     and_from _ _ is_simple-whole

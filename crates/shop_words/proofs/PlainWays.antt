@@ -6,7 +6,7 @@ use Rattle.std.specs.List.{list_all, list_any}
 use Rattle.std.specs.Str.{bytes_eq}
 use Rattle.clap.proofs.OnLiterals.{clap_on_literals}
 use Rattle.clap.specs.Walk.{first_of}
-use Rattle.shop_words.specs.Job.{closed_job, is_closed, is_counted, is_flagged, job_by, line_job, line_said, positional_said, takes_auto, unsettled, words_by}
+use Rattle.shop_words.specs.Job.{is_closed, is_counted, is_flagged, job_by, job_with, line_job, line_said, positional_said, takes_auto, words_by}
 use Rattle.shop_words.specs.Plain.{IsPlainLine, IsUseOf, Use, positional_names, value_of}
 use Rattle.shop_words.specs.Table.{FormView, ParameterView, Text, forms}
 use Rattle.shop_words.specs.Ways.{Said, Words, file_system_said, found_file_system, has_file_system, has_order, is_auto_said, is_auto_word, is_container_word, is_file_system_left, leaves_open, left_open, may_leave, or_auto, order_said, other_order_said, other_said, put_file_system, put_order, settled, settled_file_system, settled_order, settled_other_order, stand_in, takes_container}
@@ -179,6 +179,7 @@ has_own_ways f = list_all (is_own_way f) way_names
     && (takes_auto f.verb false && has_no f (codes "auto"))))
 
 all_have_own_ways : list_all has_own_ways forms ≡ true
+unfolding forms
 all_have_own_ways = refl
 
 -- a name of no positional word says what its use says
@@ -211,11 +212,11 @@ where_has true there e is = e
 where_has false there e is = cc
 
 top_auto : is_counted (first_of (codes "auto") top_rows) ≡ false
-unfolding clap_on_literals
+unfolding forms clap_on_literals
 top_auto = refl
 
-chosen : {X : Type 0} (a b : Bool) (x : Option X) → a ≡ true → b ≡ true → (if a then (if b then x else None) else None) ≡ x
-chosen a b x p q = rw (p, q) refl
+where_true : {X : Type 0} (b : Bool) (x : Option X) → b ≡ true → (if b then x else None) ≡ x
+where_true b x is = rw is refl
 
 module _ (f : FormView) (positionals : List Text) (uses : List Use) (at : Contains forms f) (plain : IsPlainLine f positionals uses) where
   abbrev own_words : Words
@@ -261,17 +262,26 @@ module _ (f : FormView) (positionals : List Text) (uses : List Use) (at : Contai
       let counted = counts_same f positionals uses (plain_defaults f at) ∙ ap is_counted said in
       rw (top_auto, counted) refl
 
-  -- nothing is left open, and the job is that of the line
-  pub closed_job-line : closed_job (words_by top_rows (finished_rows f positionals uses) f) ≡ line_job f positionals uses
-  closed_job-line =
+  -- what the form passes: its ways are said, and it has no flag of the program
+  passes : SaysWays own_words × ((takes_auto f.verb false ≡ true) × (has_no f (codes "auto") ≡ true))
+  passes =
       let p0 = and_parts (list_all (is_own_way f) way_names) _ (of_forms has_own_ways all_have_own_ways f at) in
       let p1 = and_parts (says_needed (has_file_system f.reading) (codes "fs") f.parameters) _ p0.1 in
       let p2 = and_parts (says_needed (has_order f.reading) (codes "order") f.parameters) _ p1.1 in
       let p3 = and_parts (takes_auto f.verb false) (has_no f (codes "auto")) p2.1 in
-      let says = says_ways p0.0 p1.0 p2.0 in
-      let words : words_by top_rows (finished_rows f positionals uses) f ≡ own_words =
-      ap (λ b. record { form = f; is_auto = b; say = rows_said f positionals uses }) (not_auto_line p3.1) in
-      ap closed_job words
-      ∙ chosen (is_closed (left_open own_words)) (takes_auto f.verb false) (job_by f.verb (settled unsettled own_words)) (leaves_nothing own_words says) p3.0
-      ∙ ap (job_by f.verb) (settled_as_said own_words says unsettled)
+      (says_ways p0.0 p1.0 p2.0, p3)
+
+  words_are : words_by top_rows (finished_rows f positionals uses) f ≡ own_words
+  words_are = ap (λ b. record { form = f; is_auto = b; say = rows_said f positionals uses }) (not_auto_line passes.1.1)
+
+  -- nothing is left open
+  pub closed-line : is_closed (left_open (words_by top_rows (finished_rows f positionals uses) f)) ≡ true
+  closed-line = ap (λ (w : Words). is_closed (left_open w)) words_are ∙ leaves_nothing own_words passes.0
+
+  -- and the job is that of the line, whatever ways the images have
+  pub job_with-line : (ways : Ways) → job_with ways (words_by top_rows (finished_rows f positionals uses) f) ≡ line_job f positionals uses
+  job_with-line ways =
+      ap (job_with ways) words_are
+      ∙ where_true (takes_auto f.verb false) (job_by f.verb (settled ways own_words)) passes.1.0
+      ∙ ap (job_by f.verb) (settled_as_said own_words passes.0 ways)
       ∙ job_by-rows f positionals uses (plain_defaults f at)

@@ -19,11 +19,11 @@ abbrev pub whole : App
 whole = program_over (map leaf_of forms)
 
 is_simple-whole : is_simple whole ≡ true
-unfolding clap_on_literals
+unfolding forms clap_on_literals
 is_simple-whole = refl
 
 is_simple_and_free-whole : is_simple_and_free whole ≡ true
-unfolding clap_on_literals
+unfolding forms clap_on_literals
 is_simple_and_free-whole = refl
 
 pub is_simple-shop : is_simple shop ≡ true

@@ -458,7 +458,7 @@ mkdir_form = record {
 }
 
 -- the forms of all commands
-abbrev pub forms : List FormView
+unfoldable pub forms : List FormView
 forms = catalog_form ∷ list_form ∷ compare_form ∷ map_form ∷ check_form ∷ read_form ∷ extract_form ∷ convert_form
     ∷ plan_form ∷ optimize_form ∷ lock_form ∷ unlock_form ∷ delete_form ∷ rename_form ∷ save_form ∷ verify_form
     ∷ identify_form ∷ wrap_form ∷ unwrap_form ∷ survey_form ∷ create_form ∷ reclaim_form ∷ add_form ∷ mkdir_form ∷ []

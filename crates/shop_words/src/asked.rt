@@ -1,22 +1,22 @@
 //! What a list of words asks for: the words of a command, and whether its answer is to be explained.
-ghost use Rattle.std.specs.Prelude.{◌≡◌, find, IfErr, IfOk, option_map, Some};
+ghost use Rattle.std.specs.Prelude.{◌≡◌, find, IfErr, IfOk, List, option_map, Some, true};
 ghost use Rattle.std.specs.Str.{bytes_eq};
 ghost use Rattle.clap.specs.Matches.{found_of};
 ghost use Rattle.clap.specs.Simple.{subcommand_rows_of};
 ghost use Rattle.clap.specs.Walk.{first_of, rows_of};
 ghost use Rattle.shop_jobs.specs.Job.{job_view};
-ghost use Rattle.shop_words.specs.Asked.{asked_view, found_asked};
-ghost use Rattle.shop_words.specs.Fault.{IsMisfitFault};
+ghost use Rattle.shop_words.specs.Asked.{asked_list, asked_view, found_asked};
 ghost use Rattle.shop_words.specs.Given.{words_of};
-ghost use Rattle.shop_words.specs.Job.{form_of, is_counted, is_flagged, job_with, unsettled};
-ghost use Rattle.shop_words.specs.Table.{form_view};
+ghost use Rattle.shop_words.specs.Gives.{Gives};
+ghost use Rattle.shop_words.specs.Job.{form_of, is_closed, is_counted, is_flagged, job_with, line_job};
+ghost use Rattle.shop_words.specs.Plain.{IsLine, IsPlain, Use};
+ghost use Rattle.shop_words.specs.Table.{FormView, Text, form_view};
 ghost use Rattle.shop_words.specs.Ways.{left_open};
 
 use crate::asking::job_in;
-use crate::fault::WordsFault;
 use crate::given::{Given, said};
-use crate::table::{Form, table};
-use crate::telling::misfit_fault;
+use crate::misfit::Misfit;
+use crate::table::{Form, all_forms};
 use crate::ways::{LeftOpen, Ways};
 use a2_device::Order;
 use clap::ArgMatches;
@@ -57,7 +57,7 @@ fn form_among<'t>(forms: &'t [Form], name: &str) -> Option<&'t Form>
 pub fn form_named(name: &str) -> Option<&'static Form>
     ensures { option_map (λ f. form_view f.now) result ≡ form_of name.now }
 {
-    form_among(table(), name)
+    form_among(all_forms(), name)
 }
 
 // Whether a flag of the program is there.
@@ -106,6 +106,20 @@ impl<'a> Asked<'a> {
         }
     }
 
+    /// The command's form.
+    pub fn form(&self) -> &'static Form
+        ensures { form_view result.now ≡ (asked_view self.now).words.form }
+    {
+        self.form
+    }
+
+    /// What the words say under a parameter's name; a flag says `true`.
+    pub fn said(&self, name: &str) -> Option<&'a str>
+        ensures { option_map (λ s. s.now) result ≡ (asked_view self.now).words.say name.now }
+    {
+        said(&self.matches, name)
+    }
+
     /// Whether the answer is to be explained: `--explain`.
     pub fn is_explained(&self) -> bool
         ensures { result ≡ self.now.is_explained }
@@ -113,25 +127,32 @@ impl<'a> Asked<'a> {
         self.is_explained
     }
 
-    /// What the words leave to the images.
+    /// What the words leave to the images. A plain list leaves nothing to them.
     pub fn left_open(&self) -> LeftOpen
-        ensures { result ≡ left_open (asked_view self.now).words }
+        ensures open { result ≡ left_open (asked_view self.now).words }
+        ensures plain { (words : List Text) → IsPlain words → asked_list words ≡ Some (asked_view self.now)
+            → is_closed result ≡ true }
     {
         self.given(UNSETTLED).left_open()
     }
 
-    /// The job that the words ask for, where the images have these ways.
+    /// The job that the words ask for, where the images have these ways. That of a plain list is what its form says of
+    /// its words, whatever the ways are.
     ///
     /// # Errors
-    /// `Refused` has what is wrong with the words, which are no job then; `Memory` is want of memory.
-    pub fn job(&self, alloc: Global, ways: Ways) -> Result<Job, WordsFault>
-        ensures job { IfOk result (λ job. job_with ways (asked_view self.now).words ≡ Some (job_view job)) }
-        ensures fault { IfErr result (IsMisfitFault (job_with ways (asked_view self.now).words)) }
+    /// Why the words are no job, or want of memory.
+    pub fn job(&self, alloc: Global, ways: Ways) -> Result<Job, Misfit<'a>>
+        ensures job { Gives job_view (job_with ways (asked_view self.now).words) result }
+
+        // a plain list has a job, where there is memory
+        ensures plain { (words : List Text) → IsPlain words → asked_list words ≡ Some (asked_view self.now)
+            → IfErr result (λ misfit. misfit ≡ Misfit.Memory) }
+
+        // and its job is what its form says of its words
+        ensures line { (words : List Text) → (f : FormView) → (positionals : List Text) → (uses : List Use)
+            → IsLine words f positionals uses → asked_list words ≡ Some (asked_view self.now)
+            → IfOk result (λ job. line_job f positionals uses ≡ Some (job_view job)) }
     {
-        let given = self.given(ways);
-        match job_in(alloc, &given) {
-            Ok(job) => Ok(job),
-            Err(misfit) => Err(misfit_fault(alloc, &given, misfit)),
-        }
+        job_in(alloc, &self.given(ways))
     }
 }

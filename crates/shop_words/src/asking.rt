@@ -4,18 +4,18 @@ ghost use Rattle.shop_words.specs.Given.{said_of, words_of};
 ghost use Rattle.shop_words.specs.Gives.{Gives};
 ghost use Rattle.shop_words.specs.Job.{ask_by, job_by, job_with, place_by};
 
-use crate::changing::{edit_in, mkdir_in, optimize_in, reclaim_in, rename_in};
+use crate::changing::{change_in, edit_in, mkdir_in, optimize_in, rename_in};
 use crate::converting::{convert_in, survey_in, unwrap_in, wrap_in};
 use crate::creating::create_in;
 use crate::extracting::{add_in, extract_in};
 use crate::given::Given;
 use crate::looking::{
-    catalog_in, check_in, compare_in, list_in, map_in, plan_in, read_in, verify_in,
+    check_in, compare_in, list_in, listing_in, look_in, plan_in, read_in, verify_in,
 };
 use crate::misfit::Misfit;
 use crate::saving::save_in;
 use crate::table::Verb;
-use shop_jobs::{Ask, Edit, Job};
+use shop_jobs::{Ask, Change, Edit, Job, Look};
 use std::alloc::Global;
 
 // What a command asks.
@@ -23,10 +23,10 @@ fn ask_in<'a>(alloc: Global, verb: Verb, given: &Given<'_, 'a>) -> Result<Ask, M
     ensures { Gives ask_view (ask_by verb (said_of given.now)) result }
 {
     match verb {
-        Verb::Catalog => catalog_in(given),
+        Verb::Catalog => listing_in(given, Look::Catalog),
         Verb::List => list_in(given),
         Verb::Compare => compare_in(alloc, given),
-        Verb::Map => map_in(alloc, given),
+        Verb::Map => look_in(alloc, given, Look::Map),
         Verb::Check => check_in(alloc, given),
         Verb::Read => read_in(alloc, given),
         Verb::Extract => extract_in(alloc, given),
@@ -44,7 +44,7 @@ fn ask_in<'a>(alloc: Global, verb: Verb, given: &Given<'_, 'a>) -> Result<Ask, M
         Verb::Unwrap => unwrap_in(alloc, given),
         Verb::Survey => survey_in(given),
         Verb::Create => create_in(alloc, given),
-        Verb::Reclaim => reclaim_in(alloc, given),
+        Verb::Reclaim => change_in(alloc, given, Change::Reclaim),
         Verb::Add => add_in(alloc, given),
         Verb::MakeDirectory => mkdir_in(alloc, given),
     }

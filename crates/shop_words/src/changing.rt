@@ -95,12 +95,6 @@ pub fn rename_in<'a>(alloc: Global, given: &Given<'_, 'a>) -> Result<Ask, Misfit
     edit_in(alloc, given, Edit::Rename { new })
 }
 
-pub fn reclaim_in<'a>(alloc: Global, given: &Given<'_, 'a>) -> Result<Ask, Misfit<'a>>
-    ensures { Gives ask_view (ask_by verbs.Reclaim (said_of given.now)) result }
-{
-    change_in(alloc, given, Change::Reclaim)
-}
-
 // The ProDOS volume that the image is read as.
 fn prodos_in<'a>(given: &Given<'_, 'a>) -> Result<VolumeOptions, Misfit<'a>>
     ensures { Gives (λ v. v) (prodos_by (said_of given.now)) result }

@@ -7,7 +7,6 @@ ghost use Rattle.shop_words.specs.Gives.{Gives};
 ghost use Rattle.shop_words.specs.Job.{
   ask_by,
   comment_said,
-  survey_form_named as survey_form_of,
   survey_form_said,
   told_volume,
   volume_number,
@@ -111,26 +110,14 @@ pub fn unwrap_in<'a>(alloc: Global, given: &Given<'_, 'a>) -> Result<Ask, Misfit
     })
 }
 
-fn survey_form_named(word: &str) -> Option<SurveyForm>
-    ensures { result ≡ survey_form_of word.now }
-{
-    match word {
-        "lines" => Some(SurveyForm::Lines),
-        "json" => Some(SurveyForm::Json),
-        _ => None,
-    }
-}
-
 // The form of a survey, lines where nothing is said.
 fn survey_form_said<'a>(word: Option<&'a str>) -> Result<SurveyForm, Misfit<'a>>
     ensures { Gives (λ f. f) (survey_form_said (option_map (λ s. s.now) word.entry)) result }
 {
-    let Some(word) = word else {
-        return Ok(SurveyForm::Lines);
-    };
-    match survey_form_named(word) {
-        Some(form) => Ok(form),
-        None => Err(Misfit::Value {
+    match word {
+        None | Some("lines") => Ok(SurveyForm::Lines),
+        Some("json") => Ok(SurveyForm::Json),
+        Some(word) => Err(Misfit::Value {
             name: "format",
             word,
         }),

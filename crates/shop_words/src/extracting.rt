@@ -8,7 +8,6 @@ ghost use Rattle.shop_words.specs.Job.{
   ask_by,
   directory_by,
   extraction_by,
-  naming_named as naming_of,
   naming_said,
 };
 ghost use Rattle.shop_words.specs.declared.table.Verb.TheVariants as verbs;
@@ -20,26 +19,14 @@ use host_folders::Naming;
 use shop_jobs::{AddOptions, Ask, ExtractOptions, FileSystem};
 use std::alloc::Global;
 
-fn naming_named(word: &str) -> Option<Naming>
-    ensures { result ≡ naming_of word.now }
-{
-    match word {
-        "naps" => Some(Naming::Naps),
-        "plain" => Some(Naming::Plain),
-        _ => None,
-    }
-}
-
 // How files are named, with their types where nothing is said.
 fn naming_said<'a>(word: Option<&'a str>) -> Result<Naming, Misfit<'a>>
     ensures { Gives (λ n. n) (naming_said (option_map (λ s. s.now) word.entry)) result }
 {
-    let Some(word) = word else {
-        return Ok(Naming::Naps);
-    };
-    match naming_named(word) {
-        Some(naming) => Ok(naming),
-        None => Err(Misfit::Value {
+    match word {
+        None | Some("naps") => Ok(Naming::Naps),
+        Some("plain") => Ok(Naming::Plain),
+        Some(word) => Err(Misfit::Value {
             name: "names",
             word,
         }),

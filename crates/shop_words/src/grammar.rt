@@ -13,7 +13,7 @@ ghost use Rattle.shop_words.specs.Grammar.{
 };
 ghost use Rattle.shop_words.specs.Table.{parameter_view, form_view};
 
-use crate::table::{Form, Kind, Parameter, table};
+use crate::table::{Form, Kind, Parameter, all_forms};
 use clap::{Arg, ArgAction, Command};
 use std::alloc::{AllocError, Global};
 
@@ -87,7 +87,7 @@ pub fn program<'a>(alloc: Global) -> Result<Command<'a>, AllocError>
     ensures { IfOk result (λ c. app_of c ≡ shop) }
 {
     let mut program = with_program_flags(alloc, bare_program(alloc)?)?;
-    for form in table() {
+    for form in all_forms() {
         program = program.subcommand(command_of(alloc, form)?)?;
     }
     Ok(program)

@@ -1,5 +1,6 @@
 //! The words of the command line: `read_words` reads them by `clap` and gives what they ask for, and `Asked::job` the
-//! job of that, once it is known how the images are read; `parse_words` does both for words that say it.
+//! job of that, once it is known how the images are read. What is told of other words, and of those that ask for help,
+//! is made by `shop_help`.
 //!
 //! A command has a *form*: its name, what it does, how its words say in which way its image is read, and its parameters
 //! in order (`Form`). The forms stand in one table. `clap`'s commands, usage lines, lists of values and the list of all
@@ -15,13 +16,9 @@
 //! --fs dos --order dos -`.
 //!
 //! What always holds: a job that is answered is the stated function of the words, whatever they are; a plain list is
-//! never refused; help is answered only to words that may ask for it, and a refusal only to words in which something
-//! else is wrong (`specs/Fault.antt`).
-//!
-//! The words are read as they are. Only where they are refused, or ask for help, a text is made, of words as they are
-//! shown (`escaped`, `specs/Escaping.antt`): each control character as `\x` and two hexadecimal digits, and each format
-//! character of Unicode, such as one that turns the direction of writing, as `\u` and six, so that a terminal shows it
-//! and does not obey it.
+//! read, leaves nothing to its images, and has the job that its form says, where there is memory; other words are not
+//! read for one of the ends that clap's reading of them may come to (`specs/Unread.antt`), or are a job or a named
+//! `Misfit`.
 #![tactic(auto)]
 
 mod asked;
@@ -29,26 +26,26 @@ mod asking;
 mod changing;
 mod converting;
 mod creating;
-mod escaping;
 mod extracting;
-mod fault;
 mod given;
 mod grammar;
 mod help;
 mod hexadecimal;
+mod leaving;
 mod looking;
 mod misfit;
-mod notes;
 mod reading;
 mod saving;
 mod table;
-mod telling;
-mod usage;
+mod unread;
 mod ways;
 mod words;
 
-pub use asked::{Asked, UNSETTLED};
-pub use escaping::{all_escaped, escaped};
-pub use fault::WordsFault;
+pub use asked::{Asked, UNSETTLED, form_named};
+pub use grammar::{argument, bare_program, command_of};
+pub use help::Help;
+pub use misfit::Misfit;
+pub use table::{Form, Kind, LeftOut, Parameter, Reading, Values, Verb, all_forms};
+pub use unread::Unread;
 pub use ways::{LeftOpen, StandIn, Ways};
-pub use words::{asks_explain, parse_words, read_words};
+pub use words::{asks_explain, read_words};

@@ -7,7 +7,6 @@ ghost use Rattle.shop_words.specs.Job.{
   ask_by,
   compare_by,
   form_for as form_taken,
-  form_named as form_with_name,
   form_said,
   list_by,
   look_by,
@@ -27,7 +26,7 @@ use shop_jobs::{Ask, CompareOptions, ListForm, ListOptions, Look, ReadForm};
 use std::alloc::Global;
 
 /// What is asked by a command that looks for this, and reserves no places.
-fn listing_in<'a>(given: &Given<'_, 'a>, look: Look) -> Result<Ask, Misfit<'a>>
+pub fn listing_in<'a>(given: &Given<'_, 'a>, look: Look) -> Result<Ask, Misfit<'a>>
     ensures { Gives ask_view (look_by (Some (look_view look)) None (said_of given.now)) result }
 {
     Ok(Ask::Look {
@@ -37,33 +36,15 @@ fn listing_in<'a>(given: &Given<'_, 'a>, look: Look) -> Result<Ask, Misfit<'a>>
     })
 }
 
-pub fn catalog_in<'a>(given: &Given<'_, 'a>) -> Result<Ask, Misfit<'a>>
-    ensures { Gives ask_view (ask_by verbs.Catalog (said_of given.now)) result }
-{
-    listing_in(given, Look::Catalog)
-}
-
-fn form_named(word: &str) -> Option<ListForm>
-    ensures { result ≡ form_with_name word.now }
-{
-    match word {
-        "names" => Some(ListForm::Names),
-        "json" => Some(ListForm::Json),
-        "csv" => Some(ListForm::Csv),
-        _ => None,
-    }
-}
-
 // The form of a list, the names where none is said.
 fn form_said<'a>(word: Option<&'a str>) -> Result<ListForm, Misfit<'a>>
     ensures { Gives (λ f. f) (form_said (option_map (λ s. s.now) word.entry)) result }
 {
-    let Some(word) = word else {
-        return Ok(ListForm::Names);
-    };
-    match form_named(word) {
-        Some(form) => Ok(form),
-        None => Err(Misfit::Value {
+    match word {
+        None | Some("names") => Ok(ListForm::Names),
+        Some("json") => Ok(ListForm::Json),
+        Some("csv") => Ok(ListForm::Csv),
+        Some(word) => Err(Misfit::Value {
             name: "format",
             word,
         }),
@@ -104,7 +85,7 @@ pub fn list_in<'a>(given: &Given<'_, 'a>) -> Result<Ask, Misfit<'a>>
 }
 
 /// What is asked by a command that looks for this, and may reserve places.
-fn look_in<'a>(alloc: Global, given: &Given<'_, 'a>, look: Look) -> Result<Ask, Misfit<'a>>
+pub fn look_in<'a>(alloc: Global, given: &Given<'_, 'a>, look: Look) -> Result<Ask, Misfit<'a>>
     ensures { Gives ask_view (look_by (Some (look_view look)) (said_of given.now (codes "reserve")) (said_of given.now))
         result }
 {
@@ -158,12 +139,6 @@ pub fn compare_in<'a>(alloc: Global, given: &Given<'_, 'a>) -> Result<Ask, Misfi
 {
     let look = comparison_in(alloc, given)?;
     listing_in(given, look)
-}
-
-pub fn map_in<'a>(alloc: Global, given: &Given<'_, 'a>) -> Result<Ask, Misfit<'a>>
-    ensures { Gives ask_view (ask_by verbs.Map (said_of given.now)) result }
-{
-    look_in(alloc, given, Look::Map)
 }
 
 pub fn check_in<'a>(alloc: Global, given: &Given<'_, 'a>) -> Result<Ask, Misfit<'a>>

@@ -10,7 +10,6 @@ ghost use Rattle.shop_words.specs.Job.{
   given_form_by,
   given_form_named,
   given_form_said,
-  high_named,
   high_said,
   is_loadable,
   save_by,
@@ -53,26 +52,15 @@ fn usual_high(file_system: FileSystem) -> HighBit
     }
 }
 
-fn high_named(word: &str) -> Option<HighBit>
-    ensures { result ≡ high_named word.now }
-{
-    match word {
-        "on" => Some(HighBit::On),
-        "off" => Some(HighBit::Off),
-        _ => None,
-    }
-}
-
 // The highest bit of the bytes of a text.
 fn high_said<'a>(file_system: FileSystem, word: Option<&'a str>) -> Result<HighBit, Misfit<'a>>
     ensures { Gives (λ h. h) (high_said file_system (option_map (λ s. s.now) word.entry)) result }
 {
-    let Some(word) = word else {
-        return Ok(usual_high(file_system));
-    };
-    match high_named(word) {
-        Some(high) => Ok(high),
-        None => Err(Misfit::Value { name: "high", word }),
+    match word {
+        None => Ok(usual_high(file_system)),
+        Some("on") => Ok(HighBit::On),
+        Some("off") => Ok(HighBit::Off),
+        Some(word) => Err(Misfit::Value { name: "high", word }),
     }
 }
 

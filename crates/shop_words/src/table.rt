@@ -804,7 +804,8 @@ const FORMS: &[Form] = &[
 ];
 
 /// The forms of all commands.
-pub fn table() -> &'static [Form]
+#[tactic(auto, unfolding(crate::specs::Table::forms))]
+pub fn all_forms() -> &'static [Form]
     ensures { map form_view result.now ≡ forms }
 {
     FORMS

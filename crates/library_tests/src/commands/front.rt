@@ -1,8 +1,9 @@
 // What lists of words ask for, what they leave to the images, and the job with what these have.
 use crate::commands::answer::words_of;
 use a2_device::Order;
+use shop_help::{WordsFault, misfit_fault, parse_words, read_fault};
 use shop_jobs::{Ask, FileSystem, Job, image_order, volume_of};
-use shop_words::{LeftOpen, StandIn, Ways, WordsFault, asks_explain, parse_words, read_words};
+use shop_words::{LeftOpen, StandIn, Ways, asks_explain, read_words};
 use std::alloc::Global;
 use std::process::Abort;
 use std::test::Fail;
@@ -27,7 +28,7 @@ fn left_by(alloc: Global, line: &str) -> Result<LeftOpen, WordsFault> {
     let words = words_of(alloc, line)?;
     match read_words(alloc, words.as_slice()) {
         Ok(asked) => Ok(asked.left_open()),
-        Err(fault) => Err(fault),
+        Err(unread) => Err(read_fault(alloc, words.as_slice(), &unread)),
     }
 }
 
@@ -35,8 +36,11 @@ fn left_by(alloc: Global, line: &str) -> Result<LeftOpen, WordsFault> {
 fn job_of(alloc: Global, line: &str, ways: Ways) -> Result<Job, WordsFault> {
     let words = words_of(alloc, line)?;
     match read_words(alloc, words.as_slice()) {
-        Ok(asked) => asked.job(alloc, ways),
-        Err(fault) => Err(fault),
+        Ok(asked) => match asked.job(alloc, ways) {
+            Ok(job) => Ok(job),
+            Err(misfit) => Err(misfit_fault(alloc, &asked, misfit)),
+        },
+        Err(unread) => Err(read_fault(alloc, words.as_slice(), &unread)),
     }
 }
 
@@ -142,7 +146,7 @@ fn is_explained(alloc: Global, line: &str) -> Result<bool, WordsFault> {
     let words = words_of(alloc, line)?;
     match read_words(alloc, words.as_slice()) {
         Ok(asked) => Ok(asked.is_explained()),
-        Err(fault) => Err(fault),
+        Err(unread) => Err(read_fault(alloc, words.as_slice(), &unread)),
     }
 }
 

@@ -1,8 +1,8 @@
 // The words of commands: `parse_words`.
 use crate::commands::answer::words_of;
 use a2_device::Order;
+use shop_help::{WordsFault, parse_words};
 use shop_jobs::{Ask, FileSystem, Job, ListForm, ListOptions, Look, VolumeOptions};
-use shop_words::{WordsFault, parse_words};
 use std::alloc::Global;
 use std::process::Abort;
 use std::test::Fail;

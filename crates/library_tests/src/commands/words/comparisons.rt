@@ -1,8 +1,8 @@
 // The words of a comparison, and of a list that tells places.
 use super::{asks, refuses};
 use a2_device::Order;
+use shop_help::WordsFault;
 use shop_jobs::{Ask, CompareOptions, FileSystem, ListForm, ListOptions, Look, VolumeOptions};
-use shop_words::WordsFault;
 use std::alloc::Global;
 use std::process::Abort;
 use std::test::Fail;

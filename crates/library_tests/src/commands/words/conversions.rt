@@ -1,8 +1,8 @@
 // The words of conversions.
 use super::{asks, refuses};
 use a2_device::Order;
+use shop_help::WordsFault;
 use shop_jobs::Ask;
-use shop_words::WordsFault;
 use std::alloc::{AllocError, Global};
 use std::process::Abort;
 use std::test::Fail;

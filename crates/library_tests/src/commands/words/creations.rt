@@ -1,8 +1,8 @@
 // The words of new volumes, and of lost places that are marked free.
 use super::{asks, refuses};
 use a2_device::Order;
+use shop_help::WordsFault;
 use shop_jobs::{Ask, Change, CreateOptions, FileSystem, NewVolume, Target, VolumeOptions};
-use shop_words::WordsFault;
 use std::alloc::Global;
 use std::process::Abort;
 use std::test::Fail;

@@ -1,8 +1,8 @@
 // The words of directories that are made.
 use super::{asks, helps, refuses};
 use a2_device::Order;
+use shop_help::WordsFault;
 use shop_jobs::{Ask, Change, FileSystem, Target, VolumeOptions};
-use shop_words::WordsFault;
 use std::alloc::Global;
 use std::process::Abort;
 use std::test::Fail;

@@ -1,5 +1,5 @@
 // Control characters in words that are refused.
-use shop_words::{WordsFault, parse_words};
+use shop_help::{WordsFault, parse_words};
 use std::alloc::{AllocError, Global};
 use std::process::Abort;
 use std::test::Fail;

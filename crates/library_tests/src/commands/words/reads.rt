@@ -2,8 +2,8 @@
 use super::{asks, refuses};
 use a2_device::Order;
 use file_forms::FileForm;
+use shop_help::WordsFault;
 use shop_jobs::{Ask, FileName, FileSystem, Look, ReadForm, VolumeOptions};
-use shop_words::WordsFault;
 use std::alloc::{AllocError, Global};
 use std::process::Abort;
 use std::test::Fail;

@@ -4,7 +4,7 @@ use Rattle.clap.specs.Walk.{rows_of}
 use Rattle.shop_words.specs.Asked.{AskedView, asked_by, asked_view, found_asked}
 use Rattle.shop_words.specs.Job.{is_flagged, rows_say}
 use Rattle.shop_words.specs.Table.{form_view}
-use Rattle.shop_words.proofs.Refusals.{pairs-some}
+use Rattle.shop_words.proofs.CommandRows.{pairs-some}
 use Rattle.shop_words.proofs.asked.asked_in.Goals as goal
 
 pub returns-in_err-form : goal.returns-in_err-form

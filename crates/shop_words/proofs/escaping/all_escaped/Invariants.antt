@@ -1,6 +1,0 @@
-use Rattle.std.proofs.Common.{◌≡◌, map, string_bytes, take}
-use Rattle.shop_words.specs.Escaping.{escaped}
-use Rattle.shop_words.proofs.escaping.all_escaped.Given as goal
-
-abbrev pub invariant-loop-word : goal.invariant-loop-word
-invariant-loop-word l = map string_bytes l.shown.items ≡ map escaped (map string_bytes (take l.word-index l.words))
