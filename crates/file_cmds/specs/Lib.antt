@@ -1,4 +1,5 @@
 pub mod Refusal
+pub mod Address
 pub mod Text
 pub mod Read
 pub mod FileList

@@ -7,11 +7,13 @@
 //! device. `VolumeFiles` reads many files of one volume at the cost of their parts: the volume is checked once, and
 //! where it is accepted, each file is read by its own run of the parts of all files; else each is walked over by
 //! itself, on the same tables (`specs/EachFile.antt`). It gives the parts of a file alike (`specs/FileParts.antt`). A
-//! file is told to have failed only where the read of a unit of that file did.
+//! file is told to have failed only where the read of a unit of that file did. `is_binary` says which files begin with
+//! their address (`specs/Address.antt`).
 //!
 //! What always holds: a command leaves the device's store as it is.
 #![tactic(auto)]
 
+mod address;
 mod command;
 mod each_file;
 mod error;
@@ -23,6 +25,7 @@ mod one_file;
 mod reading;
 mod text;
 
+pub use address::is_binary;
 pub use command::{catalog, listing_of, read_volume};
 pub use each_file::VolumeFiles;
 pub use error::CmdError;

@@ -21,7 +21,7 @@ use Rattle.pro_dir.specs.declared.date.ProDate.{ProDate}
 use Rattle.edit_formats.specs.Saves.{SaveMeaning}
 use Rattle.shop_changes.specs.EditRules.{ChangedMeaning, changed_by}
 use Rattle.shop_changes.specs.ImageBytes.{AreBytesOf, KeepsBytes}
-use Rattle.shop_changes.specs.VolumeReply.{IsVolumeReply}
+use Rattle.shop_volumes.specs.VolumeReply.{IsVolumeReply}
 use Rattle.shop_jobs.specs.Job.{AdditionView, AddTo, AskView}
 use Rattle.shop_jobs.specs.declared.job.VolumeOptions.{VolumeOptions}
 use Rattle.shop_replies.specs.ContainerReply.{IsInShell}

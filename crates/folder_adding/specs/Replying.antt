@@ -6,7 +6,7 @@ use Rattle.folder_adding.specs.HostEntries.{entry_view}
 use Rattle.folder_adding.specs.Plan.{PlanView}
 use Rattle.folder_adding.specs.Verdicts.{AddedFolder}
 use Rattle.folder_adding.specs.declared.replying.Folder.{Folder}
-use Rattle.shop_reads.specs.TellingFailures.{tells_device as reply_tells_device}
+use Rattle.shop_volumes.specs.TellingFailures.{tells_device as reply_tells_device}
 use Rattle.shop_replies.specs.declared.reply.Reply.{Reply}
 
 -- a folder as contracts see it

@@ -11,7 +11,8 @@ use Rattle.file_formats.specs.Files.{FileMeaning}
 use Rattle.file_formats.specs.declared.listing.ListEntry.{ListEntry}
 use Rattle.file_cmds.specs.Text.{IsWholeTextOf}
 use Rattle.row_text.specs.Shown.{Text, lower_hex, upper_hex}
-use Rattle.volume_compare.specs.Contents.{IsUnread, SeenVolume, is_binary}
+use Rattle.file_cmds.specs.Address.{is_binary}
+use Rattle.volume_compare.specs.Contents.{IsUnread, SeenVolume}
 use Rattle.image_survey.specs.declared.file_line.FileLine.{FileLine}
 
 -- ---- what a line tells

@@ -8,14 +8,13 @@ ghost use Rattle.volume_compare.specs.Contents.{volume_in};
 ghost use Rattle.image_survey.specs.FileLine.{IsLineOf, digest_text, line_by, line_text};
 
 use a2_device::Device;
-use file_cmds::{FileText, VolumeFiles};
+use file_cmds::{FileText, VolumeFiles, is_binary};
 use file_formats::{FileFormat, ListEntry, StoredName, address_of};
 use row_text::{LowerHex, UpperHex};
 use sha2::{Digest, Sha256};
 use std::alloc::{AllocError, Global};
 use std::fmt;
 use vol_layout::PlaceForm;
-use volume_compare::is_binary;
 
 /// What the content of a volume tells of a file.
 #[derive(Drop)]

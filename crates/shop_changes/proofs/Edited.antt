@@ -26,7 +26,7 @@ use Rattle.shop_changes.specs.declared.outcome.Outcome.{Outcome}
 use Rattle.shop_changes.specs.ChangeReply.{TellsOutcome}
 use Rattle.shop_changes.specs.EditReply.{IsEdited}
 use Rattle.shop_changes.specs.ImageBytes.{AreBytesOf}
-use Rattle.shop_changes.proofs.Fresh.{IsFresh}
+use Rattle.shop_volumes.proofs.Fresh.{IsFresh}
 use Rattle.shop_changes.proofs.Optimized.{keeps_bytes}
 
 -- an edit has fewer writes than a device can count

@@ -6,8 +6,6 @@ mod Types
 pub mod Fronts
 pub mod NotMade
 pub mod SameLength
-pub mod DosListings
-mod Fresh
 mod Optimized
 mod Edited
 mod Saved

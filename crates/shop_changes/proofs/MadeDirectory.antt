@@ -24,7 +24,7 @@ use Rattle.shop_changes.specs.ChangeReply.{TellsOutcome}
 use Rattle.shop_changes.specs.ImageBytes.{AreBytesOf}
 use Rattle.shop_changes.specs.MakingReply.{IsDirectoryMade}
 use Rattle.shop_changes.proofs.Edited.{stops_lack}
-use Rattle.shop_changes.proofs.Fresh.{IsFresh}
+use Rattle.shop_volumes.proofs.Fresh.{IsFresh}
 use Rattle.shop_changes.proofs.Optimized.{keeps_bytes}
 
 -- on a device of which nothing can fail but what can't be read

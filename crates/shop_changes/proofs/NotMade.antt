@@ -1,6 +1,6 @@
 -- Which replies on an image have one, and which have none.
-use Rattle.std.proofs.Common.{◌≡◌, ℕ, Bool, List, None, Some, inl, inr, refl}
-use Rattle.std.specs.Prelude.{IsSome, Option}
+use Rattle.std.proofs.Common.{ℕ, List, None, Some, inl, inr}
+use Rattle.std.specs.Prelude.{Option}
 use Rattle.a2_device.specs.Device.{DeviceState}
 use Rattle.vol_format.specs.Meaning.{Meaning}
 use Rattle.file_formats.specs.FileNames.{FileNameView}
@@ -12,8 +12,6 @@ use Rattle.shop_changes.specs.SaidFile.{IsNotGivenBy, SaidView, TellsBadLine}
 use Rattle.pro_dir.specs.declared.date.ProDate.{ProDate}
 use Rattle.file_edits.specs.Directories.{DirectoryMeaning}
 use Rattle.shop_jobs.specs.Job.{EditView}
-use Rattle.shop_jobs.specs.Paths.{new_file_of}
-use Rattle.shop_jobs.specs.declared.job.VolumeOptions.{VolumeOptions}
 use Rattle.shop_replies.specs.declared.refusal.Refusal.TheVariants as refusals
 use Rattle.shop_replies.specs.declared.refusal.Failure.TheVariants as failures
 use Rattle.shop_replies.specs.declared.reply.Reply.{Reply}
@@ -26,31 +24,6 @@ use Rattle.shop_changes.specs.MakingReply.{IsDirectoryMade}
 use Rattle.shop_changes.specs.ReclaimReply.{IsReclaimed}
 use Rattle.shop_changes.specs.ReplaceReply.{IsPlainReplaced, IsReplaced}
 use Rattle.shop_changes.specs.SaveReply.{IsSaidSaved, IsSaved}
-use Rattle.shop_jobs.specs.Job.{LookView, Catalog, Entries, Check, Compare, Map, Read, Plan, Verify}
-use Rattle.shop_changes.specs.LookReply.{sided}
-use Rattle.shop_changes.specs.VolumeReply.{IsUntaken, IsVolumeReply}
-
-pub untaken_not_made : (volume : VolumeOptions) (reserve : Option (List ℕ)) (image : List ℕ) (reply : Reply) → IsUntaken volume reserve image reply → ¬ IsMade reply
-untaken_not_made volume reserve image reply is made = elim is [
-  | inl refused ↦ refused_not_made refusals.Reserve reply refused.0 made
-  | inr (inl refused) ↦ refused_not_made refusals.Length reply refused.0 made
-  | inr (inr failed) ↦ failed_not_made failures.Memory reply failed made
-]
-
-pub volume_not_made : (volume : VolumeOptions) (reserve : Option (List ℕ)) (image : List ℕ) (Tells : List Bool → DeviceState → Reply → Type 0) (reply : Reply)
-    → ((reserved : List Bool) (device : DeviceState) → Tells reserved device reply → ¬ IsMade reply)
-    → IsVolumeReply volume reserve image Tells reply → ¬ IsMade reply
-volume_not_made volume reserve image Tells reply never is made = elim is [
-  | inl untaken ↦ untaken_not_made volume reserve image reply untaken made
-  | inr told ↦ never told.0 _ told.2.3 made
-]
-
-pub volume_made : (volume : VolumeOptions) (reserve : Option (List ℕ)) (image : List ℕ) (Tells : List Bool → DeviceState → Reply → Type 0) (reply : Reply) (P : Type 0)
-    → ((reserved : List Bool) (device : DeviceState) → Tells reserved device reply → P) → IsVolumeReply volume reserve image Tells reply → IsMade reply → P
-volume_made volume reserve image Tells reply P told is made = elim is [
-  | inl untaken ↦ absurd (untaken_not_made volume reserve image reply untaken made)
-  | inr tells ↦ told tells.0 _ tells.2.3
-]
 
 -- an edit that makes an image answers with it
 pub edited_image : (edit : EditView) (name : FileNameView) (files : FileMeaning) (edits : EditRules) (format : Meaning) (device : DeviceState) (reply : Reply)
@@ -136,25 +109,3 @@ replaced_image path said format device reply is made = elim is [
   | inr (_, inl none) ↦ absurd (none_made said said.form reply none made)
   | inr (_, inr plain) ↦ plain_replaced_image path plain.0 _ format.files format.edits format.units device reply plain.2 made
 ]
-
--- a look that says of which image it refuses has an image where it has one without that
-pub sided_made : (look : LookView) (reply : Reply) → IsMade (sided look reply) → IsMade reply
-sided_made Catalog reply made = made
-sided_made (Entries options) reply made = made
-sided_made (Check bodies) reply made = made
-sided_made Map reply made = made
-sided_made (Compare other options) reply made = made
-sided_made (Read name form out) reply made = made
-sided_made (Plan reclaim in_words) reply made = made
-sided_made (Verify from reclaim) reply made = made
-
--- one whose bytes go to a new file says it of none
-pub sided_same : (look : LookView) (reply : Reply) → IsSome (new_file_of look) → sided look reply ≡ reply
-sided_same Catalog reply out = refl
-sided_same (Entries options) reply out = refl
-sided_same (Check bodies) reply out = refl
-sided_same Map reply out = refl
-sided_same (Compare other options) reply out = cc
-sided_same (Read name form out') reply out = refl
-sided_same (Plan reclaim in_words) reply out = refl
-sided_same (Verify from reclaim) reply out = refl

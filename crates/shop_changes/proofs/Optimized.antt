@@ -10,14 +10,14 @@ use Rattle.vol_mover.specs.declared.report.OptError.{OptError}
 use Rattle.vol_mover.specs.declared.report.OptError.TheVariants as optimizes
 use Rattle.shop_replies.specs.declared.reply.Reply.{Reply}
 use Rattle.shop_replies.proofs.Lacking.{unit_lacks}
-use Rattle.shop_reads.specs.PlanReply.{TellsOpening}
+use Rattle.shop_volumes.specs.Unopened.{TellsOpening}
 use Rattle.shop_changes.specs.OptimizeOutcome.{IsOptimizeOutcome, TellsError}
 use Rattle.shop_changes.specs.declared.outcome.Outcome.{Outcome}
 use Rattle.shop_changes.specs.declared.outcome.Outcome.TheVariants.{Optimized, Changed, Stopped, Unfinished}
 use Rattle.shop_changes.specs.ChangeReply.{TellsOutcome}
 use Rattle.shop_changes.specs.ImageBytes.{AreBytesOf, KeepsBytes}
 use Rattle.shop_changes.specs.OptimizeReply.{IsOptimized}
-use Rattle.shop_changes.proofs.Fresh.{IsFresh}
+use Rattle.shop_volumes.proofs.Fresh.{IsFresh}
 
 -- the image under a device is still of the form that it had at first
 pub keeps_bytes : (old new : DeviceState) (bytes : List ℕ) → new.image ≡ old.image → AreBytesOf new bytes → KeepsBytes old bytes

@@ -24,7 +24,7 @@ use Rattle.shop_replies.specs.declared.reply.Reply.{Reply}
 use Rattle.shop_changes.specs.ChangeReply.{TellsOutcome}
 use Rattle.shop_changes.specs.ReplaceReply.{IsPlainReplaced, IsReopened, IsReplaced}
 use Rattle.shop_changes.proofs.Edited.{stops_lack}
-use Rattle.shop_changes.proofs.Fresh.{IsFresh}
+use Rattle.shop_volumes.proofs.Fresh.{IsFresh}
 use Rattle.shop_changes.proofs.Saved.{saved_told}
 
 -- on a device of which nothing can fail but what can't be read

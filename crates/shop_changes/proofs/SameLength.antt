@@ -13,7 +13,6 @@ use Rattle.shop_changes.specs.SaidFile.{SaidView}
 use Rattle.shop_changes.specs.Replaced.{IsMadeWay}
 use Rattle.shop_changes.specs.Work.{EditOf, MakeDirectory, Optimize, Reclaim, Replace, Save, WorkView}
 use Rattle.shop_jobs.specs.declared.job.VolumeOptions.{VolumeOptions}
-use Rattle.shop_reads.proofs.NotMade.{unopened_told_not_made}
 use Rattle.shop_replies.proofs.NotMade.{failed_not_made, refused_not_made}
 use Rattle.shop_replies.specs.declared.refusal.Failure.TheVariants as failures
 use Rattle.shop_replies.specs.declared.refusal.Refusal.TheVariants as refusals
@@ -24,8 +23,9 @@ use Rattle.shop_changes.specs.ImageBytes.{AreBytesOf}
 use Rattle.file_formats.specs.Files.{FileMeaning}
 use Rattle.shop_changes.specs.ReplaceReply.{IsPlainReplaced, IsReplaced}
 use Rattle.shop_changes.specs.SaveReply.{IsSaidSaved, IsSaved}
-use Rattle.shop_changes.specs.VolumeReply.{IsVolumeReply}
-use Rattle.shop_changes.proofs.NotMade.{none_made, untaken_not_made}
+use Rattle.shop_volumes.specs.VolumeReply.{IsVolumeReply}
+use Rattle.shop_volumes.proofs.NotMade.{unopened_told_not_made, untaken_not_made}
+use Rattle.shop_changes.proofs.NotMade.{none_made}
 
 -- the bytes of an image are as many as the device under it says
 as_long : (device : DeviceState) (bytes : List ℕ) (form : ImageForm) → device.image ≡ Some form → AreBytesOf device bytes → length bytes ≡ form.bytes

@@ -1,7 +1,7 @@
--- What is told of the device of an image is told of the image.
+-- What is told of a change on the device of an image is told of the image.
 use Rattle.std.proofs.Common.{◌≡◌, ◌∙◌, ℕ, Bool, List, Some, ap, inl, inr, length, subst, sym}
 use Rattle.std.proofs.lemmas.Option.{same_Some}
-use Rattle.std.specs.Prelude.{◌⊎◌, IsTrue, Option}
+use Rattle.std.specs.Prelude.{◌⊎◌, Option}
 use Rattle.a2_device.specs.Device.{DeviceState, ImageForm}
 use Rattle.a2_device.specs.Order.{blocks_of}
 use Rattle.shop_jobs.specs.declared.job.FileSystem.{FileSystem}
@@ -12,17 +12,16 @@ use Rattle.shop_replies.specs.declared.reply.Reply.{Reply}
 use Rattle.shop_replies.specs.Reply.{failed}
 use Rattle.shop_replies.specs.Volume.{TakesBytes}
 use Rattle.shop_replies.proofs.Disks.{blocks_of-disk}
-use Rattle.shop_jobs.specs.Job.{LookView}
-use Rattle.shop_reads.specs.GoingOn.{FailsForLackIn, ReadsFor, going_of}
 use Rattle.shop_changes.specs.Changing.{IsWorkOutcome, LacksMemory}
 use Rattle.shop_changes.specs.EditRules.{ChangedMeaning, changed_by}
 use Rattle.shop_changes.specs.Work.{WorkView, Optimize, EditOf, MakeDirectory, Reclaim, Replace, Save}
 use Rattle.shop_changes.specs.declared.outcome.Outcome.{Outcome}
 use Rattle.shop_changes.specs.ChangeReply.{IsChangeReply, StandsOnDevice, TellsOutcome}
 use Rattle.shop_changes.specs.ReplaceReply.{HasDisk, IsOpened}
-use Rattle.shop_changes.specs.VolumeReply.{IsVolumeIn, IsVolumeReply}
+use Rattle.shop_volumes.specs.VolumeReply.{IsVolumeIn, IsVolumeReply}
 use Rattle.shop_changes.proofs.Edited.{edited_told}
-use Rattle.shop_changes.proofs.Fresh.{IsFresh, failed_for_lack, image_fresh}
+use Rattle.shop_volumes.proofs.Fresh.{IsFresh}
+use Rattle.shop_volumes.proofs.OfImage.{told_of_image}
 use Rattle.shop_changes.proofs.MadeDirectory.{directory_told}
 use Rattle.shop_changes.proofs.Optimized.{optimized}
 use Rattle.shop_changes.proofs.Reclaimed.{reclaimed_told}
@@ -30,32 +29,10 @@ use Rattle.shop_changes.proofs.Saved.{said_told}
 
 module _ (volume : VolumeOptions) (reserve : Option (List ℕ)) (image : List ℕ) (device : DeviceState) (reserved : List Bool)
     (of : IsVolumeIn volume reserve image device reserved) (reply : Reply) where
-  fresh : IsFresh device
-  fresh = image_fresh device volume.file_system of.taken.1 of.taken.3
-
-  tells_of_image : (Tells : List Bool → DeviceState → Reply → Type 0) → Tells reserved device reply → IsVolumeReply volume reserve image Tells reply
-  tells_of_image Tells tells =
-      inr (reserved, of.named, (of.taken.0, of.taken.1, of.taken.2, subst (λ (d : DeviceState). Tells reserved d reply) of.taken.3 tells))
-
-  lacks_memory : (Tells : List Bool → DeviceState → Reply → Type 0) → reply ≡ failed failures.Memory → IsVolumeReply volume reserve image Tells reply
-  lacks_memory Tells memory = inl (inr (inr memory))
-
-  -- of a look
-  pub looked : (look : LookView) (Tells : List Bool → DeviceState → Reply → Type 0) (new : DeviceState) → ReadsFor look reply device new
-      → (IsTrue device.honest → FailsForLackIn look reply device new → (reply ≡ failed failures.Memory) ⊎ Tells reserved device reply)
-      → IsVolumeReply volume reserve image Tells reply
-  looked look Tells new reads told = elim (told fresh.honest (failed_for_lack device new reply fresh (going_of look) reads)) [
-    | inl memory ↦ lacks_memory Tells memory
-    | inr tells ↦ tells_of_image Tells tells
-  ]
-
-  -- and of a change
   pub changed : (work : WorkView) → (reply ≡ failed failures.Memory) ⊎ IsChangeReply work (changed_by volume reserved) device reply
       → IsVolumeReply volume reserve image (λ (reserved : List Bool). IsChangeReply work (changed_by volume reserved)) reply
-  changed work told = elim told [
-    | inl memory ↦ lacks_memory (λ (reserved : List Bool). IsChangeReply work (changed_by volume reserved)) memory
-    | inr tells ↦ tells_of_image (λ (reserved : List Bool). IsChangeReply work (changed_by volume reserved)) tells
-  ]
+  changed work told =
+      told_of_image volume reserve image device reserved of (λ (reserved : List Bool). IsChangeReply work (changed_by volume reserved)) reply told
 
   -- the image of a disk has as many blocks as one
   pub has_disk : HasDisk volume.file_system device

@@ -8,7 +8,7 @@ use Rattle.shop_replies.specs.declared.refusal.Failure.TheVariants as failures
 use Rattle.shop_replies.specs.declared.reply.Reply.{Reply}
 use Rattle.shop_replies.specs.Reply.{failed, refused}
 use Rattle.shop_replies.specs.Volume.{form_of}
-use Rattle.shop_reads.specs.Reserving.{NamesPlaces, OfReserved}
+use Rattle.shop_volumes.specs.Reserving.{NamesPlaces, OfReserved}
 use Rattle.shop_changes.specs.EditOutcome.{IsEditOutcome}
 use Rattle.shop_changes.specs.EditRules.{ChangedMeaning}
 use Rattle.shop_changes.specs.MakingOutcome.{IsMakingOutcome}

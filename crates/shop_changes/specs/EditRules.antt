@@ -19,7 +19,7 @@ use Rattle.shop_jobs.specs.declared.job.FileSystem.{FileSystem}
 use Rattle.shop_jobs.specs.declared.job.FileSystem.TheVariants.{Dos, Prodos}
 use Rattle.shop_jobs.specs.declared.job.VolumeOptions.{VolumeOptions}
 use Rattle.shop_replies.specs.Volume.{meaning_of}
-use Rattle.shop_reads.specs.Look.{files_of}
+use Rattle.shop_volumes.specs.VolumeFiles.{files_of}
 
 -- how an entry of it is locked, named and erased, and how one is entered
 pub record EditRules : Type 1 where

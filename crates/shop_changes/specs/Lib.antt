@@ -14,8 +14,6 @@ pub mod SaidFile
 pub mod Replaced
 pub mod Changing
 pub mod MakingOutcome
-pub mod VolumeReply
-pub mod LookReply
 pub mod ImageBytes
 pub mod OptimizeReply
 pub mod EditReply
@@ -24,4 +22,3 @@ pub mod ReclaimReply
 pub mod MakingReply
 pub mod ReplaceReply
 pub mod ChangeReply
-pub mod DosCatalogReply

@@ -12,7 +12,7 @@ use Rattle.vol_mover.specs.declared.report.OptError.TheVariants.{Open, Step, Mem
 use Rattle.shop_replies.specs.declared.refusal.Failure.TheVariants as failures
 use Rattle.shop_replies.specs.declared.reply.Reply.{Reply}
 use Rattle.shop_replies.specs.Reply.{failed}
-use Rattle.shop_reads.specs.PlanReply.{TellsOpening}
+use Rattle.shop_volumes.specs.Unopened.{TellsOpening}
 use Rattle.shop_changes.specs.declared.outcome.Outcome.{Outcome}
 use Rattle.shop_changes.specs.declared.outcome.Outcome.TheVariants.{Optimized, Changed, Stopped, Unfinished}
 

@@ -10,7 +10,7 @@ use Rattle.shop_replies.specs.declared.refusal.Failure.TheVariants as failures
 use Rattle.shop_replies.specs.declared.reply.Reply.{Reply}
 use Rattle.shop_replies.specs.declared.reply.Status.TheVariants.{Done}
 use Rattle.shop_replies.specs.Reply.{IsHanded, IsInterrupted, failed, made_of, text_of}
-use Rattle.shop_reads.specs.PlanReply.{IsUnopenedReply}
+use Rattle.shop_volumes.specs.Unopened.{IsUnopenedReply}
 use Rattle.shop_changes.specs.Outcome.{report_text}
 use Rattle.shop_changes.specs.ImageBytes.{AreBytesOf, KeepsBytes}
 

@@ -19,8 +19,8 @@ use dos_format::Dos33;
 use file_edits::{Acceptance, DirectoryFormat};
 use pro_format::Prodos;
 use shop_jobs::{FileSystem, VolumeOptions};
-use shop_reads::{reserve_reply, reserved_by};
 use shop_replies::{Failure, Refusal, Reply, form_of};
+use shop_volumes::{reserve_reply, reserved_by};
 use std::alloc::Global;
 use vol_layout::Reserved;
 

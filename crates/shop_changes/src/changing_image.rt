@@ -7,18 +7,18 @@ ghost use Rattle.shop_changes.specs.declared.outcome.Outcome.TheVariants.{Optimi
 ghost use Rattle.shop_changes.specs.ChangeReply.{IsChangeReply, StandsOnDevice, TellsOutcome};
 ghost use Rattle.shop_changes.specs.ImageBytes.{AreBytesOf};
 ghost use Rattle.shop_changes.specs.ReplaceReply.{HasDisk, IsOpened};
-ghost use Rattle.shop_changes.specs.VolumeReply.{IsVolumeReply};
+ghost use Rattle.shop_volumes.specs.VolumeReply.{IsVolumeReply};
 ghost use Rattle.shop_replies.specs.Reply.{failed};
 ghost use Rattle.shop_replies.specs.Volume.{HasUnitsOf};
 ghost use Rattle.shop_replies.specs.declared.refusal.Failure.TheVariants.{Memory as OfMemory};
 
-use crate::image_volume::volume_in;
 use crate::replacing_in_image::replace_on_image;
 use crate::{Outcome, SaidFile, Work, change_volume, line_text};
 use a2_device::Device;
 use a2_media::ImageDevice;
 use shop_jobs::VolumeOptions;
 use shop_replies::{Failure, Reply};
+use shop_volumes::volume_in;
 use std::alloc::Global;
 use vol_layout::Reserved;
 use vol_mover::Report;

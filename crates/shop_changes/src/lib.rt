@@ -1,6 +1,6 @@
 //! What becomes of a volume that is changed, on any device that has its units: its files are brought into order, a file
 //! of it is changed, a new one is saved to it, its lost places are marked free, or a directory is made in it. And what
-//! is answered to a job on the volume of an image in memory.
+//! is answered to a change of the volume of an image in memory.
 //!
 //! `change_in_place` does `Work` and hands the device back with an `Outcome`, which `Outcome::tell` tells; the words
 //! may reserve places, and `change_volume` is told them.
@@ -23,15 +23,13 @@
 //! the other one: between them the volume has neither. So it is no work on a device that keeps what is written:
 //! `change_volume` refuses it with `InPlace`, and who has the volume in memory calls `make_way`, then `save_in_place`.
 //!
-//! **The volume of an image in memory** is on a device like any other: `image_look` tells of it what `shop_reads` tells
-//! of a device, and `image_change` changes it and hands the image out. Whoever does more with that device opens it by
-//! `volume_in` and takes the bytes of its image by `image_bytes`. `specs/VolumeReply.antt` says what is refused before
-//! there is a device, and that what is told is told of the device of the image's units. Of a look that is `IsLookReply`
-//! of `shop_reads` (`specs/LookReply.antt`); of a change `IsChangeReply` (`specs/ChangeReply.antt`), by cases of the
-//! work `OptimizeReply`, `EditReply`, `SaveReply`, `ReplaceReply`, `ReclaimReply` and `MakingReply`, which say what the
-//! image is that is handed out (`specs/ImageBytes.antt`). A file takes the place of another one here alone: in memory
-//! there is nothing between the two that could stay. `specs/DosCatalogReply.antt` tells the listing of a DOS 3.3 disk
-//! in its format's own words.
+//! **The volume of an image in memory** is on a device like any other: `image_change` changes it and hands the image
+//! out. Whoever does more with that device opens it by `volume_in` of `shop_volumes` and takes the bytes of its image
+//! by `image_bytes`. `specs/VolumeReply.antt` of `shop_volumes` says what is refused before there is a device, and that
+//! what is told is told of the device of the image's units: that is `IsChangeReply` (`specs/ChangeReply.antt`), by
+//! cases of the work `OptimizeReply`, `EditReply`, `SaveReply`, `ReplaceReply`, `ReclaimReply` and `MakingReply`, which
+//! say what the image is that is handed out (`specs/ImageBytes.antt`). A file takes the place of another one here
+//! alone: in memory there is nothing between the two that could stay.
 //!
 //! What always holds: all memory is taken before the first write; after a failure of the device nothing of it is called
 //! again; and where no failure of the device is told and the work is not done, the device is as it was.
@@ -45,9 +43,7 @@ mod editing;
 mod given_error;
 mod given_file;
 mod given_words;
-mod image_volume;
 mod law;
-mod looking_at_image;
 mod making;
 mod optimizing;
 mod outcome;
@@ -67,9 +63,7 @@ pub use editing::edit_refusal_reply;
 pub use given_error::GivenError;
 pub use given_file::{FileUnits, GivenFile, Head, MOST_INPUT, file_units};
 pub use given_words::{head_of, kind_for, kind_named, usual_kind};
-pub use image_volume::volume_in;
 pub use law::{a_kind_is_got_back_from_its_type, what_takes_the_place_of_none_is_saved};
-pub use looking_at_image::image_look;
 pub use making::make_in_place;
 pub use outcome::Outcome;
 pub use plain_file::{PlainFile, taken_plain};

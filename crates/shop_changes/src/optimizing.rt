@@ -5,8 +5,8 @@ ghost use Rattle.vol_format.specs.Fits.{Fits};
 
 use crate::outcome::Outcome;
 use a2_device::Device;
-use shop_reads::unopened_reply;
 use shop_replies::{Failure, Reply};
+use shop_volumes::unopened_reply;
 use std::alloc::Global;
 use vol_format::WritableFormat;
 use vol_mover::{OptError, Options, optimize};

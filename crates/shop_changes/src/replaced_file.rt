@@ -11,12 +11,11 @@ ghost use Rattle.vol_format.specs.Fits.{Fits};
 
 use a2_device::Device;
 use edit_formats::{EditError, SavableFormat};
-use file_cmds::{FileText, file_text};
+use file_cmds::{FileText, file_text, is_binary};
 use file_formats::{FileName, ListEntry, address_of, find};
 use std::alloc::Global;
 use vol_check::check;
 use vol_layout::PlaceForm;
-use volume_compare::is_binary;
 
 /// What a new file takes over of the one that it replaces, where the words do not say it.
 #[derive(Clone, Copy)]

@@ -32,10 +32,13 @@ use Rattle.shop_changes.specs.EditRules.{changed_by}
 use Rattle.shop_changes.specs.Work.{WorkView}
 use Rattle.shop_changes.specs.Work as works
 use Rattle.shop_changes.specs.ChangeReply.{IsChangeReply}
-use Rattle.shop_changes.specs.LookReply.{IsImageLook}
-use Rattle.shop_changes.specs.VolumeReply.{IsVolumeReply}
-use Rattle.shop_changes.proofs.Fronts.{replaced-take, saved-take, volume-told, volume-whole, with_said_bytes}
-use Rattle.shop_changes.proofs.NotMade.{directory_image, edited_image, reclaimed_image, replaced_image, said_image, sided_made, sided_same, volume_made}
+use Rattle.shop_reads.specs.ImageLook.{IsImageLook}
+use Rattle.shop_volumes.specs.VolumeReply.{IsVolumeReply}
+use Rattle.shop_volumes.proofs.Fronts.{volume-told, volume-whole}
+use Rattle.shop_volumes.proofs.NotMade.{volume_made}
+use Rattle.shop_reads.proofs.Sided.{sided_made, sided_same}
+use Rattle.shop_changes.proofs.Fronts.{replaced-take, saved-take, with_said_bytes}
+use Rattle.shop_changes.proofs.NotMade.{directory_image, edited_image, reclaimed_image, replaced_image, said_image}
 use Rattle.image_readings.proofs.Fronts.{identify-whole}
 use Rattle.image_readings.proofs.NotMade.{identify_not_made}
 use Rattle.shop_replies.specs.Reading.{IsReadFailure, most_beside, most_of_image}

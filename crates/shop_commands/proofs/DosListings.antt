@@ -4,8 +4,8 @@ use Rattle.std.specs.Prelude.{Option, Some, None, IfSome}
 use Rattle.shop_jobs.specs.Job.{AddTo, AskView, Catalog, ChangeOf, Check, Compare, Convert, Create, Entries, ExtractFrom, Identify, LookAt, Map, Plan, Read, Survey, Unwrap, Verify, Wrap}
 use Rattle.shop_replies.specs.declared.reply.Reply.{Reply}
 use Rattle.shop_replies.specs.Reply.{Held}
-use Rattle.shop_changes.specs.DosCatalogReply.{IsDosCatalogReply}
-use Rattle.shop_changes.proofs.DosListings.{dos_catalog_listed}
+use Rattle.shop_reads.specs.DosCatalogReply.{IsDosCatalogReply}
+use Rattle.shop_reads.proofs.DosListings.{dos_catalog_listed}
 use Rattle.shop_commands.specs.Answer.{IsAnswer, IsDosCatalogAnswer}
 
 -- a job that is none in place is told of its bytes

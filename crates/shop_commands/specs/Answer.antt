@@ -33,9 +33,9 @@ use Rattle.shop_changes.specs.EditRules.{changed_by}
 use Rattle.shop_changes.specs.Work.{WorkView}
 use Rattle.shop_changes.specs.Work as works
 use Rattle.shop_changes.specs.ChangeReply.{IsChangeReply}
-use Rattle.shop_changes.specs.DosCatalogReply.{IsDosCatalogReply}
-use Rattle.shop_changes.specs.LookReply.{IsImageLook}
-use Rattle.shop_changes.specs.VolumeReply.{IsVolumeReply}
+use Rattle.shop_reads.specs.DosCatalogReply.{IsDosCatalogReply}
+use Rattle.shop_reads.specs.ImageLook.{IsImageLook}
+use Rattle.shop_volumes.specs.VolumeReply.{IsVolumeReply}
 use Rattle.image_readings.specs.IdentifyReply.{IsIdentifyReply}
 use Rattle.shop_commands.specs.CreateReply.{IsCreateReply}
 

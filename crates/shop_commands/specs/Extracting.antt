@@ -22,7 +22,7 @@ use Rattle.shop_replies.specs.declared.refusal.Failure.TheVariants as failures
 use Rattle.shop_replies.specs.declared.refusal.Refusal.TheVariants as refusals
 use Rattle.shop_replies.specs.Reply.{AppendsFront, failed, refused}
 use Rattle.shop_replies.specs.Volume.{form_of, meaning_of}
-use Rattle.shop_reads.specs.Look.{files_of}
+use Rattle.shop_volumes.specs.VolumeFiles.{files_of}
 use Rattle.shop_commands.specs.declared.extracting.NotExtracted.{NotExtracted}
 use Rattle.shop_commands.specs.declared.extracting.NotExtracted.TheVariants.{Refused, Folder, Text}
 

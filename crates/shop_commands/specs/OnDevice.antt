@@ -10,7 +10,7 @@ use Rattle.shop_replies.specs.Reply.{refused}
 use Rattle.shop_replies.specs.Volume.{HasUnitsOf}
 use Rattle.shop_reads.specs.GoingOn.{HasNotFailed, ReadsFor}
 use Rattle.shop_reads.specs.Look.{IsLookReply, shown_by}
-use Rattle.shop_reads.specs.Reserving.{IsDeviceReply}
+use Rattle.shop_volumes.specs.Reserving.{IsDeviceReply}
 use Rattle.shop_changes.specs.Changing.{IsChangeOutcome, IsWorkOutcome}
 use Rattle.shop_changes.specs.EditRules.{changed_by}
 use Rattle.shop_changes.specs.Work.{WorkView}

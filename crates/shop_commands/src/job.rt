@@ -39,8 +39,9 @@ use crate::creating::create_reply;
 use crate::work::change_work;
 use disk_container::{Container, Shell};
 use image_readings::identify_reply;
-use shop_changes::{image_change, image_look};
+use shop_changes::image_change;
 use shop_jobs::{Ask, Job, Look, from_path, has_image, is_in_place};
+use shop_reads::image_look;
 use shop_replies::{
     Failure, Refusal, Reply, Side, convert_reply, most_beside, most_of_image, read_front,
     unwrap_reply, wrap_reply,

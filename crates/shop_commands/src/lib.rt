@@ -1,13 +1,13 @@
 //! Commands of the workshop, from words to bytes.
 //!
-//! A job is taken apart once, by what it asks. `reply_to` turns the bytes of an image into one `Reply`: a look and a
-//! change are those of `shop_changes`, a conversion is that of `shop_replies`, `identify` that of `image_readings`, and
-//! a new volume is made by `create_reply` (`specs/CreateReply.antt`);
-//! `change_work` makes the work of a change, or refuses its words. `run_job` reads the bytes, writes the text of the
-//! reply once and hands its image to the output file. `job_of_words` is the job that words ask for, or tells why there
-//! is none: the program runs it, and `run_command` is `job_of_words` followed by `run_job`. Of a container the payload
-//! is read, and `reply_to_payload` hands out the one that a change makes in the shell of the old one. On the device
-//! that has the volume, `read_job_on_device` tells of a look, and `run_job_in_place` does a change.
+//! A job is taken apart once, by what it asks. `reply_to` turns the bytes of an image into one `Reply`: a look is that
+//! of `shop_reads`, a change that of `shop_changes`, a conversion that of `shop_replies`, `identify` that of
+//! `image_readings`, and a new volume is made by `create_reply` (`specs/CreateReply.antt`); `change_work` makes the
+//! work of a change, or refuses its words. `run_job` reads the bytes, writes the text of the reply once and hands its
+//! image to the output file. `job_of_words` is the job that words ask for, or tells why there is none: the program runs
+//! it, and `run_command` is `job_of_words` followed by `run_job`. Of a container the payload is read, and
+//! `reply_to_payload` hands out the one that a change makes in the shell of the old one. On the device that has the
+//! volume, `read_job_on_device` tells of a look, and `run_job_in_place` does a change.
 //!
 //! The model: `specs/Answer.antt` says which reply comes, by the job and the bytes, and what words are answered;
 //! `specs/OnDevice.antt` says it of a device.

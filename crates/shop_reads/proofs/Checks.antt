@@ -16,7 +16,7 @@ use Rattle.shop_replies.specs.Reply.{fault_files_in, text_of}
 use Rattle.shop_reads.specs.CheckReply.{IsChecked, IsUnaccepted, TellsFaults, TellsRefusal}
 use Rattle.shop_reads.specs.CheckText.{fault_line}
 use Rattle.shop_reads.specs.FaultLines.{NamesFilesOrNone, file_lines}
-use Rattle.shop_reads.specs.TellingFailures.{FailsForLack}
+use Rattle.shop_volumes.specs.TellingFailures.{FailsForLack}
 
 -- a volume that is not accepted, or could not be checked
 pub check_refused : {A : Type 0} (form : PlaceForm) (format : Meaning) (device : DeviceState) (error : CheckError A) (reply : Reply)

@@ -31,7 +31,7 @@ use Rattle.shop_replies.proofs.NotMade.{told_not_made}
 use Rattle.shop_reads.specs.CompareReply.{IsCompared, IsComparedWith, TellsComparison, comparison_status, error_reply}
 use Rattle.shop_reads.specs.FileSystems.{file_system_of}
 use Rattle.shop_reads.specs.GoingOn.{ReadsAll}
-use Rattle.shop_reads.specs.TellingFailures.{fails_device, tells_device}
+use Rattle.shop_volumes.specs.TellingFailures.{fails_device, tells_device}
 
 -- ---- the front of the other image
 

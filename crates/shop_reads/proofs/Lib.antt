@@ -14,3 +14,6 @@ mod WorkedMap
 mod OneMap
 mod FirstFaults
 mod Compared
+mod ImageLooks
+pub mod Sided
+pub mod DosListings

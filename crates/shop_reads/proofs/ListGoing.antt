@@ -16,7 +16,7 @@ use Rattle.volume_compare.specs.Contents.{SeenVolume}
 use Rattle.shop_reads.specs.EntriesReply.{AddressIs, AreFacts, AreFactsUpTo, DigestIs, LacksUnitOf, PartsAre, ReadTooMuch, is_json, is_names, reads_files, wants_address, wants_places}
 use Rattle.shop_reads.specs.GoingOn.{Ends, FailsForLackBy, ReadsBy, TellsFile, list_going}
 use Rattle.shop_reads.specs.Refusals.{reply_to_refusal}
-use Rattle.shop_reads.specs.TellingFailures.{FailsForLack, tells_device}
+use Rattle.shop_volumes.specs.TellingFailures.{FailsForLack, tells_device}
 use Rattle.shop_reads.proofs.FirstFiles.{wider_up_to}
 use Rattle.shop_reads.proofs.Readings.{refusal_failed}
 

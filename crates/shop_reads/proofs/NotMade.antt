@@ -8,8 +8,6 @@ use Rattle.vol_check.specs.Told.{Told}
 use Rattle.vol_format.specs.Directory.{Directory}
 use Rattle.vol_format.specs.Meaning.{Meaning}
 use Rattle.vol_layout.specs.Layouts.{Placement}
-use Rattle.vol_mover.specs.declared.error.OpenError.{OpenError}
-use Rattle.vol_mover.specs.declared.error.OpenError.TheVariants as opens
 use Rattle.file_formats.specs.FileNames.{FileNameView}
 use Rattle.shop_reads.specs.FileNames.{named_by}
 use Rattle.file_formats.specs.Files.{FileMeaning}
@@ -19,9 +17,10 @@ use Rattle.shop_jobs.specs.declared.job.ReadForm.{ReadForm}
 use Rattle.shop_replies.specs.declared.refusal.Refusal.TheVariants as refusals
 use Rattle.shop_replies.specs.declared.refusal.Failure.TheVariants as failures
 use Rattle.shop_replies.specs.declared.reply.Reply.{Reply}
-use Rattle.shop_replies.specs.declared.reply.Status.TheVariants.{Done, Refused, Wrong}
+use Rattle.shop_replies.specs.declared.reply.Status.TheVariants.{Done, Wrong}
 use Rattle.shop_replies.specs.Reply.{IsMade, IsMadeReply}
 use Rattle.shop_replies.proofs.NotMade.{failed_not_made, refused_not_made, told_not_made}
+use Rattle.shop_volumes.proofs.NotMade.{unopened_told_not_made}
 use Rattle.shop_jobs.specs.declared.job.ListOptions.{ListOptions}
 use Rattle.shop_reads.specs.BodiesReply.{IsCheckedWhole, TellsBodies, unread_parts}
 use Rattle.shop_reads.specs.CatalogReply.{IsListed}
@@ -29,7 +28,7 @@ use Rattle.shop_reads.specs.EntriesReply.{IsEntriesTold, list_status}
 use Rattle.shop_reads.specs.CheckReply.{IsChecked}
 use Rattle.shop_reads.specs.Look.{IsLookReply, ShownMeaning}
 use Rattle.shop_reads.specs.MapReply.{IsMapped}
-use Rattle.shop_reads.specs.PlanReply.{IsPlanned, TellsOpening}
+use Rattle.shop_reads.specs.PlanReply.{IsPlanned}
 use Rattle.shop_reads.specs.PlanWords.{IsPlannedInWords}
 use Rattle.shop_reads.specs.ReadReply.{IsRead}
 use Rattle.shop_reads.specs.VerifyReply.{IsVerdict, IsVerified}
@@ -71,16 +70,6 @@ mapped_not_made form format unreserved device reply is made = elim is [
   | inr (inr (inl failed)) ↦ failed_not_made failures.Device reply failed.0 made
   | inr (inr (inr failed)) ↦ failed_not_made failures.Memory reply failed made
 ]
-
-pub unopened_told_not_made : {A : Type 0} (error : OpenError A) (reply : Reply) → TellsOpening error reply → ¬ IsMade reply
-unopened_told_not_made (opens.Check faults) reply is made = refused_not_made refusals.Check reply is made
-unopened_told_not_made (opens.Lost count) reply is made = elim is [
-  | inl told ↦ told_not_made Refused reply told.0 made
-  | inr failed ↦ failed_not_made failures.Memory reply failed made
-]
-unopened_told_not_made opens.NoFreePlace reply is made = refused_not_made refusals.NoFreePlace reply is made
-unopened_told_not_made opens.Device reply is made = failed_not_made failures.Device reply is made
-unopened_told_not_made opens.Memory reply is made = failed_not_made failures.Memory reply is made
 
 planned_not_made : (reclaim : Bool) (format : Meaning) (device : DeviceState) (reply : Reply) → IsPlanned reclaim format device reply → ¬ IsMade reply
 planned_not_made reclaim format device reply is made = elim is [

@@ -20,8 +20,8 @@ use Rattle.shop_replies.specs.Reply.{IsTold, failed}
 use Rattle.shop_reads.specs.CheckReply.{TellsFaults, TellsRefusal}
 use Rattle.shop_reads.specs.EntriesReply.{list_status}
 use Rattle.shop_reads.specs.GoingOn.{ReadsAll}
-use Rattle.shop_reads.specs.PlanReply.{TellsOpening}
-use Rattle.shop_reads.specs.TellingFailures.{fails_device, tells_device}
+use Rattle.shop_volumes.specs.Unopened.{TellsOpening}
+use Rattle.shop_volumes.specs.TellingFailures.{fails_device, tells_device}
 
 -- none with another status
 told_quiet : (status : Status) (reply : Reply) → ((told : Told) → fails_device status told ≡ false) → IsTold status reply → tells_device reply ≡ false

@@ -17,7 +17,7 @@ use Rattle.shop_jobs.specs.declared.job.FileSystem.{FileSystem}
 use Rattle.shop_replies.specs.Volume.{form_of}
 use Rattle.vol_layout.specs.declared.reserve_error.ReserveError.{ReserveError}
 use Rattle.vol_layout.specs.declared.reserve_error.ReserveError.TheVariants as reserves
-use Rattle.shop_reads.specs.Reserving.{IsDeviceReply, NamesPlaces, reply_to_reserve}
+use Rattle.shop_volumes.specs.Reserving.{IsDeviceReply, NamesPlaces, reply_to_reserve}
 use Rattle.shop_reads.specs.GoingOn.{Going, Ends, TellsFile, TellsUnit, FailsForLackBy, HasNotFailedBy, ReadsBy}
 use Rattle.file_cmds.specs.Read.{HasNoFile, IsUnreadable}
 use Rattle.file_cmds.specs.declared.error.CmdError.{CmdError}
@@ -27,7 +27,7 @@ use Rattle.shop_jobs.specs.declared.job.ReadForm.{ReadForm}
 use Rattle.shop_reads.specs.CatalogReply.{IsListed}
 use Rattle.shop_reads.specs.EntriesReply.{IsEntriesTold}
 use Rattle.shop_reads.specs.ReadReply.{HandsContent, IsRead}
-use Rattle.shop_reads.specs.TellingFailures.{FailsForLack, tells_device}
+use Rattle.shop_volumes.specs.TellingFailures.{FailsForLack, tells_device}
 use Rattle.shop_reads.specs.Refusals.{reply_to_refusal}
 
 module _ (files : FileMeaning) (format : Meaning) (device : DeviceState) where

@@ -5,8 +5,8 @@ use Rattle.vol_format.specs.Meaning.{Meaning}
 use Rattle.vol_mover.specs.Refused.{IsRefusal}
 use Rattle.vol_mover.specs.declared.error.OpenError.{OpenError}
 use Rattle.shop_replies.specs.declared.reply.Reply.{Reply}
-use Rattle.shop_reads.specs.PlanReply.{IsUnopenedReply, TellsOpening}
-use Rattle.shop_reads.specs.TellingFailures.{FailsForLack}
+use Rattle.shop_volumes.specs.Unopened.{IsUnopenedReply, TellsOpening}
+use Rattle.shop_volumes.specs.TellingFailures.{FailsForLack}
 
 pub unopened : (reclaim : Bool) (format : Meaning) (device : DeviceState) (error : OpenError Global) (reply : Reply) → FailsForLack device reply
     → IsRefusal format device.store (record { reclaim = reclaim }) error → TellsOpening error reply → IsUnopenedReply reclaim format device reply

@@ -32,7 +32,8 @@ use Rattle.shop_replies.specs.declared.reply.Status.{Status}
 use Rattle.shop_replies.specs.declared.reply.Status.TheVariants.{Done, Wrong}
 use Rattle.shop_replies.specs.Reply.{failed, refused}
 use Rattle.shop_replies.specs.Volume.{LacksUnit}
-use Rattle.volume_compare.specs.Contents.{IsUnread, SeenVolume, is_binary, volume_in}
+use Rattle.file_cmds.specs.Address.{is_binary}
+use Rattle.volume_compare.specs.Contents.{IsUnread, SeenVolume, volume_in}
 use Rattle.shop_reads.specs.CatalogReply.{TellsListing}
 
 -- ---- what is wanted

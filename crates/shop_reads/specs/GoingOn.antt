@@ -9,7 +9,7 @@ use Rattle.shop_replies.specs.declared.reply.Reply.{Reply}
 use Rattle.shop_replies.specs.Reply.{failed}
 use Rattle.shop_replies.specs.Volume.{LacksUnit}
 use Rattle.shop_reads.specs.EntriesReply.{reads_files}
-use Rattle.shop_reads.specs.TellingFailures.{FailsForLack, tells_device}
+use Rattle.shop_volumes.specs.TellingFailures.{FailsForLack, tells_device}
 
 -- It ends there; or it goes on, and tells which file can't be read, or which unit.
 pub data Going : Type 0 where

@@ -1,5 +1,4 @@
 pub mod Refusals
-pub mod TellingFailures
 pub mod CatalogReply
 pub mod EntriesReply
 pub mod CheckText
@@ -13,7 +12,6 @@ pub mod VerifyReply
 pub mod FileNames
 pub mod FileForms
 pub mod ReadReply
-pub mod Reserving
 pub mod GoingOn
 pub mod Unreserved
 pub mod MapText
@@ -23,4 +21,6 @@ pub mod MapReply
 pub mod FileSystems
 pub mod CompareReply
 pub mod Look
+pub mod ImageLook
+pub mod DosCatalogReply
 pub mod lemmas

@@ -3,15 +3,13 @@ use Rattle.std.specs.Prelude.{ℕ, Bool, true, false, List, []}
 use Rattle.a2_device.specs.Device.{DeviceState}
 use Rattle.vol_layout.specs.declared.form.PlaceForm.{PlaceForm}
 use Rattle.vol_format.specs.Meaning.{Meaning}
-use Rattle.file_formats.specs.DosFiles.{dos_files}
 use Rattle.file_formats.specs.Files.{FileMeaning}
-use Rattle.file_formats.specs.ProFiles.{pro_files}
 use Rattle.shop_jobs.specs.Job.{LookView, Catalog, Entries, Check, Map, Compare, Read, Plan, Verify}
 use Rattle.shop_jobs.specs.declared.job.FileSystem.{FileSystem}
-use Rattle.shop_jobs.specs.declared.job.FileSystem.TheVariants.{Dos, Prodos}
 use Rattle.shop_jobs.specs.declared.job.VolumeOptions.{VolumeOptions}
 use Rattle.shop_replies.specs.declared.reply.Reply.{Reply}
 use Rattle.shop_replies.specs.Volume.{form_of, meaning_of}
+use Rattle.shop_volumes.specs.VolumeFiles.{files_of}
 use Rattle.shop_reads.specs.BodiesReply.{IsCheckedWhole}
 use Rattle.shop_reads.specs.CatalogReply.{IsListed}
 use Rattle.shop_reads.specs.CheckReply.{IsChecked}
@@ -23,11 +21,6 @@ use Rattle.shop_reads.specs.PlanReply.{IsPlanned}
 use Rattle.shop_reads.specs.PlanWords.{IsPlannedInWords}
 use Rattle.shop_reads.specs.ReadReply.{IsRead}
 use Rattle.shop_reads.specs.VerifyReply.{IsVerified}
-
--- how the files of a file system are named, shown and read
-abbrev pub files_of : FileSystem → FileMeaning
-files_of Dos = dos_files
-files_of Prodos = pro_files
 
 -- what a format of volumes is to who is told of one: how its places are named, its files, what its units mean, and what
 -- they mean where nothing is reserved

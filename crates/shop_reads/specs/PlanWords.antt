@@ -17,7 +17,8 @@ use Rattle.shop_replies.specs.declared.refusal.Failure.TheVariants as failures
 use Rattle.shop_replies.specs.declared.reply.Reply.{Reply}
 use Rattle.shop_replies.specs.Reply.{IsTold, failed, text_of}
 use Rattle.shop_replies.specs.declared.reply.Status.TheVariants.{Done}
-use Rattle.shop_reads.specs.PlanReply.{IsOpened, IsUnopenedReply}
+use Rattle.shop_volumes.specs.Unopened.{IsUnopenedReply}
+use Rattle.shop_reads.specs.PlanReply.{IsOpened}
 use Rattle.shop_reads.specs.Steps.{AreSteps}
 
 -- these steps are told, or memory is wanting

@@ -15,7 +15,8 @@ use Rattle.file_listings.specs.DosText.{Text, line}
 use Rattle.shop_replies.specs.declared.refusal.Refusal.TheVariants as refusals
 use Rattle.shop_replies.specs.declared.refusal.Failure.TheVariants as failures
 use Rattle.shop_replies.specs.declared.reply.Reply.{Reply}
-use Rattle.shop_reads.specs.PlanReply.{IsOpened, IsUnopenedReply}
+use Rattle.shop_volumes.specs.Unopened.{IsUnopenedReply}
+use Rattle.shop_reads.specs.PlanReply.{IsOpened}
 use Rattle.shop_replies.specs.Reply.{IsTold, failed, refused, text_of}
 use Rattle.shop_replies.specs.declared.reply.Status.TheVariants.{Done, Wrong}
 

@@ -7,7 +7,7 @@ ghost use Rattle.shop_reads.specs.CheckText.{fault_line};
 ghost use Rattle.shop_reads.specs.FaultLines.{NamesFilesOrNone, file_lines};
 ghost use Rattle.shop_replies.specs.Reply.{fault_files_in, text_of};
 ghost use Rattle.vol_format.specs.Directory.{entries};
-ghost use Rattle.shop_reads.specs.TellingFailures.{FailsForLack, tells_device};
+ghost use Rattle.shop_volumes.specs.TellingFailures.{FailsForLack, tells_device};
 ghost use Rattle.vol_format.specs.Fits.{Fits};
 
 use crate::check_text::{accepted_line, fault_lines};

@@ -6,7 +6,7 @@ ghost use Rattle.file_listings.specs.declared.style.Style.TheVariants.{Catalog a
 ghost use Rattle.shop_replies.specs.declared.reply.Status.TheVariants.{Done as IsDone};
 ghost use Rattle.a2_device.specs.Device.{OnlyReads};
 ghost use Rattle.shop_reads.specs.CatalogReply.{IsListed, TellsListing};
-ghost use Rattle.shop_reads.specs.TellingFailures.{FailsForLack, tells_device};
+ghost use Rattle.shop_volumes.specs.TellingFailures.{FailsForLack, tells_device};
 ghost use Rattle.shop_reads.specs.Refusals.{reply_to_refusal};
 ghost use Rattle.vol_format.specs.Fits.{Fits};
 

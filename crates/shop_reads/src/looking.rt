@@ -7,7 +7,7 @@ ghost use Rattle.shop_replies.specs.Reply.{failed};
 ghost use Rattle.shop_replies.specs.Volume.{HasUnitsOf};
 ghost use Rattle.shop_reads.specs.GoingOn.{FailsForLackIn, HasNotFailed, ReadsFor};
 ghost use Rattle.shop_reads.specs.Look.{IsLookReply, shown_by, shown_in};
-ghost use Rattle.shop_reads.specs.Reserving.{IsDeviceReply};
+ghost use Rattle.shop_volumes.specs.Reserving.{IsDeviceReply};
 ghost use Rattle.vol_format.specs.Fits.{Fits};
 
 use crate::bodies::bodies_reply;
@@ -20,13 +20,13 @@ use crate::naming::file_name;
 use crate::plan::plan_reply;
 use crate::plan_words::plan_words_reply;
 use crate::reading::read_reply;
-use crate::reserving::{reserve_reply, reserved_by};
 use crate::verify::verify_reply;
 use a2_device::Device;
 use dos_format::Dos33;
 use pro_format::Prodos;
 use shop_jobs::{FileSystem, Look, VolumeOptions};
 use shop_replies::{Failure, Reply, form_of};
+use shop_volumes::{reserve_reply, reserved_by};
 use std::alloc::Global;
 use vol_layout::Reserved;
 

@@ -7,7 +7,7 @@ ghost use Rattle.file_cmds.specs.Refusal.{told_device};
 ghost use Rattle.shop_reads.specs.MapReply.{HasFaults, IsMapped, TellsMap};
 ghost use Rattle.shop_reads.specs.MapStates.{IsMap};
 ghost use Rattle.shop_reads.specs.MapSteps.{IsBareMap, IsPutOn};
-ghost use Rattle.shop_reads.specs.TellingFailures.{FailsForLack, tells_device};
+ghost use Rattle.shop_volumes.specs.TellingFailures.{FailsForLack, tells_device};
 
 use crate::listing::{ShownFormat, refusal_reply};
 use crate::map_lines::map_text;

@@ -2,32 +2,17 @@
 ghost use Rattle.std.specs.Prelude.{◌≡◌, IsTrue};
 ghost use Rattle.a2_device.specs.Device.{OnlyReads};
 ghost use Rattle.vol_mover.specs.Opening.{IsPlanOf};
-ghost use Rattle.shop_reads.specs.PlanReply.{IsPlanned, TellsOpening, TellsPlan};
-ghost use Rattle.shop_reads.specs.TellingFailures.{FailsForLack, tells_device};
+ghost use Rattle.shop_reads.specs.PlanReply.{IsPlanned, TellsPlan};
+ghost use Rattle.shop_volumes.specs.TellingFailures.{FailsForLack, tells_device};
 ghost use Rattle.vol_format.specs.Fits.{Fits};
 
 use a2_device::Device;
 use ring_cert::print;
-use shop_replies::{Failure, Refusal, Reply};
+use shop_replies::{Failure, Reply};
+use shop_volumes::unopened_reply;
 use std::alloc::Global;
 use vol_format::Format;
-use vol_mover::{OpenError, Opening, Options};
-
-/// The reply to a volume that is not opened.
-pub fn unopened_reply(alloc: Global, error: &OpenError) -> Reply
-    ensures { TellsOpening error.now result }
-{
-    match error {
-        OpenError::Check(_) => Reply::refused(Refusal::Check),
-        OpenError::Lost(count) => match format!(in alloc; "REFUSED Lost {count}\n") {
-            Ok(text) => Reply::unopened(text),
-            Err(_) => Reply::failed(Failure::Memory),
-        },
-        OpenError::NoFreePlace => Reply::refused(Refusal::NoFreePlace),
-        OpenError::Device => Reply::failed(Failure::Device),
-        OpenError::Memory => Reply::failed(Failure::Memory),
-    }
-}
+use vol_mover::{Opening, Options};
 
 /// The reply with the certificate of a plan.
 pub fn certificate_reply<V: Drop>(alloc: Global, opening: &Opening<V>) -> Reply

@@ -5,16 +5,16 @@ ghost use Rattle.vol_format.specs.Fits.{Fits};
 ghost use Rattle.vol_format.specs.Directory.{entries};
 ghost use Rattle.vol_mover.specs.Opening.{IsPlanOf, IsToldIn, told_in};
 ghost use Rattle.file_listings.specs.Steps.{plan_words_text};
-ghost use Rattle.shop_reads.specs.TellingFailures.{FailsForLack, tells_device};
+ghost use Rattle.shop_volumes.specs.TellingFailures.{FailsForLack, tells_device};
 ghost use Rattle.shop_reads.specs.PlanWords.{IsPlannedInWords, TellsWords};
 
 use crate::listing::ShownFormat;
-use crate::plan::unopened_reply;
 use crate::steps::steps_of;
 use a2_device::Device;
 use file_formats::FileFormat;
 use file_listings::{CountText, Step, StepText};
 use shop_replies::{Failure, Reply};
+use shop_volumes::unopened_reply;
 use std::alloc::{AllocError, Global};
 use vol_layout::PlaceForm;
 use vol_mover::{Opening, Options};

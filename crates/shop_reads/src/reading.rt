@@ -6,7 +6,7 @@ ghost use Rattle.file_cmds.specs.Refusal.{told_device};
 ghost use Rattle.file_formats.specs.FileNames.{name_view};
 ghost use Rattle.shop_reads.specs.FileForms.{IsInWantedForm, LacksWantedForm};
 ghost use Rattle.shop_reads.specs.ReadReply.{HandsContent, IsContentAt, IsRead, LacksFormAt, OfFileAt};
-ghost use Rattle.shop_reads.specs.TellingFailures.{FailsForLack, tells_device};
+ghost use Rattle.shop_volumes.specs.TellingFailures.{FailsForLack, tells_device};
 ghost use Rattle.vol_format.specs.Fits.{Fits};
 
 use crate::listing::{ShownFormat, refusal_reply};

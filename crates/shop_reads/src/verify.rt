@@ -1,14 +1,14 @@
 // The job that tells whether a certificate shows that no plan is shorter.
 ghost use Rattle.std.specs.Prelude.{◌≡◌, Some, IsTrue};
 ghost use Rattle.a2_device.specs.Device.{OnlyReads};
-ghost use Rattle.shop_reads.specs.TellingFailures.{FailsForLack, tells_device};
+ghost use Rattle.shop_volumes.specs.TellingFailures.{FailsForLack, tells_device};
 ghost use Rattle.shop_reads.specs.VerifyReply.{IsVerdict, IsVerified, TellsFault, TellsNoText, fault_text};
 ghost use Rattle.vol_format.specs.Fits.{Fits};
 
-use crate::plan::unopened_reply;
 use a2_device::Device;
 use ring_cert::{CertError, CertFault, read, verify};
 use shop_replies::{Failure, Refusal, Reply};
+use shop_volumes::unopened_reply;
 use std::alloc::Global;
 use std::fmt;
 use vol_format::Format;

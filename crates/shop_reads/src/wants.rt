@@ -2,7 +2,8 @@
 ghost use Rattle.std.specs.Prelude.{◌≡◌, ◌<◌, ◌&&◌, not, ℕ, IfOk, IsFalse, List, false};
 ghost use Rattle.std.specs.declared.alloc.Global.{Global};
 ghost use Rattle.vol_format.specs.Directory.{Directory, entries, entry_of, is_directory};
-ghost use Rattle.volume_compare.specs.Contents.{is_binary, volume_in};
+ghost use Rattle.file_cmds.specs.Address.{is_binary};
+ghost use Rattle.volume_compare.specs.Contents.{volume_in};
 ghost use Rattle.shop_reads.specs.EntriesReply.{
   WantsNothing,
   reads_files,
@@ -11,12 +12,12 @@ ghost use Rattle.shop_reads.specs.EntriesReply.{
 };
 
 use crate::listing::ShownFormat;
+use file_cmds::is_binary;
 use file_formats::FileFormat;
 use shop_jobs::{ListForm, ListOptions};
 use std::alloc::{AllocError, Global};
 use vol_format::{Format, Link};
 use vol_layout::PlaceForm;
-use volume_compare::is_binary;
 
 /// What is wanted of a file: its address, and its digest where digests are told.
 #[derive(Clone, Copy)]

@@ -1,23 +1,18 @@
 -- What is compared of a file.
-use Rattle.std.specs.Prelude.{◌≡◌, ◌≢◌, ◌⊎◌, ◌==◌, ℕ, Bool, false, List, Option, Some, None, if◌then◌else◌}
+use Rattle.std.specs.Prelude.{◌≡◌, ◌≢◌, ◌⊎◌, ℕ, List, Option, Some, None, if◌then◌else◌}
 use Rattle.std.specs.declared.alloc.Global.{Global}
 use Rattle.vol_layout.specs.declared.form.PlaceForm.{PlaceForm}
-use Rattle.vol_layout.specs.declared.form.PlaceForm.TheVariants.{Sector, Block}
 use Rattle.vol_format.specs.Directory.{Directory, Listed, entry_of}
 use Rattle.vol_format.specs.Meaning.{Meaning}
 use Rattle.file_formats.specs.DosFiles.{number_at}
 use Rattle.file_formats.specs.Files.{FileMeaning}
 use Rattle.file_formats.specs.declared.listing.ListEntry.{ListEntry}
+use Rattle.file_cmds.specs.Address.{is_binary}
 use Rattle.file_cmds.specs.Text.{IsWholeTextOf, OwnFault}
 use Rattle.volume_compare.specs.declared.content.Content.{Content}
 use Rattle.volume_compare.specs.declared.content.Head.{Head}
 use Rattle.volume_compare.specs.declared.finding.Finding.{Finding}
 use Rattle.volume_compare.specs.declared.finding.Finding.TheVariants.{Unreadable, Only, Body, Entry, Same}
-
--- a binary file of DOS 3.3 has an address
-abbrev pub is_binary : {A : Type 0} → PlaceForm → ListEntry A → Bool
-is_binary Sector entry = entry.kind == 4
-is_binary Block entry = false
 
 -- what is compared beside the text of a file whose entry is shown so and that has this whole text
 abbrev pub head_of : {A : Type 0} → PlaceForm → ListEntry A → List ℕ → Head

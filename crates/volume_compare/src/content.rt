@@ -11,20 +11,16 @@ ghost use Rattle.volume_compare.specs.Contents.{
   content_by,
   content_view,
   head_of,
-  is_binary,
   volume_in,
 };
 
 use crate::finding::Finding;
 use a2_device::Device;
-use file_cmds::{FileText, VolumeFiles};
+use file_cmds::{FileText, VolumeFiles, is_binary};
 use file_formats::{FileFormat, ListEntry, address_of};
 use pro_dir::ProDate;
 use std::alloc::{AllocError, Global};
 use vol_layout::PlaceForm;
-
-/// The kind of a binary file of DOS 3.3.
-const BINARY: u8 = 0x04;
 
 /// What is compared of a file beside its text.
 #[derive(Clone, Copy, PartialEq, Eq)]
@@ -54,13 +50,6 @@ impl Content {
     {
         self.text.len() as u64
     }
-}
-
-/// Whether an entry is that of a binary file of DOS 3.3, which begins with its address.
-pub fn is_binary(form: PlaceForm, entry: &ListEntry) -> bool
-    ensures { result ≡ is_binary form entry.now }
-{
-    form == PlaceForm::Sector && entry.kind == BINARY
 }
 
 // What is compared beside the text of a file with this whole text.

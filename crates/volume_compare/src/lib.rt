@@ -33,7 +33,6 @@ mod telling;
 mod totals;
 
 pub use comparing::compare_volumes;
-pub use content::is_binary;
 pub use error::CompareError;
 pub use finding::{Finding, Side};
 pub use law::equal_volumes_have_the_same_files;

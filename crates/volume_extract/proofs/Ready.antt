@@ -11,7 +11,8 @@ use Rattle.file_cmds.specs.ReadingOn.{FailedInFile, ReadsOn}
 use Rattle.file_cmds.specs.lemmas.Reading.{still_honest}
 use Rattle.host_folders.specs.HostNames.{host_name}
 use Rattle.host_folders.specs.declared.entry.Naming.{Naming}
-use Rattle.volume_compare.specs.Contents.{SeenVolume, is_binary}
+use Rattle.file_cmds.specs.Address.{is_binary}
+use Rattle.volume_compare.specs.Contents.{SeenVolume}
 use Rattle.volume_extract.specs.Counts.{AreCounted}
 use Rattle.volume_extract.specs.Items.{AuxBy, Contents, Found, found_folder, found_file, found_both, found_text, found_unread, contents_of, contents_where, depth_below, IsAbove, IsAddress, IsAux, IsFileFound, IsFound, IsNamed, Item, SaysText, SaysTextBy, host_below, is_folder_at, is_text, shown_of, view_at}
 use Rattle.volume_extract.specs.Keys.{is_key, key_of, keys_of}

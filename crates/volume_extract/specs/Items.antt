@@ -13,7 +13,8 @@ use Rattle.file_forms.specs.Found.{FileView}
 use Rattle.host_folders.specs.HostNames.{Entry, Text, bare_name, folded, host_name, text_beside}
 use Rattle.host_folders.specs.Laws.{IsEntry}
 use Rattle.host_folders.specs.declared.entry.Naming.{Naming}
-use Rattle.volume_compare.specs.Contents.{IsUnread, SeenVolume, is_binary}
+use Rattle.file_cmds.specs.Address.{is_binary}
+use Rattle.volume_compare.specs.Contents.{IsUnread, SeenVolume}
 use Rattle.volume_extract.specs.Texts.{HasText, are_alone, view_of}
 use Rattle.volume_extract.specs.declared.texts.Texts.{Texts}
 use Rattle.volume_extract.specs.declared.texts.Texts.TheVariants.{Beside, Alone}

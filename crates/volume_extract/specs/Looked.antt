@@ -7,7 +7,8 @@ use Rattle.file_formats.specs.declared.listing.ListEntry.{ListEntry}
 use Rattle.file_forms.specs.Found.{FileView}
 use Rattle.vol_layout.specs.declared.form.PlaceForm.{PlaceForm}
 use Rattle.vol_format.specs.Directory.{Listed}
-use Rattle.volume_compare.specs.Contents.{IsUnread, SeenVolume, is_binary}
+use Rattle.file_cmds.specs.Address.{is_binary}
+use Rattle.volume_compare.specs.Contents.{IsUnread, SeenVolume}
 use Rattle.volume_extract.specs.Items.{Found, found_folder, found_file, found_both, found_text, found_unread, IsAddress, IsFound, IsFoundIn, is_folder_at, is_text, shown_of}
 use Rattle.volume_extract.specs.Texts.{are_alone, view_of}
 use Rattle.volume_extract.specs.declared.body.Body.{Body}

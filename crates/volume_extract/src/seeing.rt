@@ -16,11 +16,10 @@ use crate::opened::{Opened, is_folder};
 use crate::texts::Texts;
 use crate::tree_format::TreeFormat;
 use a2_device::Device;
-use file_cmds::VolumeFiles;
+use file_cmds::{VolumeFiles, is_binary};
 use file_formats::{ListEntry, address_of};
 use std::alloc::{AllocError, Global};
 use vol_layout::PlaceForm;
-use volume_compare::is_binary;
 
 /// What was seen of an entry.
 #[derive(Drop)]

@@ -1,7 +1,7 @@
 use Rattle.std.proofs.Common.{List, ℕ, option_map, subst}
 use Rattle.std.specs.Prelude.{Bool, Option}
 use Rattle.vol_layout.specs.declared.form.PlaceForm.{PlaceForm}
-use Rattle.shop_reads.specs.Reserving.{ReservesNamed}
+use Rattle.shop_volumes.specs.Reserving.{ReservesNamed}
 use Rattle.shop_changes.specs.Changing.{IsWorkOutcome}
 use Rattle.shop_changes.specs.EditRules.{changed_by}
 use Rattle.shop_changes.specs.Work.{work_view}

@@ -1,6 +1,6 @@
 use Rattle.shop_changes.specs.EditRules.{changed_by}
 use Rattle.shop_changes.specs.Work.{work_view}
-use Rattle.shop_changes.proofs.Fresh.{image_fresh}
+use Rattle.shop_volumes.proofs.Fresh.{image_fresh}
 use Rattle.shop_changes.proofs.Told.{changed_there}
 use Rattle.shop_changes.proofs.changing_image.change_on_image.Goals as goal
 

@@ -1,5 +1,5 @@
 use Rattle.shop_changes.specs.SaidFile.{said_view}
-use Rattle.shop_changes.proofs.Fresh.{image_fresh}
+use Rattle.shop_volumes.proofs.Fresh.{image_fresh}
 use Rattle.shop_changes.proofs.ReplacedImage.{no_way, saved_over}
 use Rattle.shop_changes.proofs.replacing_in_image.replace_plain.Goals as goal
 

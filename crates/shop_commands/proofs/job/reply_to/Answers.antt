@@ -5,7 +5,7 @@ use Rattle.shop_jobs.specs.declared.job.Ask.{Ask}
 use Rattle.shop_changes.specs.EditRules.{changed_by}
 use Rattle.shop_changes.specs.Work.{work_view}
 use Rattle.shop_changes.specs.ChangeReply.{IsChangeReply}
-use Rattle.shop_changes.specs.VolumeReply.{IsVolumeReply}
+use Rattle.shop_volumes.specs.VolumeReply.{IsVolumeReply}
 use Rattle.shop_commands.specs.Answer.{AsksFor, IsReplyToBytes}
 use Rattle.shop_commands.specs.CreateReply.{IsCreateReply}
 use Rattle.shop_commands.proofs.job.reply_to.Goals as goal

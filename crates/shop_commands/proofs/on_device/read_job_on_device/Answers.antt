@@ -3,7 +3,7 @@ use Rattle.std.specs.Prelude.{Option}
 use Rattle.shop_jobs.specs.Job.{ask_view, look_view}
 use Rattle.shop_jobs.specs.declared.job.Ask.{Ask}
 use Rattle.shop_reads.specs.Look.{IsLookReply, shown_by}
-use Rattle.shop_reads.specs.Reserving.{IsDeviceReply}
+use Rattle.shop_volumes.specs.Reserving.{IsDeviceReply}
 use Rattle.shop_commands.specs.OnDevice.{HasNotFailedIn, IsToldOnDevice, ReadsForAsk}
 use Rattle.shop_commands.proofs.on_device.read_job_on_device.Goals as goal
 

@@ -11,7 +11,7 @@ use Rattle.vol_check.specs.declared.judgement.Judgement.TheVariants.{Accepted}
 use Rattle.vol_format.proofs.Lists.{element}
 use Rattle.shop_reads.specs.BodiesReply.{TellsBodies, unread_parts}
 use Rattle.shop_reads.specs.CheckReply.{TellsFaults, TellsRefusal}
-use Rattle.shop_reads.specs.TellingFailures.{tells_device}
+use Rattle.shop_volumes.specs.TellingFailures.{tells_device}
 use Rattle.shop_reads.proofs.Checks.{check_refused, faults_unaccepted}
 use Rattle.shop_reads.proofs.Quiet.{check_goes_on, faults_go_on}
 use Rattle.shop_reads.proofs.bodies.bodies_reply.Goals as goal

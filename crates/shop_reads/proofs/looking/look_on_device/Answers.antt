@@ -2,7 +2,7 @@ use Rattle.std.proofs.Common.{inl, inr, ⊎_elim, option_map, subst, sym}
 use Rattle.shop_jobs.specs.Job.{look_view}
 use Rattle.vol_layout.specs.declared.form.PlaceForm.{PlaceForm}
 use Rattle.shop_replies.specs.declared.reply.Reply.{Reply}
-use Rattle.shop_reads.specs.Reserving.{ReservesNamed}
+use Rattle.shop_volumes.specs.Reserving.{ReservesNamed}
 use Rattle.shop_reads.specs.GoingOn.{ReadsFor, going_of}
 use Rattle.shop_reads.proofs.Readings.{none_looked, none_reserved, not_failed}
 use Rattle.shop_reads.proofs.looking.look_on_device.Goals as goal

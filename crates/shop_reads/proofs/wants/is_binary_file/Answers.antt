@@ -1,7 +1,7 @@
 use Rattle.std.proofs.Common.{Global, ap}
 use Rattle.vol_format.specs.Directory.{entry_of}
 use Rattle.vol_layout.specs.declared.form.PlaceForm.{PlaceForm}
-use Rattle.volume_compare.specs.Contents.{is_binary}
+use Rattle.file_cmds.specs.Address.{is_binary}
 use Rattle.shop_reads.proofs.wants.is_binary_file.Goals as goal
 
 pub returns-in-Block : goal.returns-in-Block

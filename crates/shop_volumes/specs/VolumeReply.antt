@@ -8,7 +8,7 @@ use Rattle.shop_replies.specs.declared.refusal.Failure.TheVariants as failures
 use Rattle.shop_replies.specs.declared.reply.Reply.{Reply}
 use Rattle.shop_replies.specs.Reply.{failed, refused}
 use Rattle.shop_replies.specs.Volume.{HasUnitsOf, OfVolume, TakesBytes, form_of}
-use Rattle.shop_reads.specs.Reserving.{NamesPlaces, OfReserved, ReservesNamed}
+use Rattle.shop_volumes.specs.Reserving.{NamesPlaces, OfReserved, ReservesNamed}
 
 -- The reply where there is no volume to work on: `Reserve` for a text that is no list of places, before `Length` for a
 -- number of bytes that no image has; or want of memory.

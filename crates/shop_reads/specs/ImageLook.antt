@@ -7,7 +7,7 @@ use Rattle.shop_replies.specs.declared.refusal.Side.TheVariants.{First}
 use Rattle.shop_replies.specs.declared.reply.Reply.{Reply}
 use Rattle.shop_replies.specs.Reply.{of_image}
 use Rattle.shop_reads.specs.Look.{IsLookReply, shown_by}
-use Rattle.shop_changes.specs.VolumeReply.{IsVolumeReply}
+use Rattle.shop_volumes.specs.VolumeReply.{IsVolumeReply}
 
 -- a comparison says of which of its two images it refuses or fails
 abbrev pub sided : LookView → Reply → Reply

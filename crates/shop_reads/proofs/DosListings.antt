@@ -19,8 +19,8 @@ use Rattle.shop_replies.specs.declared.reply.Reply.{Reply}
 use Rattle.shop_replies.specs.Volume.{device_of}
 use Rattle.shop_reads.specs.CatalogReply.{IsListed}
 use Rattle.shop_reads.specs.Look.{IsLookReply, shown_by}
-use Rattle.shop_changes.specs.DosCatalogReply.{IsDosCatalogReply, IsDosListed}
-use Rattle.shop_changes.specs.VolumeReply.{IsVolumeReply}
+use Rattle.shop_reads.specs.DosCatalogReply.{IsDosCatalogReply, IsDosListed}
+use Rattle.shop_volumes.specs.VolumeReply.{IsVolumeReply}
 
 length-disk : (image : DiskImage) → length (device_of Dos image).store ≡ 560
 unfolding sectors_by_place

@@ -2,8 +2,8 @@ use Rattle.std.proofs.Common.{List, ℕ, option_map}
 use Rattle.std.specs.Prelude.{Bool, Option}
 use Rattle.shop_jobs.specs.Job.{look_view}
 use Rattle.shop_reads.specs.Look.{IsLookReply, shown_by}
-use Rattle.shop_changes.proofs.Told.{looked}
-use Rattle.shop_changes.proofs.looking_at_image.volume_look.Goals as goal
+use Rattle.shop_reads.proofs.ImageLooks.{looked}
+use Rattle.shop_reads.proofs.looking_at_image.volume_look.Goals as goal
 
 pub returns-in-Ok : goal.returns-in-Ok
 returns-in-Ok c =

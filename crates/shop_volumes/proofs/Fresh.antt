@@ -3,13 +3,11 @@ use Rattle.std.proofs.Common.{◌≡◌, [], refl, subst, sym}
 use Rattle.std.specs.Prelude.{IsTrue, Some, None}
 use Rattle.a2_device.specs.Device.{DeviceState, OnlyReads}
 use Rattle.a2_image.specs.Image.{DiskImage}
-use Rattle.file_cmds.specs.lemmas.Reading.{lacking_where_quiet, lacks_where_quiet}
 use Rattle.shop_jobs.specs.declared.job.FileSystem.{FileSystem}
 use Rattle.shop_replies.specs.declared.reply.Reply.{Reply}
 use Rattle.shop_replies.specs.Volume.{device_of}
 use Rattle.shop_replies.proofs.Lacking.{unit_lacks}
-use Rattle.shop_reads.specs.GoingOn.{Going, Ends, TellsFile, TellsUnit, FailsForLackBy, ReadsBy}
-use Rattle.shop_reads.specs.TellingFailures.{FailsForLack, tells_device}
+use Rattle.shop_volumes.specs.TellingFailures.{FailsForLack, tells_device}
 
 -- it is honest, no failure is to come, and it has counted no write
 pub record IsFresh (device : DeviceState) : Type 0 where
@@ -29,9 +27,3 @@ image_fresh device file_system image is = subst (λ (d : DeviceState). IsFresh d
 pub fails_for_lack : (old new : DeviceState) (reply : Reply) → IsFresh old → OnlyReads (tells_device reply) old new → FailsForLack old reply
 fails_for_lack old new reply fresh reads =
     λ is. unit_lacks old new fresh.honest fresh.reads (subst (λ (r : Reply). OnlyReads (tells_device r) old new) is reads)
-
--- and what failed under a look, whatever this is
-pub failed_for_lack : (old new : DeviceState) (reply : Reply) → IsFresh old → (going : Going) → ReadsBy going reply old new → FailsForLackBy going reply old new
-failed_for_lack old new reply fresh Ends reads = fails_for_lack old new reply fresh reads
-failed_for_lack old new reply fresh TellsFile reads = lacks_where_quiet old new fresh.honest fresh.reads
-failed_for_lack old new reply fresh TellsUnit reads = lacking_where_quiet old new fresh.honest fresh.reads

@@ -2,13 +2,13 @@
 ghost use Rattle.std.specs.Prelude.{◌≡◌, option_map};
 ghost use Rattle.shop_jobs.specs.Job.{look_view};
 ghost use Rattle.shop_reads.specs.Look.{IsLookReply, shown_by};
-ghost use Rattle.shop_changes.specs.LookReply.{IsImageLook, sided as with_side};
-ghost use Rattle.shop_changes.specs.VolumeReply.{IsVolumeReply};
+ghost use Rattle.shop_reads.specs.ImageLook.{IsImageLook, sided as with_side};
+ghost use Rattle.shop_volumes.specs.VolumeReply.{IsVolumeReply};
 
-use crate::image_volume::volume_in;
+use crate::looking::look_at_volume;
 use shop_jobs::{Look, VolumeOptions};
-use shop_reads::look_at_volume;
 use shop_replies::{Reply, Side};
+use shop_volumes::volume_in;
 use std::alloc::Global;
 
 // A comparison says of which of its two images it refuses or fails.

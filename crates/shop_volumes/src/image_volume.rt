@@ -1,11 +1,11 @@
 // The volume of an image, as a device.
 ghost use Rattle.std.specs.Prelude.{◌≡◌, IfErr, IfOk, option_map};
-ghost use Rattle.shop_changes.specs.VolumeReply.{IsUntaken, IsVolumeIn};
+ghost use Rattle.shop_volumes.specs.VolumeReply.{IsUntaken, IsVolumeIn};
 
+use crate::{reserve_reply, reserved_by};
 use a2_device::Device;
 use a2_media::ImageDevice;
 use shop_jobs::VolumeOptions;
-use shop_reads::{reserve_reply, reserved_by};
 use shop_replies::{Reply, device_of, form_of, open_volume};
 use std::alloc::Global;
 use vol_layout::Reserved;

@@ -1,7 +1,7 @@
 // The places that words reserve on a volume.
 ghost use Rattle.std.specs.Prelude.{◌≡◌, IfErr, IfOk, option_map};
 ghost use Rattle.vol_layout.specs.declared.reserve_error.ReserveError.TheVariants.{Syntax};
-ghost use Rattle.shop_reads.specs.Reserving.{NamesPlaces, ReservesNamed, reply_to_reserve};
+ghost use Rattle.shop_volumes.specs.Reserving.{NamesPlaces, ReservesNamed, reply_to_reserve};
 
 use shop_replies::{Failure, Refusal, Reply};
 use std::alloc::Global;

@@ -1,0 +1,4 @@
+pub mod Fresh
+pub mod OfImage
+pub mod Fronts
+pub mod NotMade

@@ -1,0 +1,5 @@
+pub mod VolumeFiles
+pub mod TellingFailures
+pub mod Reserving
+pub mod Unopened
+pub mod VolumeReply
