@@ -13,8 +13,8 @@ use Rattle.host_folders.proofs.One.{one_file, one_folder}
 use Rattle.host_folders.specs.HostEntries.{FileView, SaysFile, SaysFolder}
 use Rattle.vol_layout.specs.declared.form.PlaceForm.TheVariants.{Block, Sector}
 use Rattle.shop_changes.specs.GivenWords.{kind_for}
-use Rattle.shop_jobs.specs.declared.job.FileSystem.{FileSystem}
-use Rattle.shop_jobs.specs.declared.job.FileSystem.TheVariants.{Dos, Prodos}
+use Rattle.shop_jobs.specs.declared.input.FileSystem.{FileSystem}
+use Rattle.shop_jobs.specs.declared.input.FileSystem.TheVariants.{Dos, Prodos}
 use Rattle.shop_replies.specs.declared.refusal.Refusal.TheVariants as refusals
 
 -- ---- what paths say

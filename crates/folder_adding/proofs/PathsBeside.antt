@@ -11,8 +11,8 @@ use Rattle.folder_adding.specs.Verdicts.{is_readable}
 use Rattle.host_folders.specs.HostEntries.{FileView, SaysContent, SaysFile, listed, readable, stored}
 use Rattle.host_folders.specs.declared.said.Content.{Content}
 use Rattle.host_folders.specs.declared.said.Content.TheVariants.{Bytes}
-use Rattle.shop_jobs.specs.declared.job.FileSystem.{FileSystem}
-use Rattle.shop_jobs.specs.declared.job.FileSystem.TheVariants.{Dos, Prodos}
+use Rattle.shop_jobs.specs.declared.input.FileSystem.{FileSystem}
+use Rattle.shop_jobs.specs.declared.input.FileSystem.TheVariants.{Dos, Prodos}
 use Rattle.vol_layout.specs.declared.form.PlaceForm.{PlaceForm}
 use Rattle.vol_layout.specs.declared.form.PlaceForm.TheVariants.{Block, Sector}
 

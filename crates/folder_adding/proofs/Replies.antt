@@ -12,7 +12,7 @@ use Rattle.folder_adding.specs.declared.adding.Refused.{Refused}
 use Rattle.edit_formats.specs.Saves.{SaveMeaning}
 use Rattle.shop_changes.specs.ImageBytes.{AreBytesOf, KeepsBytes}
 use Rattle.shop_volumes.specs.VolumeReply.{IsVolumeIn, IsVolumeReply}
-use Rattle.shop_jobs.specs.declared.job.VolumeOptions.{VolumeOptions}
+use Rattle.shop_jobs.specs.declared.input.VolumeOptions.{VolumeOptions}
 use Rattle.shop_replies.specs.declared.refusal.Failure.{Failure}
 use Rattle.shop_replies.specs.Reply.{made_of}
 use Rattle.shop_replies.specs.declared.reply.Reply.{Reply}

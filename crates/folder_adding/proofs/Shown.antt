@@ -12,7 +12,7 @@ use Rattle.folder_adding.specs.AddedText.{listed_path, shown_capital}
 use Rattle.folder_adding.specs.Listed.{IsToldAsListed}
 use Rattle.pro_dir.specs.Paths.{folded}
 use Rattle.row_text.specs.Shown.{shown}
-use Rattle.shop_jobs.specs.declared.job.FileSystem.TheVariants.{Dos, Prodos}
+use Rattle.shop_jobs.specs.declared.input.FileSystem.TheVariants.{Dos, Prodos}
 use Rattle.vol_format.specs.Directory.{Listed}
 
 both_left : (a b : Bool) → (a && b) ≡ true → a ≡ true

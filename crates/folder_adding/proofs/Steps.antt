@@ -13,7 +13,7 @@ use Rattle.folder_adding.specs.declared.adding.Refused.{Refused}
 use Rattle.folder_adding.specs.declared.item.Item.{Item}
 use Rattle.folder_adding.specs.declared.item.Second.{Second}
 use Rattle.file_forms.specs.declared.form.FileForm.{FileForm}
-use Rattle.shop_jobs.specs.declared.job.FileSystem.{FileSystem}
+use Rattle.shop_jobs.specs.declared.input.FileSystem.{FileSystem}
 use Rattle.folder_adding.proofs.Chain.{added_quiet, item_volume, known_alike, known_stored, one_more}
 use Rattle.folder_adding.proofs.Outcomes.{memory_quiet, refused_quiet, said_counts, said_kept}
 use Rattle.folder_adding.proofs.Same.{same_on}

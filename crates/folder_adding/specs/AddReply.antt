@@ -22,8 +22,9 @@ use Rattle.edit_formats.specs.Saves.{SaveMeaning}
 use Rattle.shop_changes.specs.EditRules.{ChangedMeaning, changed_by}
 use Rattle.shop_changes.specs.ImageBytes.{AreBytesOf, KeepsBytes}
 use Rattle.shop_volumes.specs.VolumeReply.{IsVolumeReply}
-use Rattle.shop_jobs.specs.Job.{AdditionView, AddTo, AskView}
-use Rattle.shop_jobs.specs.declared.job.VolumeOptions.{VolumeOptions}
+use Rattle.shop_jobs.specs.Input.{ReadingView, reserve_of, volume_of}
+use Rattle.shop_jobs.specs.Job.{AdditionView}
+use Rattle.shop_jobs.specs.declared.input.VolumeOptions.{VolumeOptions}
 use Rattle.shop_replies.specs.ContainerReply.{IsInShell}
 use Rattle.shop_replies.specs.Reply.{IsHanded, IsTold, failed, made_of, refused, text_of}
 use Rattle.shop_replies.specs.Volume.{LacksUnit}
@@ -37,11 +38,6 @@ use Rattle.shop_replies.specs.declared.reply.Told.TheVariants as tells
 use Rattle.shown_text.specs.Escaping.{escaped}
 use Rattle.vol_format.specs.Accepted.{IsVolume}
 use Rattle.vol_format.specs.Meaning.{Meaning}
-
--- the job adds the files of a folder to its volume
-abbrev pub AddsFiles : AskView → Type 0
-AddsFiles (AddTo volume reserve words out) = Unit {0}
-AddsFiles ask = ⊥
 
 -- ---- one entry of the folder
 
@@ -184,9 +180,16 @@ abbrev pub IsShelled : Option (Shell Global) → Reply → Reply → Type 0
 IsShelled None told reply = reply ≡ told
 IsShelled (Some shell) told reply = IsInShell shell.front.items shell.back.items told reply
 
--- What is answered to a job that adds the files of a folder, of which these are the entries.
-abbrev pub IsAddAnswer : {H : Type 0} → (H → ℕ → Failure → Type 0) → AskView → List EntryView → Option (ℕ → List ℕ)
-    → List ℕ → Option (Shell Global) → Reply → Type 0
-IsAddAnswer may_fail (AddTo volume reserve words out) entries holds image shell reply =
+-- What is answered where the volume is known, and `Unknown` where it is left to the image and not settled.
+abbrev pub IsAddAnswerOf : {H : Type 0} → (H → ℕ → Failure → Type 0) → Option VolumeOptions → Option Text → AdditionView
+    → List EntryView → Option (ℕ → List ℕ) → List ℕ → Option (Shell Global) → Reply → Type 0
+IsAddAnswerOf may_fail None reserve words entries holds image shell reply = reply ≡ refused refusals.Unknown
+IsAddAnswerOf may_fail (Some volume) reserve words entries holds image shell reply =
     (told : Reply) × IsAddReply may_fail volume reserve words entries holds image told × IsShelled shell told reply
-IsAddAnswer may_fail ask entries holds image shell reply = ⊥
+
+-- What is answered to a job that adds the files of a folder, of which these are the entries, to the volume that an
+-- image is read as.
+abbrev pub IsAddAnswer : {H : Type 0} → (H → ℕ → Failure → Type 0) → ReadingView → AdditionView → List EntryView
+    → Option (ℕ → List ℕ) → List ℕ → Option (Shell Global) → Reply → Type 0
+IsAddAnswer may_fail reading words entries holds image shell reply =
+    IsAddAnswerOf may_fail (volume_of reading) (reserve_of reading) words entries holds image shell reply

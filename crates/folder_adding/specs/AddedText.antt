@@ -6,8 +6,8 @@ use Rattle.file_listings.specs.DosText.{Text, line, name_text}
 use Rattle.folder_adding.specs.HostEntries.{EntryView}
 use Rattle.folder_adding.specs.Items.{BatchView, ItemView}
 use Rattle.row_text.specs.Shown.{shown}
-use Rattle.shop_jobs.specs.declared.job.FileSystem.{FileSystem}
-use Rattle.shop_jobs.specs.declared.job.FileSystem.TheVariants.{Dos, Prodos}
+use Rattle.shop_jobs.specs.declared.input.FileSystem.{FileSystem}
+use Rattle.shop_jobs.specs.declared.input.FileSystem.TheVariants.{Dos, Prodos}
 use Rattle.shown_text.specs.Escaping.{escaped}
 
 -- a byte of a path of ProDOS, whose letters are stored as capitals

@@ -6,8 +6,8 @@ use Rattle.edit_formats.specs.DosNames.{is_dos_name}
 use Rattle.edit_formats.specs.ProNames.{is_pro_name}
 use Rattle.host_folders.specs.HostEntries.{FileView, SaysFile, SaysFolder}
 use Rattle.vol_layout.specs.declared.form.PlaceForm.TheVariants.{Sector, Block}
-use Rattle.shop_jobs.specs.declared.job.FileSystem.{FileSystem}
-use Rattle.shop_jobs.specs.declared.job.FileSystem.TheVariants.{Dos, Prodos}
+use Rattle.shop_jobs.specs.declared.input.FileSystem.{FileSystem}
+use Rattle.shop_jobs.specs.declared.input.FileSystem.TheVariants.{Dos, Prodos}
 
 -- the bytes of a path or of a name
 abbrev pub Text : Type 0

@@ -3,7 +3,7 @@ use Rattle.std.specs.Prelude.{ℕ, ◌+◌, List, [], ◌∷◌, Option, map, sl
 use Rattle.file_forms.specs.declared.form.GivenForm.{GivenForm}
 use Rattle.pro_dir.specs.declared.date.ProDate.{ProDate}
 use Rattle.shop_changes.specs.SaidFile.{SaidView}
-use Rattle.shop_jobs.specs.declared.job.FileSystem.{FileSystem}
+use Rattle.shop_jobs.specs.declared.input.FileSystem.{FileSystem}
 use Rattle.folder_adding.specs.declared.item.Batch.{Batch}
 use Rattle.folder_adding.specs.declared.item.Item.{Item}
 use Rattle.folder_adding.specs.declared.item.Second.{Second}

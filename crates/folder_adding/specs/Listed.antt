@@ -7,7 +7,7 @@ use Rattle.edit_formats.specs.declared.target.Attributes.{Attributes}
 use Rattle.edit_formats.specs.declared.target.Extent.{Extent}
 use Rattle.edit_formats.specs.declared.target.Slot.{Slot}
 use Rattle.shop_changes.specs.EditRules.{edits_of}
-use Rattle.shop_jobs.specs.declared.job.FileSystem.{FileSystem}
+use Rattle.shop_jobs.specs.declared.input.FileSystem.{FileSystem}
 use Rattle.shop_volumes.specs.VolumeFiles.{files_of}
 use Rattle.shop_replies.specs.Volume.{form_of}
 use Rattle.vol_format.specs.Directory.{Listed}

@@ -7,7 +7,7 @@ use Rattle.folder_adding.specs.Files.{IsReadOf}
 use Rattle.folder_adding.specs.Items.{BatchView, ItemView, file_at}
 use Rattle.folder_adding.specs.declared.item.Second.{Second}
 use Rattle.shop_changes.specs.GivenFile.{most_input}
-use Rattle.shop_jobs.specs.declared.job.FileSystem.{FileSystem}
+use Rattle.shop_jobs.specs.declared.input.FileSystem.{FileSystem}
 use Rattle.shop_replies.specs.Reading.{IsReadFailure}
 use Rattle.shop_replies.specs.Reply.{failed, refused}
 use Rattle.shop_replies.specs.Volume.{form_of}

@@ -16,8 +16,8 @@ use Rattle.host_folders.specs.HostEntries.{FileView}
 use Rattle.host_folders.specs.declared.said.Content.{Content}
 use Rattle.host_folders.specs.declared.said.Content.TheVariants as contents
 use Rattle.shop_changes.specs.GivenWords.{kind_for}
-use Rattle.shop_jobs.specs.declared.job.FileSystem.{FileSystem}
-use Rattle.shop_jobs.specs.declared.job.FileSystem.TheVariants.{Dos, Prodos}
+use Rattle.shop_jobs.specs.declared.input.FileSystem.{FileSystem}
+use Rattle.shop_jobs.specs.declared.input.FileSystem.TheVariants.{Dos, Prodos}
 use Rattle.shop_replies.specs.declared.refusal.Refusal.{Refusal}
 use Rattle.shop_replies.specs.declared.refusal.Refusal.TheVariants as refusals
 

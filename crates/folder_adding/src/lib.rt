@@ -30,9 +30,9 @@
 //! (`specs/AddedText.antt`), each path of an item as a listing shows that of its file, which is a law too
 //! (`specs/Listed.antt`).
 //!
-//! `add_reply` answers the job (`specs/AddReply.antt`): the plan of the folder, its directories made and its items
-//! saved on the volume of the image, and the image handed out where all of that was done. A refusal for an entry is
-//! told with the entry's path.
+//! `add_reply` answers the job (`specs/AddReply.antt`): where the volume is known, the plan of the folder, its
+//! directories made and its items saved on the volume of the image, and the image handed out where all of that was
+//! done. A refusal for an entry is told with the entry's path.
 //!
 //! What always holds: the files of one item are in memory at a time; after a failure of the device nothing of it is
 //! called again; and where no failure of the device is told and an item is not saved, the volume is that of the items
@@ -74,5 +74,5 @@ pub use making::{Unmade, make_all};
 pub use memory::MemoryFiles;
 pub use planned::{Plan, PlanError};
 pub use planning::plan;
-pub use replying::{add_reply, adds_files};
+pub use replying::add_reply;
 pub use telling::added_text;

@@ -1,8 +1,7 @@
 // What is told of the files of a folder that are added to the volume of an image.
-ghost use Rattle.std.specs.Prelude.{◌≡◌, ◌⊎◌, ◌↔◌, ◌<◌, IfErr, IsTrue, map, OnOk, option_map, slice_index_or};
+ghost use Rattle.std.specs.Prelude.{◌≡◌, ◌⊎◌, ◌<◌, IfErr, IsTrue, map, OnOk, option_map, slice_index_or};
 ghost use Rattle.a2_device.specs.Device.{OnlyReads};
 ghost use Rattle.folder_adding.specs.AddReply.{
-  AddsFiles,
   AreToldItems,
   IsAddAnswer,
   IsAddReply,
@@ -21,8 +20,9 @@ ghost use Rattle.folder_adding.specs.Plan.{plan_view};
 ghost use Rattle.folder_adding.specs.Replying.{adding_view, folder_view, tells_device};
 ghost use Rattle.shop_changes.specs.EditRules.{changed_by, changed_in, edit_rules};
 ghost use Rattle.shop_changes.specs.ReplaceReply.{IsOpened};
-ghost use Rattle.shop_jobs.specs.Job.{addition_view, ask_view};
-ghost use Rattle.shop_jobs.specs.declared.job.FileSystem.TheVariants.{Dos as OfDos, Prodos as OfProdos};
+ghost use Rattle.shop_jobs.specs.Input.{reading_view};
+ghost use Rattle.shop_jobs.specs.Job.{addition_view};
+ghost use Rattle.shop_jobs.specs.declared.input.FileSystem.TheVariants.{Dos as OfDos, Prodos as OfProdos};
 ghost use Rattle.shop_replies.specs.Reply.{failed, refused};
 ghost use Rattle.shop_replies.specs.Volume.{HasUnitsOf};
 ghost use Rattle.shop_replies.specs.declared.refusal.Failure.TheVariants as failures;
@@ -49,7 +49,7 @@ use pro_dates::date;
 use pro_dir::ProDate;
 use pro_format::Prodos;
 use shop_changes::image_bytes;
-use shop_jobs::{AddOptions, Ask, FileSystem, Job, VolumeOptions};
+use shop_jobs::{AddOptions, FileSystem, ImageReading, VolumeOptions};
 use shop_replies::{Failure, Refusal, Reply};
 use shop_volumes::volume_in;
 use std::alloc::Global;
@@ -65,13 +65,6 @@ pub(crate) struct Folder<'a> {
     pub entries: &'a [HostEntry],
     /// The date of the creation of each.
     pub date: ProDate,
-}
-
-/// Whether a job adds the files of a folder to its volume.
-pub fn adds_files(job: &Job) -> bool
-    ensures { IsTrue result ↔ AddsFiles (ask_view job.now.ask) }
-{
-    matches!(&job.ask, Ask::Add { .. })
 }
 
 // Looks whether a volume is accepted.
@@ -364,39 +357,32 @@ fn in_shell(alloc: Global, shell: Option<&Shell>, reply: Reply) -> Reply
     }
 }
 
-/// The reply to a job that adds the files of a folder to the volume of an image, with the bytes of that, or of the
-/// payload of a container with this shell. These are the entries of the folder, and `files` has a file for each number
-/// of an entry; one of them is in memory at a time, with the readable form beside it. Of ProDOS each folder in it is a
-/// directory, which is made where none is there, before a file is read.
+/// The reply to a job that adds the files of a folder to the volume that an image is read as, with the bytes of that,
+/// or of the payload of a container with this shell. These are the entries of the folder, and `files` has a file for
+/// each number of an entry; one of them is in memory at a time, with the readable form beside it. Of ProDOS each folder
+/// in it is a directory, which is made where none is there, before a file is read.
 ///
-/// Of several refusals the first comes in this order: `Date`; `Reserve`; `Length`; `Host`, `Type` or `Name` of the
-/// first entry that is refused; `Check`; of each folder in turn `Exists`, `DirFull` and the others of a directory that
-/// is made; of each file in turn `InputTooLong`, of the readable form beside it `InputTooLong` and `Differs`, and of
-/// the file again `Text` and those of a saving. Those of an entry have its path behind them, `Differs` that of the
-/// readable form. An image comes where all were added.
+/// Of several refusals the first comes in this order: `Unknown` where the volume is left to the image and not settled;
+/// `Date`; `Reserve`; `Length`; `Host`, `Type` or `Name` of the first entry that is refused; `Check`; of each folder in
+/// turn `Exists`, `DirFull` and the others of a directory that is made; of each file in turn `InputTooLong`, of the
+/// readable form beside it `InputTooLong` and `Differs`, and of the file again `Text` and those of a saving. Those of
+/// an entry have its path behind them, `Differs` that of the readable form. An image comes where all were added.
 pub fn add_reply<H: HostFiles>(
     alloc: Global,
-    job: &Job,
+    reading: &ImageReading,
+    options: &AddOptions,
     image: Vec<u8>,
     entries: &[HostEntry],
     files: &mut H,
     shell: Option<&Shell>,
 ) -> Reply
-    requires job { AddsFiles (ask_view job.now.ask) }
-    ensures told { IsAddAnswer H.may_fail (ask_view job.now.ask) (map entry_view entries.now)
-        (H.holds files.old) image.items (option_map (λ s. s.now) shell.entry) result }
+    ensures told { IsAddAnswer H.may_fail (reading_view reading.now) (addition_view options.now)
+        (map entry_view entries.now) (H.holds files.old) image.items (option_map (λ s. s.now) shell.entry) result }
 {
-    match &job.ask {
-        Ask::Add {
-            volume,
-            reserve,
-            options,
-            ..
-        } => {
-            let reserve = reserve.as_deref();
-            let reply = add_to_image(alloc, image, *volume, reserve, options, entries, files);
-            in_shell(alloc, shell, reply)
-        }
-        _ => unreachable!(),
-    }
+    let Some(volume) = reading.volume() else {
+        return Reply::refused(Refusal::Unknown);
+    };
+    let reserve = reading.reserve();
+    let reply = add_to_image(alloc, image, volume, reserve, options, entries, files);
+    in_shell(alloc, shell, reply)
 }

@@ -2,7 +2,7 @@
 ghost use Rattle.std.specs.Prelude.{◌≡◌, ◌≢◌, ◌↔◌, All, IfNone, IfOk, IfSome, IsTrue, MatchOption, map};
 ghost use Rattle.folder_adding.specs.HostPaths.{SaidDirectory, SaidPath, SaysDirectory, SaysPath};
 ghost use Rattle.folder_adding.specs.Weighing.{IsCut, IsParted, IsUnsaid, directory_view, said_view};
-ghost use Rattle.shop_jobs.specs.declared.job.FileSystem.TheVariants.{Dos, Prodos};
+ghost use Rattle.shop_jobs.specs.declared.input.FileSystem.TheVariants.{Dos, Prodos};
 
 use host_folders::{HostFile, file_of, folder_of};
 use shop_jobs::FileSystem;

@@ -13,7 +13,7 @@ ghost use Rattle.folder_adding.specs.HostPaths.{
   volume_path,
 };
 ghost use Rattle.folder_adding.specs.Weighing.{said_view};
-ghost use Rattle.shop_jobs.specs.declared.job.FileSystem.TheVariants.{Dos};
+ghost use Rattle.shop_jobs.specs.declared.input.FileSystem.TheVariants.{Dos};
 
 use crate::said_path::HostPath;
 use crate::step::Destination;

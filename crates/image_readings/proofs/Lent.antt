@@ -4,7 +4,7 @@ use Rattle.a2_device.specs.Device.{DeviceState}
 use Rattle.a2_image.specs.Image.{DiskImage}
 use Rattle.a2_media.specs.LentDevice.{lent_state}
 use Rattle.shop_replies.specs.Volume.{device_of, kind_of}
-use Rattle.shop_jobs.specs.declared.job.FileSystem.{FileSystem}
+use Rattle.shop_jobs.specs.declared.input.FileSystem.{FileSystem}
 use Rattle.a2_device.specs.declared.fault.WalkError.{WalkError}
 use Rattle.a2_device.specs.declared.fault.WalkError.TheVariants as walks
 use Rattle.image_readings.specs.declared.reading.Found.{Found}

@@ -10,7 +10,7 @@ use Rattle.a2_device.specs.declared.fault.Fault.TheVariants as faults
 use Rattle.a2_device.specs.declared.fault.WalkError.{WalkError}
 use Rattle.a2_device.specs.declared.fault.WalkError.TheVariants as walks
 use Rattle.shop_replies.proofs.Lacking.{unit_lacks}
-use Rattle.shop_jobs.specs.declared.job.FileSystem.{FileSystem}
+use Rattle.shop_jobs.specs.declared.input.FileSystem.{FileSystem}
 use Rattle.image_readings.specs.declared.reading.Finding.{Finding}
 use Rattle.image_readings.specs.declared.reading.Finding.TheVariants.{Unreadable, Broken, Volume}
 use Rattle.image_readings.specs.declared.reading.Found.{Found}

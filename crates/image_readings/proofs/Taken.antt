@@ -9,8 +9,8 @@ use Rattle.a2_image.specs.KeptBytes.{HoldsKept}
 use Rattle.a2_image.specs.Opening.{RefusesToOpen}
 use Rattle.a2_image.specs.declared.error.ImageError.{ImageError}
 use Rattle.a2_image.specs.declared.error.ImageError.TheVariants as images
-use Rattle.shop_jobs.specs.declared.job.FileSystem.{FileSystem}
-use Rattle.shop_jobs.specs.declared.job.FileSystem.TheVariants as systems
+use Rattle.shop_jobs.specs.declared.input.FileSystem.{FileSystem}
+use Rattle.shop_jobs.specs.declared.input.FileSystem.TheVariants as systems
 use Rattle.shop_replies.specs.Disk.{disk_bytes}
 use Rattle.shop_replies.specs.Volume.{TakesBytes, device_of}
 use Rattle.image_readings.specs.IdentifyReply.{allows}

@@ -1,7 +1,7 @@
 -- One more way to read an image.
 use Rattle.std.specs.Prelude.{◌≡◌, ℕ, List, [], ◌∷◌, ◌++◌, map, All}
 use Rattle.a2_device.specs.declared.order.Order.{Order}
-use Rattle.shop_jobs.specs.declared.job.FileSystem.{FileSystem}
+use Rattle.shop_jobs.specs.declared.input.FileSystem.{FileSystem}
 use Rattle.image_readings.specs.declared.reading.Reading.{Reading}
 use Rattle.image_readings.specs.IdentifyReply.{way_of}
 use Rattle.image_readings.specs.Readings.{IsReadingOf}

@@ -7,8 +7,8 @@ use Rattle.disk_container.specs.declared.error.ContainerFault.{ContainerFault}
 use Rattle.disk_container.specs.Container.{IsContainer, payload_in}
 use Rattle.disk_container.specs.Faults.{IsFault}
 use Rattle.disk_container.specs.Format.{BeginsLikeContainer}
-use Rattle.shop_jobs.specs.declared.job.FileSystem.{FileSystem}
-use Rattle.shop_jobs.specs.declared.job.FileSystem.TheVariants as systems
+use Rattle.shop_jobs.specs.declared.input.FileSystem.{FileSystem}
+use Rattle.shop_jobs.specs.declared.input.FileSystem.TheVariants as systems
 use Rattle.shop_replies.specs.declared.refusal.Refusal.TheVariants as refusals
 use Rattle.shop_replies.specs.declared.refusal.Failure.TheVariants as failures
 use Rattle.shop_replies.specs.declared.reply.Reply.{Reply}

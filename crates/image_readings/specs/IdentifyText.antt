@@ -2,8 +2,8 @@
 use Rattle.std.specs.Prelude.{ℕ, Bool, true, false, ◌∷◌, ◌++◌, List, codes, decimal, flat_map, slice_index_or}
 use Rattle.a2_device.specs.declared.order.Order.{Order}
 use Rattle.a2_device.specs.declared.order.Order.TheVariants as orders
-use Rattle.shop_jobs.specs.declared.job.FileSystem.{FileSystem}
-use Rattle.shop_jobs.specs.declared.job.FileSystem.TheVariants as systems
+use Rattle.shop_jobs.specs.declared.input.FileSystem.{FileSystem}
+use Rattle.shop_jobs.specs.declared.input.FileSystem.TheVariants as systems
 use Rattle.disk_container.specs.declared.container.Container.{Container}
 use Rattle.file_listings.specs.DosText.{Text, line}
 use Rattle.image_readings.specs.declared.reading.Standing.{Standing}

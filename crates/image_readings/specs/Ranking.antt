@@ -1,7 +1,7 @@
 -- Which reading of an image is best.
 use Rattle.std.specs.Prelude.{◌≡◌, ◌≢◌, ◌<◌, ℕ, ◌==◌, nat_lt, not, ◌&&◌, Bool, true, false, if◌then◌else◌, List, length, slice_index_or}
 use Rattle.a2_device.specs.declared.order.Order.TheVariants as orders
-use Rattle.shop_jobs.specs.declared.job.FileSystem.TheVariants as systems
+use Rattle.shop_jobs.specs.declared.input.FileSystem.TheVariants as systems
 use Rattle.image_readings.specs.declared.reading.Standing.{Standing}
 use Rattle.image_readings.specs.declared.reading.Standing.TheVariants.{Accepted, Refused}
 use Rattle.image_readings.specs.declared.reading.Found.{Found}

@@ -2,7 +2,7 @@
 ghost use Rattle.std.specs.Prelude.{◌≡◌, ◌≤◌, IsTrue, OnOk, IfOk, IfErr, Some, length};
 ghost use Rattle.a2_device.specs.Device.{unit_at};
 ghost use Rattle.a2_image.specs.Image.{IsOfDisk};
-ghost use Rattle.shop_jobs.specs.declared.job.FileSystem.TheVariants.{Dos as OfDos, Prodos as OfProdos};
+ghost use Rattle.shop_jobs.specs.declared.input.FileSystem.TheVariants.{Dos as OfDos, Prodos as OfProdos};
 ghost use Rattle.shop_replies.specs.Volume.{HasUnitsOf, TakesBytes, device_of};
 ghost use Rattle.image_readings.specs.Found.{Stops};
 ghost use Rattle.image_readings.specs.Readings.{

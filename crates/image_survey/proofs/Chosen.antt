@@ -3,8 +3,8 @@ use Rattle.std.specs.Prelude.{◌≡◌, ℕ, List, None, length, slice_index_or
 use Rattle.std.proofs.Common.{sym, ap, subst}
 use Rattle.a2_device.specs.declared.order.Order.{Order}
 use Rattle.a2_device.specs.declared.order.Order.TheVariants as orders
-use Rattle.shop_jobs.specs.declared.job.FileSystem.{FileSystem}
-use Rattle.shop_jobs.specs.declared.job.FileSystem.TheVariants as systems
+use Rattle.shop_jobs.specs.declared.input.FileSystem.{FileSystem}
+use Rattle.shop_jobs.specs.declared.input.FileSystem.TheVariants as systems
 use Rattle.shop_replies.specs.Volume.{TakesBytes}
 use Rattle.image_readings.specs.BestReading.{IsChoice, choice_of}
 use Rattle.image_readings.specs.Ranking.{IsVerdict, no_reading}

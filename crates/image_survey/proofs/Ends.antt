@@ -9,7 +9,7 @@ use Rattle.image_survey.specs.Survey.{IsEnded, IsSurveyOf, end_text, last_line, 
 use Rattle.image_survey.specs.Told.{Candidate, Told, candidate_of, candidates, keys_by}
 use Rattle.image_survey.specs.declared.counts.Counts.{Counts}
 use Rattle.image_survey.specs.declared.likeness.Likeness.TheVariants.{Files, Disk}
-use Rattle.shop_jobs.specs.declared.job.SurveyForm.{SurveyForm}
+use Rattle.shop_jobs.specs.declared.folders.SurveyForm.{SurveyForm}
 use Rattle.image_survey.specs.declared.same.SameLine.{SameLine}
 use Rattle.image_survey.specs.declared.survey.Survey.{Survey}
 

@@ -1,7 +1,7 @@
 -- The lines of a survey as JSON: an object each, its members in rising order of their keys.
 use Rattle.std.specs.Prelude.{ℕ, Bool, true, false, List, Option, Some, None, codes, option_map}
 use Rattle.a2_device.specs.declared.order.Order.{Order}
-use Rattle.shop_jobs.specs.declared.job.FileSystem.{FileSystem}
+use Rattle.shop_jobs.specs.declared.input.FileSystem.{FileSystem}
 use Rattle.serde_json.specs.Data.{Data, null, string, object, Members, no_members, member}
 use Rattle.row_text.specs.Row.{number_or_null, number_value}
 use Rattle.row_text.specs.Shown.{Text, lower_hex}

@@ -1,7 +1,7 @@
 -- The lines of a survey.
 use Rattle.std.specs.Prelude.{◌+◌, ℕ, List, [], ◌∷◌, ◌++◌, Option, Some, None, codes, decimal, map, slice_index}
-use Rattle.shop_jobs.specs.declared.job.FileSystem.{FileSystem}
-use Rattle.shop_jobs.specs.declared.job.FileSystem.TheVariants.{Dos, Prodos}
+use Rattle.shop_jobs.specs.declared.input.FileSystem.{FileSystem}
+use Rattle.shop_jobs.specs.declared.input.FileSystem.TheVariants.{Dos, Prodos}
 use Rattle.row_text.specs.Shown.{Text, lower_hex, shown}
 use Rattle.image_readings.specs.IdentifyText.{file_system_word, order_word}
 use Rattle.image_survey.specs.FileLine.{digest_text}

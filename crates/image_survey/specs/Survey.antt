@@ -17,8 +17,8 @@ use Rattle.image_survey.specs.declared.error.SurveyError.{SurveyError}
 use Rattle.image_survey.specs.declared.error.SurveyError.TheVariants.{Memory, Output}
 use Rattle.image_survey.specs.declared.likeness.Likeness.{Likeness}
 use Rattle.image_survey.specs.declared.likeness.Likeness.TheVariants.{Files, Disk}
-use Rattle.shop_jobs.specs.declared.job.SurveyForm.{SurveyForm}
-use Rattle.shop_jobs.specs.declared.job.SurveyForm.TheVariants.{Lines, Json}
+use Rattle.shop_jobs.specs.declared.folders.SurveyForm.{SurveyForm}
+use Rattle.shop_jobs.specs.declared.folders.SurveyForm.TheVariants.{Lines, Json}
 use Rattle.image_survey.specs.declared.same.SameLine.{SameLine}
 use Rattle.image_survey.specs.declared.survey.Survey.{Survey}
 

@@ -10,8 +10,8 @@ use Rattle.disk_container.specs.declared.container.Container.{Container}
 use Rattle.file_formats.specs.DosFiles.{dos_files}
 use Rattle.file_formats.specs.Files.{FileMeaning}
 use Rattle.file_formats.specs.ProFiles.{pro_files}
-use Rattle.shop_jobs.specs.declared.job.FileSystem.{FileSystem}
-use Rattle.shop_jobs.specs.declared.job.FileSystem.TheVariants.{Dos, Prodos}
+use Rattle.shop_jobs.specs.declared.input.FileSystem.{FileSystem}
+use Rattle.shop_jobs.specs.declared.input.FileSystem.TheVariants.{Dos, Prodos}
 use Rattle.shop_replies.specs.Volume.{IsImageOf, OfVolume, form_of}
 use Rattle.image_readings.specs.BestReading.{IsChoice}
 use Rattle.image_readings.specs.IdentifyReply.{allows}

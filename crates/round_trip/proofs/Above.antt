@@ -13,7 +13,7 @@ use Rattle.vol_layout.specs.declared.form.PlaceForm.{PlaceForm}
 use Rattle.vol_layout.specs.declared.form.PlaceForm.TheVariants.{Block}
 use Rattle.round_trip.specs.Extracted.{Extracted, directories_of, entry_in, item_in, names_above}
 use Rattle.shop_commands.specs.Extracting.{own_of}
-use Rattle.shop_jobs.specs.declared.job.FileSystem.TheVariants.{Prodos}
+use Rattle.shop_jobs.specs.declared.input.FileSystem.TheVariants.{Prodos}
 use Rattle.shop_replies.specs.Volume.{form_of}
 use Rattle.volume_extract.specs.Items.{IsAbove, depth_below, host_below}
 use Rattle.round_trip.proofs.Items.{IsKnown}

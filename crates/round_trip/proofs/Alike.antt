@@ -36,9 +36,9 @@ use Rattle.round_trip.proofs.Items.{Failed, known, volume_of}
 use Rattle.round_trip.proofs.Made.{either, made_at, only}
 use Rattle.round_trip.proofs.Own.{no_form, same_number}
 use Rattle.round_trip.proofs.Whole.{whole as all_planned}
-use Rattle.shop_jobs.specs.declared.job.ExtractOptions.{ExtractOptions}
-use Rattle.shop_jobs.specs.declared.job.FileSystem.{FileSystem}
-use Rattle.shop_jobs.specs.declared.job.FileSystem.TheVariants.{Dos, Prodos}
+use Rattle.shop_jobs.specs.declared.folders.ExtractOptions.{ExtractOptions}
+use Rattle.shop_jobs.specs.declared.input.FileSystem.{FileSystem}
+use Rattle.shop_jobs.specs.declared.input.FileSystem.TheVariants.{Dos, Prodos}
 use Rattle.shop_commands.specs.Extracting.{plan_in}
 use Rattle.shop_replies.specs.Volume.{form_of}
 use Rattle.std.specs.declared.alloc.Global.{Global}

@@ -36,8 +36,8 @@ use Rattle.round_trip.proofs.Items.{Failed, file_found, folder_found, known, vol
 use Rattle.round_trip.proofs.Paths.{safe_no_slash}
 use Rattle.round_trip.proofs.Planning.{planned}
 use Rattle.round_trip.proofs.Says.{pro_again, says_path}
-use Rattle.shop_jobs.specs.declared.job.FileSystem.{FileSystem}
-use Rattle.shop_jobs.specs.declared.job.FileSystem.TheVariants.{Dos, Prodos}
+use Rattle.shop_jobs.specs.declared.input.FileSystem.{FileSystem}
+use Rattle.shop_jobs.specs.declared.input.FileSystem.TheVariants.{Dos, Prodos}
 use Rattle.shop_replies.specs.Volume.{meaning_of}
 use Rattle.vol_format.specs.Directory.{Directory, entry_of, is_directory, leads_to_directory, no_entry}
 use Rattle.vol_format.specs.declared.link.Link.{Link}

@@ -19,8 +19,8 @@ use Rattle.round_trip.proofs.Above.{host_no_slash}
 use Rattle.round_trip.proofs.Items.{IsKnown, file_found, known}
 use Rattle.round_trip.proofs.Says.{again, same_names, says_path}
 use Rattle.shop_changes.specs.GivenWords.{dos_kind_for, kind_for}
-use Rattle.shop_jobs.specs.declared.job.FileSystem.{FileSystem}
-use Rattle.shop_jobs.specs.declared.job.FileSystem.TheVariants.{Dos, Prodos}
+use Rattle.shop_jobs.specs.declared.input.FileSystem.{FileSystem}
+use Rattle.shop_jobs.specs.declared.input.FileSystem.TheVariants.{Dos, Prodos}
 use Rattle.shop_replies.specs.Volume.{form_of}
 
 -- ---- the kind

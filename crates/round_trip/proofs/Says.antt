@@ -18,8 +18,8 @@ use Rattle.round_trip.proofs.Above.{has_path, names_top, say_parts}
 use Rattle.round_trip.proofs.Items.{IsKnown}
 use Rattle.round_trip.proofs.Paths.{HasNoSlash}
 use Rattle.shop_commands.specs.Extracting.{own_of}
-use Rattle.shop_jobs.specs.declared.job.FileSystem.{FileSystem}
-use Rattle.shop_jobs.specs.declared.job.FileSystem.TheVariants.{Dos, Prodos}
+use Rattle.shop_jobs.specs.declared.input.FileSystem.{FileSystem}
+use Rattle.shop_jobs.specs.declared.input.FileSystem.TheVariants.{Dos, Prodos}
 use Rattle.shop_replies.specs.Volume.{form_of}
 use Rattle.vol_format.specs.Directory.{Directory, entry_of}
 use Rattle.volume_extract.specs.Items.{IsAbove, host_below}

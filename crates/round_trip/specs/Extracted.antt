@@ -7,8 +7,8 @@ use Rattle.host_folders.specs.declared.said.Content.{Content}
 use Rattle.host_folders.specs.Folder.{Made}
 use Rattle.host_folders.specs.declared.entry.Naming.TheVariants.{Naps}
 use Rattle.shop_commands.specs.Extracting.{plan_for}
-use Rattle.shop_jobs.specs.declared.job.ExtractOptions.{ExtractOptions}
-use Rattle.shop_jobs.specs.declared.job.VolumeOptions.{VolumeOptions}
+use Rattle.shop_jobs.specs.declared.folders.ExtractOptions.{ExtractOptions}
+use Rattle.shop_jobs.specs.declared.input.VolumeOptions.{VolumeOptions}
 use Rattle.vol_format.specs.Directory.{Directory, Listed, entries, entry_of}
 use Rattle.volume_extract.specs.Extraction.{source_with}
 use Rattle.volume_extract.specs.Items.{Item, item_at, made_in}

@@ -12,8 +12,8 @@ use Rattle.host_folders.specs.HostNames.{aux_of, name_bytes, text_beside, type_o
 use Rattle.vol_layout.specs.declared.form.PlaceForm.TheVariants.{Sector}
 use Rattle.round_trip.specs.Extracted.{Extracted, directory_said, entry_in, item_in, said_of}
 use Rattle.shop_changes.specs.GivenWords.{kind_for}
-use Rattle.shop_jobs.specs.declared.job.FileSystem.{FileSystem}
-use Rattle.shop_jobs.specs.declared.job.FileSystem.TheVariants.{Dos, Prodos}
+use Rattle.shop_jobs.specs.declared.input.FileSystem.{FileSystem}
+use Rattle.shop_jobs.specs.declared.input.FileSystem.TheVariants.{Dos, Prodos}
 use Rattle.shop_replies.specs.declared.refusal.Refusal.TheVariants as refusals
 use Rattle.vol_format.specs.Directory.{Listed}
 

@@ -10,8 +10,8 @@ use Rattle.edit_formats.specs.declared.target.Attributes.{Attributes}
 use Rattle.edit_formats.specs.declared.target.Extent.{Extent}
 use Rattle.edit_formats.specs.declared.target.Slot.{Slot}
 use Rattle.shop_changes.specs.EditRules.{edits_of}
-use Rattle.shop_jobs.specs.declared.job.FileSystem.{FileSystem}
-use Rattle.shop_jobs.specs.declared.job.FileSystem.TheVariants.{Dos, Prodos}
+use Rattle.shop_jobs.specs.declared.input.FileSystem.{FileSystem}
+use Rattle.shop_jobs.specs.declared.input.FileSystem.TheVariants.{Dos, Prodos}
 use Rattle.vol_format.specs.Directory.{Listed}
 
 -- the path that is stored of it: of DOS 3.3 the name that its entry had, with spaces up to 30 bytes, and of ProDOS the

@@ -23,8 +23,8 @@ ghost use Rattle.round_trip.specs.Whole.{
   entry_of,
 };
 ghost use Rattle.shop_commands.specs.Extracting.{IsExtractTold, plan_for};
-ghost use Rattle.shop_jobs.specs.declared.job.ExtractOptions.{ExtractOptions};
-ghost use Rattle.shop_jobs.specs.declared.job.VolumeOptions.{VolumeOptions};
+ghost use Rattle.shop_jobs.specs.declared.folders.ExtractOptions.{ExtractOptions};
+ghost use Rattle.shop_jobs.specs.declared.input.VolumeOptions.{VolumeOptions};
 ghost use Rattle.volume_extract.specs.Extraction.{IsExtraction};
 ghost use Rattle.volume_extract.specs.Items.{made_in};
 

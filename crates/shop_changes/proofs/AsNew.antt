@@ -7,8 +7,8 @@ use Rattle.file_forms.specs.declared.form.GivenForm.{GivenForm}
 use Rattle.shop_changes.specs.GivenWords.{binary_kind, kind_for, kind_unsaid, usual_kind}
 use Rattle.shop_changes.specs.Replaced.{IsPlainSaid, given_over, kind_left}
 use Rattle.shop_changes.specs.SaidFile.{IsGivenBy, IsGivenIn, SaidView, given_with, kind_of}
-use Rattle.shop_jobs.specs.declared.job.FileSystem.{FileSystem}
-use Rattle.shop_jobs.specs.declared.job.FileSystem.TheVariants.{Dos, Prodos}
+use Rattle.shop_jobs.specs.declared.input.FileSystem.{FileSystem}
+use Rattle.shop_jobs.specs.declared.input.FileSystem.TheVariants.{Dos, Prodos}
 use Rattle.shop_replies.specs.Volume.{form_of}
 
 there : (o : Option ℕ) (other : ℕ) → IsSome o → o ≡ Some (unwrap_or o other)

@@ -14,7 +14,7 @@ use Rattle.shop_replies.specs.declared.refusal.Failure.TheVariants as failures
 use Rattle.shop_replies.specs.declared.reply.Reply.{Reply}
 use Rattle.shop_replies.specs.Reply.{failed, refused}
 use Rattle.shop_replies.specs.Volume.{form_of}
-use Rattle.shop_jobs.specs.declared.job.FileSystem.{FileSystem}
+use Rattle.shop_jobs.specs.declared.input.FileSystem.{FileSystem}
 use Rattle.shop_volumes.specs.Reserving.{ReservesNamed}
 use Rattle.shop_changes.specs.Changing.{IsChangeOutcome, IsWorkOutcome, KeepsDevice, LacksMemory}
 use Rattle.shop_changes.specs.EditOutcome.{TellsEdit}

@@ -12,7 +12,7 @@ use Rattle.shop_changes.specs.GivenFile.{GivenView}
 use Rattle.shop_changes.specs.SaidFile.{SaidView}
 use Rattle.shop_changes.specs.Replaced.{IsMadeWay}
 use Rattle.shop_changes.specs.Work.{EditOf, MakeDirectory, Optimize, Reclaim, Replace, Save, WorkView}
-use Rattle.shop_jobs.specs.declared.job.VolumeOptions.{VolumeOptions}
+use Rattle.shop_jobs.specs.declared.input.VolumeOptions.{VolumeOptions}
 use Rattle.shop_replies.proofs.NotMade.{failed_not_made, refused_not_made}
 use Rattle.shop_replies.specs.declared.refusal.Failure.TheVariants as failures
 use Rattle.shop_replies.specs.declared.refusal.Refusal.TheVariants as refusals

@@ -4,9 +4,9 @@ use Rattle.std.proofs.lemmas.Option.{same_Some}
 use Rattle.std.specs.Prelude.{◌⊎◌, Option}
 use Rattle.a2_device.specs.Device.{DeviceState, ImageForm}
 use Rattle.a2_device.specs.Order.{blocks_of}
-use Rattle.shop_jobs.specs.declared.job.FileSystem.{FileSystem}
-use Rattle.shop_jobs.specs.declared.job.FileSystem.TheVariants.{Dos}
-use Rattle.shop_jobs.specs.declared.job.VolumeOptions.{VolumeOptions}
+use Rattle.shop_jobs.specs.declared.input.FileSystem.{FileSystem}
+use Rattle.shop_jobs.specs.declared.input.FileSystem.TheVariants.{Dos}
+use Rattle.shop_jobs.specs.declared.input.VolumeOptions.{VolumeOptions}
 use Rattle.shop_replies.specs.declared.refusal.Failure.TheVariants as failures
 use Rattle.shop_replies.specs.declared.reply.Reply.{Reply}
 use Rattle.shop_replies.specs.Reply.{failed}

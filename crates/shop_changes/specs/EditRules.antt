@@ -15,9 +15,9 @@ use Rattle.file_edits.specs.Directories.{DirectoryMeaning, dos_directories, pro_
 use Rattle.edit_formats.specs.Saves.{SaveMeaning}
 use Rattle.edit_formats.specs.DosSaves.{dos_saves}
 use Rattle.edit_formats.specs.ProSaves.{pro_saves}
-use Rattle.shop_jobs.specs.declared.job.FileSystem.{FileSystem}
-use Rattle.shop_jobs.specs.declared.job.FileSystem.TheVariants.{Dos, Prodos}
-use Rattle.shop_jobs.specs.declared.job.VolumeOptions.{VolumeOptions}
+use Rattle.shop_jobs.specs.declared.input.FileSystem.{FileSystem}
+use Rattle.shop_jobs.specs.declared.input.FileSystem.TheVariants.{Dos, Prodos}
+use Rattle.shop_jobs.specs.declared.input.VolumeOptions.{VolumeOptions}
 use Rattle.shop_replies.specs.Volume.{meaning_of}
 use Rattle.shop_volumes.specs.VolumeFiles.{files_of}
 

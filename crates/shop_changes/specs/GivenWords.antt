@@ -5,8 +5,8 @@ use Rattle.std.specs.Str.{bytes_eq}
 use Rattle.file_forms.specs.declared.form.GivenForm.{GivenForm}
 use Rattle.shop_changes.specs.declared.given_file.Head.{Head}
 use Rattle.shop_changes.specs.declared.given_file.Head.TheVariants as heads
-use Rattle.shop_jobs.specs.declared.job.FileSystem.{FileSystem}
-use Rattle.shop_jobs.specs.declared.job.FileSystem.TheVariants.{Dos, Prodos}
+use Rattle.shop_jobs.specs.declared.input.FileSystem.{FileSystem}
+use Rattle.shop_jobs.specs.declared.input.FileSystem.TheVariants.{Dos, Prodos}
 
 -- the type that a capital letter names: text, Integer BASIC, Applesoft, binary, special, relocatable
 abbrev pub letter_kind : List ℕ → Option ℕ

@@ -22,7 +22,7 @@ use Rattle.file_formats.specs.Files.{FileMeaning, IsFirstNamed}
 use Rattle.file_formats.specs.declared.listing.ListEntry.{ListEntry}
 use Rattle.vol_layout.specs.declared.form.PlaceForm.{PlaceForm}
 use Rattle.file_cmds.specs.Address.{is_binary}
-use Rattle.shop_jobs.specs.declared.job.FileSystem.{FileSystem}
+use Rattle.shop_jobs.specs.declared.input.FileSystem.{FileSystem}
 use Rattle.shop_replies.specs.Reply.{refused}
 use Rattle.shop_replies.specs.Volume.{form_of}
 use Rattle.shop_replies.specs.declared.refusal.Refusal.TheVariants as refusals

@@ -1,6 +1,6 @@
 // Work that changes the volume of a device where it stands.
 ghost use Rattle.std.specs.Prelude.{◌≡◌, ◌⊎◌, ◌<◌, false, option_map};
-ghost use Rattle.shop_jobs.specs.declared.job.FileSystem.TheVariants.{Dos as OfDos, Prodos as OfProdos};
+ghost use Rattle.shop_jobs.specs.declared.input.FileSystem.TheVariants.{Dos as OfDos, Prodos as OfProdos};
 ghost use Rattle.shop_replies.specs.Volume.{HasUnitsOf};
 ghost use Rattle.shop_changes.specs.Changing.{IsChangeOutcome, IsWorkOutcome, KeepsDevice, LacksMemory};
 ghost use Rattle.shop_changes.specs.EditRules.{changed_by, changed_in, edit_rules};

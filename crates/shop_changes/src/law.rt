@@ -5,7 +5,7 @@ ghost use Rattle.vol_layout.specs.declared.form.PlaceForm.TheVariants.{Sector};
 ghost use Rattle.shop_changes.specs.GivenWords.{kind_for, kind_named};
 ghost use Rattle.shop_changes.specs.Replaced.{IsGivenAsNew};
 ghost use Rattle.shop_changes.specs.SaidFile.{SaidView};
-ghost use Rattle.shop_jobs.specs.declared.job.FileSystem.TheVariants.{Dos};
+ghost use Rattle.shop_jobs.specs.declared.input.FileSystem.TheVariants.{Dos};
 
 /// Each type of DOS 3.3 that a letter names, and so a new file may have, is got back from the type of ProDOS that
 /// stands for it; and that of ProDOS from the one of DOS 3.3. So a file that is read as an AppleSingle file and saved

@@ -1,7 +1,7 @@
 -- What is told of a new volume.
 use Rattle.std.proofs.Common.{◌≡◌, ◌⊎◌, ℕ, ◌+◌, ◌≤◌, ◌<◌, Bool, true, false, List, length, take, take_all, length-take, arith, refl, subst, sym, inl, inr}
 use Rattle.std.proofs.lemmas.Bool.Decides.{nat_tests}
-use Rattle.std.specs.Prelude.{Option, Some, None, nat_le, option_map}
+use Rattle.std.specs.Prelude.{Option, Some, nat_le}
 use Rattle.a2_device.specs.declared.order.Order.{Order}
 use Rattle.a2_device.specs.declared.order.Order.TheVariants.{Dos, Prodos, Nibble}
 use Rattle.a2_device.specs.Order.{IsImageLength}
@@ -77,10 +77,9 @@ create_whole words bytes reply is = elim is [
   | inr made ↦ inr (made.0, made.1, made_whole words made.0 bytes reply made.2)
 ]
 
-pub create-take : (words : CreationView) (boot : Option (List ℕ)) (read bytes : List ℕ) (reply : Reply) → read ≡ take (most_bytes words.order + 1) bytes
-    → IsCreateReply words (option_map (λ path. read) boot) reply → IsCreateReply words (option_map (λ path. bytes) boot) reply
-create-take words None read bytes reply taken is = is
-create-take words (Some path) read bytes reply taken is =
+pub create-take : (words : CreationView) (read bytes : List ℕ) (reply : Reply) → read ≡ take (most_bytes words.order + 1) bytes
+    → IsCreateReply words (Some read) reply → IsCreateReply words (Some bytes) reply
+create-take words read bytes reply taken is =
     create_whole words bytes reply (subst (λ (xs : List ℕ). IsCreateReply words (Some xs) reply) taken is)
 
 -- ---- what is told of a ProDOS volume

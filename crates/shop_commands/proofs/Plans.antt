@@ -7,10 +7,10 @@ use Rattle.file_formats.specs.DosFiles.{dos_files}
 use Rattle.file_formats.specs.ProFiles.{pro_files}
 use Rattle.volume_extract.specs.Extraction.{plan_of}
 use Rattle.volume_extract.specs.Names.{dos_own, pro_own}
-use Rattle.shop_jobs.specs.declared.job.ExtractOptions.{ExtractOptions}
-use Rattle.shop_jobs.specs.declared.job.FileSystem.{FileSystem}
-use Rattle.shop_jobs.specs.declared.job.FileSystem.TheVariants.{Dos, Prodos}
-use Rattle.shop_jobs.specs.declared.job.VolumeOptions.{VolumeOptions}
+use Rattle.shop_jobs.specs.declared.folders.ExtractOptions.{ExtractOptions}
+use Rattle.shop_jobs.specs.declared.input.FileSystem.{FileSystem}
+use Rattle.shop_jobs.specs.declared.input.FileSystem.TheVariants.{Dos, Prodos}
+use Rattle.shop_jobs.specs.declared.input.VolumeOptions.{VolumeOptions}
 use Rattle.shop_commands.specs.Extracting.{options_of, plan_for, plan_in}
 
 pub dos_plan : (volume : VolumeOptions) (options : ExtractOptions) (data_disk : Bool) (reserved : List Bool) → volume.file_system ≡ Dos

@@ -13,11 +13,10 @@ use Rattle.volume_extract.specs.Names.{dos_own, pro_own}
 use Rattle.volume_extract.specs.declared.error.ExtractError.{ExtractError}
 use Rattle.volume_extract.specs.declared.error.ExtractError.TheVariants as errors
 use Rattle.volume_extract.specs.declared.texts.Options.{Options}
-use Rattle.shop_jobs.specs.Job.{AskView, ExtractFrom}
-use Rattle.shop_jobs.specs.declared.job.ExtractOptions.{ExtractOptions}
-use Rattle.shop_jobs.specs.declared.job.FileSystem.{FileSystem}
-use Rattle.shop_jobs.specs.declared.job.FileSystem.TheVariants.{Dos, Prodos}
-use Rattle.shop_jobs.specs.declared.job.VolumeOptions.{VolumeOptions}
+use Rattle.shop_jobs.specs.declared.folders.ExtractOptions.{ExtractOptions}
+use Rattle.shop_jobs.specs.declared.input.FileSystem.{FileSystem}
+use Rattle.shop_jobs.specs.declared.input.FileSystem.TheVariants.{Dos, Prodos}
+use Rattle.shop_jobs.specs.declared.input.VolumeOptions.{VolumeOptions}
 use Rattle.shop_replies.specs.declared.refusal.Failure.TheVariants as failures
 use Rattle.shop_replies.specs.declared.refusal.Refusal.TheVariants as refusals
 use Rattle.shop_replies.specs.Reply.{AppendsFront, failed, refused}
@@ -89,18 +88,3 @@ IsNotExtractedBy state may_fail plan device device_now folder folder_now old new
     (new ≡ old) × RefusesBy state may_fail plan device device_now folder folder_now (Refused reply)
 IsNotExtractedBy state may_fail plan device device_now folder folder_now old new Folder =
     (new ≡ old) × RefusesBy state may_fail plan device device_now folder folder_now Folder
-
--- ---- by the job
-
--- the files of the volume of a job are in the folder, and `Tells` says what was told
-abbrev pub IsExtracted : AskView → DeviceState → DeviceState → FolderState → FolderState → (List Item → Type 0) → Type 0
-IsExtracted (ExtractFrom volume options into) device device_now folder folder_now Tells =
-    IsExtraction (plan_for volume options) device device_now folder folder_now Tells
-IsExtracted ask device device_now folder folder_now Tells = ⊥
-
--- why they are not
-abbrev pub IsNotExtracted : {O : Type 0} → (O → FolderState) → (O → FolderFailure → Type 0) → AskView → DeviceState
-    → DeviceState → FolderState → FolderState → Option (List ℕ) → Option (List ℕ) → NotExtracted → Type 0
-IsNotExtracted state may_fail (ExtractFrom volume options into) device device_now folder folder_now old new error =
-    IsNotExtractedBy state may_fail (plan_for volume options) device device_now folder folder_now old new error
-IsNotExtracted state may_fail ask device device_now folder folder_now old new error = ⊥

@@ -1,20 +1,15 @@
 // The job that puts the files of a volume into a folder.
 ghost use Rattle.std.specs.Prelude.{◌≡◌, IfErr, IfOk, IsTrue};
 ghost use Rattle.file_cmds.specs.ReadingOn.{ReadsOn};
-ghost use Rattle.shop_jobs.specs.Job.{ask_view};
-ghost use Rattle.shop_jobs.specs.declared.job.FileSystem.TheVariants.{Dos as OfDos, Prodos as OfProdos};
+ghost use Rattle.shop_jobs.specs.declared.input.FileSystem.TheVariants.{Dos as OfDos, Prodos as OfProdos};
 ghost use Rattle.shop_replies.specs.Volume.{HasUnitsOf};
-ghost use Rattle.shop_commands.specs.Answer.{ExtractsVolume};
 ghost use Rattle.shop_commands.specs.Extracting.{
   IsExtractTold,
-  IsExtracted,
-  IsNotExtracted,
   IsNotExtractedBy,
   not_extracted as refused_by,
   options_of,
   plan_for,
 };
-ghost use Rattle.shop_commands.specs.OnDevice.{HasUnitsFor};
 ghost use Rattle.vol_format.specs.Fits.{Fits};
 ghost use Rattle.volume_extract.specs.Extraction.{IsExtraction, plan_of};
 
@@ -23,7 +18,7 @@ use a2_device::Device;
 use dos_format::Dos33;
 use host_folders::{Folder, FolderFailure};
 use pro_format::Prodos;
-use shop_jobs::{Ask, ExtractOptions, FileSystem, Job, VolumeOptions};
+use shop_jobs::{ExtractOptions, FileSystem, VolumeOptions};
 use shop_replies::{Failure, Refusal, Reply};
 use std::alloc::Global;
 use std::io::Write;
@@ -156,40 +151,32 @@ fn extract_prodos<D: Device, O: Folder, T: Write>(
     )
 }
 
-/// Puts the files of the volume that a job names into a folder, on the device that has the volume, and tells of each
-/// entry, and how many there are: once all that can be read is in the folder. The status is 0, or 1 where a file can't
-/// be read.
+/// Puts the files of a volume into a folder, on the device that has the volume, and tells of each entry, and how many
+/// there are: once all that can be read is in the folder. The status is 0, or 1 where a file can't be read.
 ///
 /// # Errors
 /// `Refused` with what `extract` refuses, or where the device or memory fails; `Folder` where the folder fails; `Text`
 /// where the text can't be written.
 pub fn extract_on_device<D: Device, O: Folder, T: Write>(
     alloc: Global,
-    job: &Job,
+    volume: VolumeOptions,
+    options: ExtractOptions,
     device: &mut D,
     folder: &mut O,
     text: &mut T,
 ) -> Result<u8, NotExtracted>
-    requires extracts { ExtractsVolume (ask_view job.now.ask) }
-    requires units { HasUnitsFor (ask_view job.now.ask) (D.state device.old) }
+    requires units { HasUnitsOf volume.file_system (D.state device.old) }
     ensures reads { ReadsOn (D.state device.old) (D.state device.new) }
     ensures same { (O.state folder.new).honest ≡ (O.state folder.old).honest }
-    ensures extracted { IsTrue (D.state device.old).honest → IfOk result (λ status. IsExtracted
-        (ask_view job.now.ask) (D.state device.old) (D.state device.new) (O.state folder.old) (O.state folder.new)
+    ensures extracted { IsTrue (D.state device.old).honest → IfOk result (λ status. IsExtraction
+        (plan_for volume options) (D.state device.old) (D.state device.new) (O.state folder.old) (O.state folder.new)
         (IsExtractTold status (T.contents text.old) (T.contents text.new))) }
-    ensures refused { IsTrue (D.state device.old).honest → IfErr result (IsNotExtracted O.state O.may_fail
-        (ask_view job.now.ask) (D.state device.old) (D.state device.new) (O.state folder.old) (O.state folder.new)
+    ensures refused { IsTrue (D.state device.old).honest → IfErr result (IsNotExtractedBy O.state O.may_fail
+        (plan_for volume options) (D.state device.old) (D.state device.new) (O.state folder.old) (O.state folder.new)
         (T.contents text.old) (T.contents text.new)) }
 {
-    match &job.ask {
-        Ask::Extract {
-            volume,
-            options,
-            ..
-        } => match volume.file_system {
-            FileSystem::Dos => extract_dos(alloc, device, folder, *volume, *options, text),
-            FileSystem::Prodos => extract_prodos(alloc, device, folder, *volume, *options, text),
-        },
-        _ => unreachable!(),
+    match volume.file_system {
+        FileSystem::Dos => extract_dos(alloc, device, folder, volume, options, text),
+        FileSystem::Prodos => extract_prodos(alloc, device, folder, volume, options, text),
     }
 }

@@ -10,15 +10,18 @@ ghost use Rattle.shop_commands.specs.Answer.{
   RefusesAttributes,
   RefusesDate,
   RefusesWords,
+  given_in,
   kind_said as said_kind,
   limit_of as of_limit,
   saving_work as work_of_saving,
+  usual_high as high_of,
 };
 
+use apple_text::HighBit;
 use file_forms::GivenForm;
 use pro_dates::date;
 use shop_changes::{SaidFile, Work, kind_named};
-use shop_jobs::{Change, FileSystem, SaveAttributes, VolumeOptions};
+use shop_jobs::{Change, FileSystem, SaveAttributes, SaveForm, VolumeOptions};
 use shop_reads::file_name;
 use shop_replies::Refusal;
 
@@ -42,11 +45,34 @@ fn kind_said(file_system: FileSystem, word: Option<&str>) -> Option<Option<u8>>
     }
 }
 
+// The highest bit that the texts of a file system have.
+fn usual_high(file_system: FileSystem) -> HighBit
+    ensures { result ≡ high_of file_system }
+{
+    match file_system {
+        FileSystem::Dos => HighBit::On,
+        FileSystem::Prodos => HighBit::Off,
+    }
+}
+
+// The form in which a file is given, in a file system, if it is not given as its bytes are.
+fn given_form(file_system: FileSystem, form: Option<SaveForm>) -> Option<GivenForm>
+    ensures { result ≡ option_map (given_in file_system) form }
+{
+    match form {
+        Some(SaveForm::Text { high: Some(high) }) => Some(GivenForm::Text(high)),
+        Some(SaveForm::Text { high: None }) => Some(GivenForm::Text(usual_high(file_system))),
+        Some(SaveForm::Applesoft) => Some(GivenForm::Applesoft),
+        Some(SaveForm::Single) => Some(GivenForm::Single),
+        None => None,
+    }
+}
+
 // The file that the words of a saving and these bytes say.
 fn said_by<'a>(
     file_system: FileSystem,
     attributes: &SaveAttributes,
-    form: Option<GivenForm>,
+    form: Option<SaveForm>,
     bytes: &'a [u8],
 ) -> Result<SaidFile<'a>, Refusal>
     ensures said { IfOk result (λ said.
@@ -64,7 +90,7 @@ fn said_by<'a>(
         kind,
         aux: attributes.aux,
         date,
-        form,
+        form: given_form(file_system, form),
         bytes,
     })
 }
@@ -112,7 +138,6 @@ pub fn change_work<'a>(
         Change::Optimize {
             reclaim,
             stop_after,
-            ..
         } => Ok(Work::Optimize {
             reclaim: *reclaim,
             limit: limit_of(*stop_after),
@@ -126,7 +151,6 @@ pub fn change_work<'a>(
             attributes,
             form,
             replace,
-            ..
         } => {
             let said = said_by(volume.file_system, attributes, *form, extra)?;
             Ok(saving_work(*replace, name.as_bytes(), said))

@@ -7,8 +7,8 @@ use Rattle.a2_device.specs.declared.order.Order.TheVariants as orders
 use Rattle.a2_device.specs.Device.{DeviceState}
 use Rattle.a2_media.specs.declared.units.UnitKind.{UnitKind}
 use Rattle.a2_media.specs.declared.units.UnitKind.TheVariants.{Sector, Block}
-use Rattle.shop_jobs.specs.declared.job.FileSystem.{FileSystem}
-use Rattle.shop_jobs.specs.declared.job.FileSystem.TheVariants.{Dos, Prodos}
+use Rattle.shop_jobs.specs.declared.input.FileSystem.{FileSystem}
+use Rattle.shop_jobs.specs.declared.input.FileSystem.TheVariants.{Dos, Prodos}
 use Rattle.shop_replies.specs.Volume.{HasUnitsOf, kind_of}
 use Rattle.a2_media.specs.System.{IsDeviceOf}
 

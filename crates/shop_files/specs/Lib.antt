@@ -1,3 +1,4 @@
+pub mod Beside
 pub mod Images
 pub mod Outputs
 pub mod Roles

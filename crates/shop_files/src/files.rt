@@ -1,8 +1,8 @@
 // Where the paths of a job lead.
-ghost use Rattle.std.specs.Prelude.{◌≡◌, ◌↔◌, IfErr, IfOk, IfSome, IsTrue, None, option_map};
+ghost use Rattle.std.specs.Prelude.{◌≡◌, ◌↔◌, IfErr, IfOk, IfSome, IsTrue, None, option_map, string_bytes};
 ghost use Rattle.std.specs.IoError.{error_kind};
-ghost use Rattle.shop_jobs.specs.Job.{ask_view, job_view};
-ghost use Rattle.shop_jobs.specs.Paths.{folder_of};
+ghost use Rattle.shop_jobs.specs.Input.{beside_view, folder_of};
+ghost use Rattle.shop_jobs.specs.Job.{job_view, target_view};
 ghost use Rattle.shop_files.specs.Outputs.{IsNamed, IsOutputOf, IsPlacingOf, NamesFiles};
 ghost use Rattle.shop_files.specs.Roles.{HasClash, IsUse, identity_of, identity_view, image_identity, roles_of};
 ghost use Rattle.shop_files.specs.declared.clash.Clash.{Clash as AClash};
@@ -11,10 +11,7 @@ use crate::clash::{Clash, Roles};
 use crate::identity::{FileIdentity, is_same_file};
 use crate::image::ImageUse;
 use crate::{Node, Output, Placing, Target, target_of};
-use shop_jobs::{
-    Job, certificate_path, folder_path, from_path, has_image, is_on_standard_input, makes_new_file,
-    out_path,
-};
+use shop_jobs::{Beside, Job, Source};
 use std::alloc::Global;
 use std::io::ErrorKind;
 use std::{fs, io};
@@ -30,22 +27,28 @@ const NONE: FileIdentity<'static> = FileIdentity {
 
 /// A path that a job may name, and where it leads.
 #[derive(Drop)]
-struct NamedFile<'a> {
-    path: Option<&'a str>,
+struct NamedFile {
+    path: Option<String>,
     target: Target<Global>,
 }
 
-impl<'a> NamedFile<'a> {
+impl NamedFile {
     // Looks where a path leads; one that is left out leads nowhere.
-    fn of(rt: &HostRuntime, path: Option<&'a str>) -> io::Result<NamedFile<'a>>
+    fn of(rt: &HostRuntime, path: Option<&str>) -> io::Result<NamedFile>
         ensures named { IfOk result (IsNamed (option_map (λ s. s.now) path.entry)) }
         ensures failed { IfErr result (λ error. error_kind error ≡ ErrorKind.OutOfMemory) }
     {
-        let target = match path {
-            Some(path) => target_of(rt, rt.alloc(), path)?,
-            None => Target::Nowhere,
+        let Some(path) = path else {
+            return Ok(NamedFile {
+                path: None,
+                target: Target::Nowhere,
+            });
         };
-        Ok(NamedFile { path, target })
+        let target = target_of(rt, rt.alloc(), path)?;
+        Ok(NamedFile {
+            path: Some(path.to_string(rt.alloc())?),
+            target,
+        })
     }
 
     // Which file stands or is to stand there.
@@ -66,18 +69,18 @@ impl<'a> NamedFile<'a> {
 
     // The file to be written there, if there is a path, which may take such a place.
     fn output<'b>(&'b self, rt: &'b HostRuntime, placing: Placing) -> Output<'b>
-        ensures { IsOutputOf (option_map (λ s. s.now) self.now.path) self.now.target placing result }
+        ensures { IsOutputOf (option_map string_bytes self.now.path) self.now.target placing result }
     {
-        match self.path {
-            Some(path) => Output::new(rt, path, &self.target, placing),
+        match &self.path {
+            Some(path) => Output::new(rt, path.as_str(), &self.target, placing),
             None => Output::Nothing,
         }
     }
 
     // Whether something stands at the path itself, a link too.
     fn is_taken(&self, rt: &HostRuntime) -> bool {
-        match self.path {
-            Some(path) => fs::symlink_metadata(rt, path).is_ok(),
+        match &self.path {
+            Some(path) => fs::symlink_metadata(rt, path.as_str()).is_ok(),
             None => false,
         }
     }
@@ -85,18 +88,18 @@ impl<'a> NamedFile<'a> {
 
 /// The files that a job names, where their paths lead, and which file standard input is where the image comes from
 /// there.
-pub struct JobFiles<'a> {
-    image: NamedFile<'a>,
+pub struct JobFiles {
+    image: NamedFile,
     input: Option<Node>,
-    from: NamedFile<'a>,
+    from: NamedFile,
     /// The path of the folder whose files are added, with links followed.
     folder: Option<String>,
-    out: NamedFile<'a>,
+    out: NamedFile,
     placing: Placing,
-    certificate: NamedFile<'a>,
+    certificate: NamedFile,
 }
 
-impl<'a> Drop for JobFiles<'a> {
+impl Drop for JobFiles {
     fn drop(self) {
         let JobFiles {
             image: _,
@@ -111,10 +114,10 @@ impl<'a> Drop for JobFiles<'a> {
 }
 
 // Which place the output file of a job may take.
-fn placing_of(job: &Job) -> Placing
-    ensures { IsPlacingOf (ask_view job.now.ask) result }
+fn placing_of(output: &shop_jobs::Target) -> Placing
+    ensures { IsPlacingOf (target_view output.now) result }
 {
-    if makes_new_file(job) {
+    if output.is_new_file() {
         Placing::Free
     } else {
         Placing::Over
@@ -127,12 +130,12 @@ fn followed(rt: &HostRuntime, path: &str) -> io::Result<String> {
     Ok(own.as_str().to_string(rt.alloc())?)
 }
 
-// The path of the folder whose files a job adds, with links followed; `None` where it leads to nothing.
-fn added_folder(rt: &HostRuntime, job: &Job) -> io::Result<Option<String>>
-    ensures none { folder_of (ask_view job.now.ask) ≡ None → IfOk result (λ folder. folder ≡ None) }
+// The path of the folder whose files are added, with links followed; `None` where it leads to nothing.
+fn added_folder(rt: &HostRuntime, beside: &Beside) -> io::Result<Option<String>>
+    ensures none { folder_of (beside_view beside.now) ≡ None → IfOk result (λ folder. folder ≡ None) }
     ensures failed { IfErr result (λ error. error_kind error ≡ ErrorKind.OutOfMemory) }
 {
-    let Some(path) = folder_path(job) else {
+    let Some(path) = beside.folder() else {
         return Ok(None);
     };
     match followed(rt, path) {
@@ -148,25 +151,27 @@ fn input_node(rt: &HostRuntime) -> Option<Node> {
     found.is_file().then_some(Node::of(&found))
 }
 
-impl<'a> JobFiles<'a> {
+impl JobFiles {
     /// Looks where the paths of a job lead.
     ///
     /// # Errors
     /// Want of memory.
-    pub fn of(rt: &HostRuntime, job: &'a Job) -> io::Result<JobFiles<'a>>
+    pub fn of(rt: &HostRuntime, job: &Job) -> io::Result<JobFiles>
         ensures named { IfOk result (NamesFiles (job_view job.now)) }
         ensures failed { IfErr result (λ error. error_kind error ≡ ErrorKind.OutOfMemory) }
     {
-        let is_input = is_on_standard_input(job);
-        let path = (has_image(job) && !is_input).then_some(job.image.as_str());
+        let input = match &job.input.image {
+            Source::StandardInput => input_node(rt),
+            Source::Nothing | Source::File(_) => None,
+        };
         Ok(JobFiles {
-            image: NamedFile::of(rt, path)?,
-            input: if is_input { input_node(rt) } else { None },
-            from: NamedFile::of(rt, from_path(job))?,
-            folder: added_folder(rt, job)?,
-            out: NamedFile::of(rt, out_path(job))?,
-            placing: placing_of(job),
-            certificate: NamedFile::of(rt, certificate_path(job))?,
+            image: NamedFile::of(rt, job.input.image.path())?,
+            input,
+            from: NamedFile::of(rt, job.input.beside.path())?,
+            folder: added_folder(rt, &job.input.beside)?,
+            out: NamedFile::of(rt, job.output.file())?,
+            placing: placing_of(&job.output),
+            certificate: NamedFile::of(rt, job.certificate.as_deref())?,
         })
     }
 
@@ -223,7 +228,7 @@ impl<'a> JobFiles<'a> {
     /// The output file of a job that has one, for its image or for the bytes of a file.
     pub fn output<'b>(&'b self, rt: &'b HostRuntime) -> Output<'b>
         ensures { IsOutputOf
-            (option_map (λ s. s.now) self.now.out.path) self.now.out.target self.now.placing result }
+            (option_map string_bytes self.now.out.path) self.now.out.target self.now.placing result }
     {
         self.out.output(rt, self.placing)
     }
@@ -231,7 +236,7 @@ impl<'a> JobFiles<'a> {
     /// The file of the certificate of a job that writes one.
     pub fn certificate_output<'b>(&'b self, rt: &'b HostRuntime) -> Output<'b>
         ensures { IsOutputOf
-            (option_map (λ s. s.now) self.now.certificate.path) self.now.certificate.target Placing.Over result }
+            (option_map string_bytes self.now.certificate.path) self.now.certificate.target Placing.Over result }
     {
         self.certificate.output(rt, Placing::Over)
     }

@@ -4,7 +4,7 @@
 //! have one file of which one is written, or the output file is to stand in the folder whose files are added
 //! (`specs/Roles.antt`). `OpenImage` is the image, open: its file, locked for as long as it is held, or standard input;
 //! it gives the bytes, or a device of the units where they stand in the file (`specs/Images.antt`). `extra_bytes` reads
-//! the file beside the image, and holds its lock until it is read.
+//! the file beside the image, or the other image (`specs/Beside.antt`), and holds its lock until it is read.
 //!
 //! `Output` is a file that a job writes, exactly where the job names one (`specs/Outputs.antt`). What is written goes
 //! to a file aside (`AsideFile`, `specs/Known.antt`), a new one in the same folder. It is flushed to the disk, and then
@@ -46,7 +46,7 @@ mod text_fault;
 mod ways;
 
 pub use aside::{AsideFile, Placing};
-pub use bytes::{extra_bytes, other_bytes};
+pub use bytes::extra_bytes;
 pub use clash::{Clash, Roles};
 pub use ending::{Ending, Unwritten};
 pub use files::JobFiles;

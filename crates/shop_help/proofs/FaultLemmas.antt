@@ -8,7 +8,7 @@ use Rattle.shop_help.specs.Fault.{IsFaultBy, IsFaultIn}
 use Rattle.shop_help.specs.declared.fault.WordsFault.{WordsFault}
 use Rattle.shop_help.specs.declared.fault.WordsFault.TheVariants as faults
 use Rattle.shop_words.specs.Asked.{AskedView}
-use Rattle.shop_words.specs.Job.{closed_job, meant_words}
+use Rattle.shop_words.specs.Job.{meant_words, settled_alone, words_job}
 use Rattle.shop_words.specs.Table.{Text}
 use Rattle.shop_words.specs.Unread.{ends_of}
 
@@ -35,6 +35,6 @@ told_fault words error (faults.Refused text) has by =
 told_fault words error faults.Memory has by = tt
 
 -- words of a job are those of a command
-pub asked_some : (o : Option AskedView) → is_some (option_and_then (λ v. closed_job v.words) o) ≡ true → is_some o ≡ true
+pub asked_some : (o : Option AskedView) → is_some (option_and_then settled_alone (option_and_then (λ v. words_job v.words) o)) ≡ true → is_some o ≡ true
 asked_some None some = some
 asked_some (Some a) some = refl

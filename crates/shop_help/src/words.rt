@@ -11,7 +11,7 @@ use crate::fault::WordsFault;
 use crate::misfits::misfit_fault;
 use crate::telling::{read_fault, refused};
 use shop_jobs::Job;
-use shop_words::{UNSETTLED, read_words};
+use shop_words::read_words;
 use std::alloc::Global;
 
 /// What is told where a job is asked for at once, and the words leave to an image how it is read.
@@ -56,11 +56,12 @@ pub fn parse_words(alloc: Global, words: &[String]) -> Result<Job, WordsFault>
         Ok(asked) => asked,
         Err(unread) => return Err(read_fault(alloc, words, &unread)),
     };
-    if !asked.left_open().is_none() {
+    let job = match asked.job(alloc) {
+        Ok(job) => job,
+        Err(misfit) => return Err(misfit_fault(alloc, &asked, misfit)),
+    };
+    if !job.input.is_settled() {
         return Err(open_fault(alloc));
     }
-    match asked.job(alloc, UNSETTLED) {
-        Ok(job) => Ok(job),
-        Err(misfit) => Err(misfit_fault(alloc, &asked, misfit)),
-    }
+    Ok(job)
 }

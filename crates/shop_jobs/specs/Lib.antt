@@ -1,2 +1,2 @@
+pub mod Input
 pub mod Job
-pub mod Paths

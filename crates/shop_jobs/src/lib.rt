@@ -1,20 +1,29 @@
-//! What the workshop is asked for: where an image is, and what is asked of it, as `Job` has them.
+//! What the workshop is asked for.
+//!
+//! A `Job` says what it reads (`Input`: its image, how that is read, and what it reads beside it), what is asked
+//! (`Ask`), where what it makes goes (`Target`), and to which file its certificate. The file system and the order of an
+//! image are said, or are to be found by the image; `Input::settle` puts what it has into their place.
 //!
 //! The libraries of jobs stand on this crate, and know nothing of how words are read; `shop_words` reads them.
-//! Contracts see a job with texts for its words (`specs/Job.antt`), and which files it names are functions of that view
-//! (`specs/Paths.antt`).
+//! Contracts see a job with texts for its words (`specs/Input.antt`, `specs/Job.antt`).
 #![tactic(auto)]
 
+mod changes;
+mod folders;
+mod input;
 mod job;
-mod paths;
+mod law;
+mod looks;
+mod making;
+mod target;
 
-pub use job::{
-    AddOptions, Ask, Change, CompareOptions, CreateOptions, Edit, ExtractOptions, FileName,
-    FileSystem, Job, ListForm, ListOptions, Look, NewVolume, ReadForm, SaveAttributes, SurveyForm,
-    Target, VolumeOptions, WrapOptions,
+pub use changes::{Change, Edit, SaveAttributes, SaveForm};
+pub use folders::{AddOptions, ExtractOptions, SurveyForm};
+pub use input::{
+    Beside, FileSystem, ImageReading, Input, OrderSaid, Source, VolumeOptions, VolumeReading, Ways,
 };
-pub use paths::{
-    certificate_path, folder_path, from_path, has_image, image_order, into_path, is_in_place,
-    is_on_standard_input, makes_new_file, other_is_on_standard_input, out_path, reserve_of,
-    volume_of,
-};
+pub use job::{Ask, Job, VolumeAsk};
+pub use law::ways_settle_a_job;
+pub use looks::{CompareOptions, FileName, ListForm, ListOptions, Look, ReadForm};
+pub use making::{CreateOptions, NewVolume, WrapOptions};
+pub use target::Target;

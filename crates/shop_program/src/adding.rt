@@ -1,20 +1,17 @@
 // A job that adds the files of a folder to the volume of its image: the folder is looked through,
 // and its files are read one at a time, as each is saved.
 ghost use Rattle.std.specs.Prelude.{ℕ, IfErr, List, None, Option};
-ghost use Rattle.folder_adding.specs.AddReply.{AddsFiles};
-ghost use Rattle.shop_jobs.specs.Job.{ask_view};
 ghost use Rattle.shop_replies.specs.Reading.{IsReadFailure};
 
-use crate::doing::Done;
-use crate::ending::{Outputs, end};
-use crate::inputs::Inputs;
+use crate::ending::end;
+use crate::settling::Opened;
 use crate::stop::{Stop, failure_of};
 use crate::walking::{Finder, Kind, Root};
 use folder_adding::{HostEntry, HostFiles, HostKind, add_reply, is_hidden};
 use shop_changes::MOST_INPUT;
-use shop_files::{Ending, JobFiles};
-use shop_jobs::{Job, folder_path};
-use shop_replies::{Failure, Refusal, most_of_image, read_front};
+use shop_files::Ending;
+use shop_jobs::{AddOptions, Beside, Job};
+use shop_replies::{Failure, Refusal, read_front};
 use std::alloc::Global;
 use std::fs::{self, File};
 use std::io::{ErrorKind, Write};
@@ -38,7 +35,7 @@ impl Finder for Entries {
             Kind::File => HostKind::File,
             Kind::Folder => HostKind::Folder,
             Kind::Other | Kind::Unnamed => HostKind::Other,
-            Kind::Unread => return Err(Stop::Failed(Failure::Input)),
+            Kind::Unread => return Err(Stop::from(Failure::Input)),
         };
         if path.is_empty() {
             path.push_str(FOLDER_ITSELF)?;
@@ -101,24 +98,14 @@ impl HostFiles for FolderFiles<'_, '_> {
 }
 
 // The path of the folder that a job names, without the slashes at its end, if a folder is there.
-fn folder_of<'a>(rt: &HostRuntime, job: &'a Job) -> Result<&'a str, Stop> {
-    let Some(path) = folder_path(job) else {
-        return Err(Stop::Refused(Refusal::Folder));
+fn folder_of<'a>(rt: &HostRuntime, beside: &'a Beside) -> Result<&'a str, Stop> {
+    let Some(path) = beside.folder() else {
+        return Err(Stop::from(Refusal::Folder));
     };
     match fs::metadata(rt, path) {
         Ok(found) if found.is_dir() => Ok(path.trim_end_matches('/')),
-        Err(error) if error.kind() == ErrorKind::OutOfMemory => {
-            Err(Stop::Failed(Failure::Memory))
-        }
-        _ => Err(Stop::Refused(Refusal::Folder)),
-    }
-}
-
-// The bytes of the image of a job.
-fn image_of(rt: &HostRuntime, job: &Job, inputs: &mut Inputs) -> Result<Vec<u8>, Failure> {
-    match inputs.bytes.take() {
-        Some(bytes) => Ok(bytes),
-        None => inputs.image.bytes(rt, most_of_image(job)),
+        Err(error) if error.kind() == ErrorKind::OutOfMemory => Err(Stop::from(Failure::Memory)),
+        _ => Err(Stop::from(Refusal::Folder)),
     }
 }
 
@@ -127,26 +114,34 @@ fn image_of(rt: &HostRuntime, job: &Job, inputs: &mut Inputs) -> Result<Vec<u8>,
 pub fn add_job<T: Write>(
     rt: &HostRuntime,
     job: &Job,
-    files: &JobFiles<'_>,
-    inputs: &mut Inputs,
+    options: &AddOptions,
+    opened: &mut Opened,
     text: &mut T,
-) -> Result<Ending, Stop>
-    requires job { AddsFiles (ask_view job.now.ask) }
-{
-    let image = image_of(rt, job, inputs)?;
+) -> Result<Ending, Stop> {
+    let reading = &job.input.reading;
+    let image = opened.inputs.take_image(rt, reading)?;
     let root = Root {
         rt,
-        path: folder_of(rt, job)?,
+        path: folder_of(rt, &job.input.beside)?,
     };
     let entries = entries_of(&root)?;
     let mut host = FolderFiles {
         root,
         entries: entries.as_slice(),
     };
-    let shell = match &inputs.container {
+    let shell = match &opened.inputs.container {
         Some(container) => Some(&container.shell),
         None => None,
     };
-    let reply = add_reply(rt.alloc(), job, image, entries.as_slice(), &mut host, shell);
-    Ok(end(rt, Done::Made(reply), Outputs::of(rt, files), text))
+    let entries = entries.as_slice();
+    let reply = add_reply(
+        rt.alloc(),
+        reading,
+        options,
+        image,
+        entries,
+        &mut host,
+        shell,
+    );
+    Ok(end(rt, job, reply, &opened.files, text))
 }

@@ -1,13 +1,12 @@
 // A job that makes a volume: no image is opened for it, but the one whose system it copies.
-use crate::doing::Done;
-use crate::ending::{Outputs, end};
+use crate::ending::end;
 use crate::inputs::job_files;
 use crate::stop::Stop;
 use a2_device::Order;
 use image_readings::{Choice, best_reading};
 use shop_commands::reply_to;
 use shop_files::{BootFault, Ending, Found, extra_bytes, foreign_of};
-use shop_jobs::{CreateOptions, FileSystem, Job, NewVolume, from_path};
+use shop_jobs::{CreateOptions, FileSystem, Job, NewVolume};
 use shop_replies::{Refusal, Status, most_bytes};
 use std::io::Write;
 
@@ -16,7 +15,7 @@ const FIRST_BYTES: usize = 256;
 
 // Notes of the image whose system is copied what is told of an image.
 fn note_boot(rt: &HostRuntime, job: &Job, options: &CreateOptions, found: &mut Found) {
-    found.path = match from_path(job) {
+    found.path = match job.input.beside.path() {
         Some(path) => path.to_string(rt.alloc()).ok(),
         None => None,
     };
@@ -64,7 +63,7 @@ fn note_bytes(
     boot: &[u8],
     found: &mut Found,
 ) {
-    if !found.is_wanted || from_path(job).is_none() {
+    if !found.is_wanted || job.input.beside.path().is_none() {
         return;
     }
     found.bytes = Some(boot.len());
@@ -81,16 +80,15 @@ pub fn create_job<T: Write>(
     text: &mut T,
 ) -> Result<Ending, Stop> {
     let files = job_files(rt, job, found)?;
-    found.path = None;
     if files.has_no_free_place(rt) {
-        return Err(Stop::Refused(Refusal::Exists));
+        return Err(Stop::from(Refusal::Exists));
     }
     note_boot(rt, job, options, found);
-    let boot = extra_bytes(rt, job)?;
+    let boot = extra_bytes(rt, &job.input.beside)?;
     note_bytes(rt, job, options, boot.as_slice(), found);
     let reply = reply_to(rt.alloc(), job, Vec::new(rt.alloc()), boot);
     if reply.status != Status::Done {
         found.boot = None;
     }
-    Ok(end(rt, Done::Made(reply), Outputs::of(rt, &files), text))
+    Ok(end(rt, job, reply, &files, text))
 }

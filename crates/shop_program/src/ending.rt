@@ -1,32 +1,11 @@
 // The files of a job, ended, and its answer told.
-use crate::doing::Done;
 use shop_changes::Outcome;
-use shop_files::{Ending, Found, JobFiles, Output, Unwritten, end_by, explain, tell_output};
+use shop_files::{
+    Ending, Found, JobFiles, Output, Unwritten, end_by, explain, tell_output, tells_of_output,
+};
+use shop_jobs::Job;
 use shop_replies::Reply;
 use std::io::Write;
-
-/// The files that a job writes.
-#[derive(Drop)]
-pub struct Outputs<'a> {
-    pub image: Output<'a>,
-    pub certificate: Output<'a>,
-}
-
-impl<'a> Outputs<'a> {
-    /// Those that a job names. Nothing is made yet.
-    pub fn of(rt: &'a HostRuntime, files: &'a JobFiles<'_>) -> Outputs<'a> {
-        Outputs {
-            image: files.output(rt),
-            certificate: files.certificate_output(rt),
-        }
-    }
-
-    /// Removes what was written aside.
-    pub fn discard(self) {
-        self.image.discard();
-        self.certificate.discard();
-    }
-}
 
 // Puts a certificate onto the disk or through its pipe, and answers whether that was done.
 fn is_put_onto_disk(certificate: &mut Output<'_>, bytes: &[u8]) -> bool {
@@ -55,8 +34,12 @@ fn end_in_order<T: Write>(
     }
 }
 
-// Tells what became of an image in its own file, and ends the file of its certificate.
-fn end_in_place<T: Write>(outcome: Outcome, mut certificate: Output<'_>, text: &mut T) -> Ending {
+/// Tells what became of an image in its own file, and ends the file of its certificate.
+pub fn end_in_place<T: Write>(
+    outcome: Outcome,
+    mut certificate: Output<'_>,
+    text: &mut T,
+) -> Ending {
     if let Outcome::Optimized(report) = &outcome {
         let is_on_disk = is_put_onto_disk(&mut certificate, report.cert.as_slice());
         return end_in_order(outcome, is_on_disk, certificate, text);
@@ -70,25 +53,20 @@ fn end_in_place<T: Write>(outcome: Outcome, mut certificate: Output<'_>, text: &
     Ending::written(status)
 }
 
-// Tells the reply to a job, and puts its files into their places.
-fn end_reply<T: Write>(
+/// Tells the reply to a job, and puts its files into their places.
+pub fn end<T: Write>(
     rt: &HostRuntime,
+    job: &Job,
     reply: Reply,
-    outputs: Outputs<'_>,
+    files: &JobFiles,
     text: &mut T,
 ) -> Ending {
-    end_by(rt.alloc(), reply, outputs.image, outputs.certificate, text)
-}
-
-/// Tells what a job has come to, and puts its files into their places.
-pub fn end<T: Write>(rt: &HostRuntime, done: Done, outputs: Outputs<'_>, text: &mut T) -> Ending {
-    match done {
-        Done::Answered(reply) => end_reply(rt, reply, outputs, text),
-        Done::Made(reply) => {
-            let ending = end_reply(rt, reply, outputs, text);
-            tell_output(ending, text)
-        }
-        Done::InPlace(outcome) => end_in_place(outcome, outputs.certificate, text),
+    let certificate = files.certificate_output(rt);
+    let ending = end_by(rt.alloc(), reply, files.output(rt), certificate, text);
+    if tells_of_output(job) {
+        tell_output(ending, text)
+    } else {
+        ending
     }
 }
 

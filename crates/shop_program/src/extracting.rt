@@ -1,19 +1,15 @@
 // A job that puts the files of a volume into a new folder, done and ended: the folder takes its
 // place once all is in it and told.
-ghost use Rattle.std.specs.Prelude.{◌≡◌, Some};
-ghost use Rattle.shop_jobs.specs.Job.{ask_view};
-ghost use Rattle.shop_jobs.specs.Paths.{volume_of as read_as};
-ghost use Rattle.shop_commands.specs.Answer.{ExtractsVolume};
-ghost use Rattle.shop_commands.specs.OnDevice.{HasUnitsFor};
+ghost use Rattle.shop_replies.specs.Volume.{HasUnitsOf};
 
-use crate::inputs::Inputs;
+use crate::settling::Opened;
 use crate::stop::Stop;
 use a2_device::Device;
 use a2_media::FileError;
 use host_folders::{StartError, SystemFolder, folder_name};
 use shop_commands::{NotExtracted, extract_on_device};
 use shop_files::{Ending, Unwritten, tell_output};
-use shop_jobs::{Job, VolumeOptions, into_path, volume_of};
+use shop_jobs::{ExtractOptions, Job, Target, VolumeOptions};
 use shop_replies::{Failure, Refusal, Reply, device_of, most_of_image, open_volume};
 use std::alloc::Global;
 use std::fs;
@@ -36,19 +32,19 @@ fn is_in_folder(rt: &HostRuntime, path: &str) -> bool {
 }
 
 // The folder at the path that a job names, begun.
-fn start_folder<'a>(rt: &'a HostRuntime, job: &Job) -> Result<JobFolder<'a>, Stop> {
-    let Some(into) = into_path(job) else {
-        return Err(Stop::Refused(Refusal::Folder));
+fn start_folder<'a>(rt: &'a HostRuntime, output: &Target) -> Result<JobFolder<'a>, Stop> {
+    let Some(into) = output.folder() else {
+        return Err(Stop::from(Refusal::Folder));
     };
     let Some(path) = folder_name(into) else {
-        return Err(Stop::Refused(Refusal::Folder));
+        return Err(Stop::from(Refusal::Folder));
     };
     match SystemFolder::start(rt, rt.alloc(), path) {
         Ok(folder) => Ok(folder),
-        Err(StartError::Taken) => Err(Stop::Refused(Refusal::Folder)),
-        Err(StartError::Failed) if !is_in_folder(rt, path) => Err(Stop::Refused(Refusal::Folder)),
+        Err(StartError::Taken) => Err(Stop::from(Refusal::Folder)),
+        Err(StartError::Failed) if !is_in_folder(rt, path) => Err(Stop::from(Refusal::Folder)),
         Err(StartError::Failed) => Err(Stop::Unwritten(Unwritten::Folder)),
-        Err(StartError::Memory) => Err(Stop::Failed(Failure::Memory)),
+        Err(StartError::Memory) => Err(Stop::from(Failure::Memory)),
     }
 }
 
@@ -66,15 +62,15 @@ fn end_without<T: Write>(error: NotExtracted, text: &mut T) -> Ending {
 // its place.
 fn extract_units<D: Device, T: Write>(
     rt: &HostRuntime,
-    job: &Job,
+    volume: VolumeOptions,
+    options: ExtractOptions,
     device: &mut D,
     mut folder: JobFolder<'_>,
     text: &mut T,
 ) -> Ending
-    requires job { ExtractsVolume (ask_view job.now.ask) }
-    requires units { HasUnitsFor (ask_view job.now.ask) (D.state device.old) }
+    requires units { HasUnitsOf volume.file_system (D.state device.old) }
 {
-    match extract_on_device(rt.alloc(), job, device, &mut folder, text) {
+    match extract_on_device(rt.alloc(), volume, options, device, &mut folder, text) {
         Ok(status) => match folder.finish() {
             Ok(()) => Ending::written(status),
             Err(_) => Ending::stopped(Unwritten::FolderAfterText),
@@ -89,19 +85,17 @@ fn extract_units<D: Device, T: Write>(
 // Puts the files of a volume whose image has these bytes into the folder of a job.
 fn extract_bytes<T: Write>(
     rt: &HostRuntime,
-    job: &Job,
+    output: &Target,
     volume: VolumeOptions,
+    options: ExtractOptions,
     bytes: Vec<u8>,
     text: &mut T,
-) -> Result<Ending, Stop>
-    requires job { ExtractsVolume (ask_view job.now.ask) }
-    requires volume { read_as (ask_view job.now.ask) ≡ Some volume }
-{
-    let folder = start_folder(rt, job)?;
+) -> Result<Ending, Stop> {
+    let folder = start_folder(rt, output)?;
     match open_volume(bytes, volume.order, volume.file_system) {
         Ok(image) => {
             let mut device = device_of(image, volume.file_system);
-            Ok(extract_units(rt, job, &mut device, folder, text))
+            Ok(extract_units(rt, volume, options, &mut device, folder, text))
         }
         Err(error) => {
             folder.abandon();
@@ -115,31 +109,32 @@ fn extract_bytes<T: Write>(
 fn extract_volume<T: Write>(
     rt: &HostRuntime,
     job: &Job,
-    inputs: &mut Inputs,
+    options: ExtractOptions,
+    opened: &mut Opened,
     text: &mut T,
-) -> Result<Ending, Stop>
-    requires job { ExtractsVolume (ask_view job.now.ask) }
-{
-    let Some(volume) = volume_of(job) else {
-        return Err(Stop::Refused(Refusal::Folder));
+) -> Result<Ending, Stop> {
+    let Some(volume) = job.input.reading.volume() else {
+        return Err(Stop::from(Refusal::Folder));
     };
+    let output = &job.output;
+    let inputs = &mut opened.inputs;
     if let Some(bytes) = inputs.bytes.take() {
-        return extract_bytes(rt, job, volume, bytes, text);
+        return extract_bytes(rt, output, volume, options, bytes, text);
     }
     match inputs.image.device(inputs.part(), volume) {
         Ok(mut device) => {
-            let folder = start_folder(rt, job)?;
-            Ok(extract_units(rt, job, &mut device, folder, text))
+            let folder = start_folder(rt, output)?;
+            Ok(extract_units(rt, volume, options, &mut device, folder, text))
         }
         Err(FileError::InPlace) => {
-            let bytes = inputs.image.bytes(rt, most_of_image(job))?;
-            extract_bytes(rt, job, volume, bytes, text)
+            let bytes = inputs.image.bytes(rt, most_of_image(&job.input.reading))?;
+            extract_bytes(rt, output, volume, options, bytes, text)
         }
         Err(FileError::Length) => {
-            start_folder(rt, job)?.abandon();
-            Err(Stop::Refused(Refusal::Length))
+            start_folder(rt, output)?.abandon();
+            Err(Stop::from(Refusal::Length))
         }
-        Err(FileError::Io) => Err(Stop::Failed(Failure::Input)),
+        Err(FileError::Io) => Err(Stop::from(Failure::Input)),
     }
 }
 
@@ -147,12 +142,11 @@ fn extract_volume<T: Write>(
 pub fn extract_job<T: Write>(
     rt: &HostRuntime,
     job: &Job,
-    inputs: &mut Inputs,
+    options: ExtractOptions,
+    opened: &mut Opened,
     text: &mut T,
-) -> Result<Ending, Stop>
-    requires job { ExtractsVolume (ask_view job.now.ask) }
-{
-    match extract_volume(rt, job, inputs, text) {
+) -> Result<Ending, Stop> {
+    match extract_volume(rt, job, options, opened, text) {
         Ok(ending) => Ok(tell_output(ending, text)),
         Err(Stop::Unwritten(unwritten)) => Ok(tell_output(Ending::stopped(unwritten), text)),
         Err(stop) => Err(stop),

@@ -3,16 +3,16 @@ use crate::inputs::Inputs;
 use crate::stop::Stop;
 use image_readings::{identify_reply, order_word};
 use shop_files::Found;
-use shop_replies::Side;
+use shop_replies::{Refusal, Side};
 
 // Whether no way to read the image was chosen.
 fn leaves_image_open(stop: Stop) -> bool {
     matches!(
         stop,
-        Stop::Ambiguous
-            | Stop::Unknown
-            | Stop::AmbiguousOf(Side::First)
-            | Stop::UnknownOf(Side::First)
+        Stop::Refused(
+            Refusal::Ambiguous | Refusal::Unknown,
+            None | Some(Side::First)
+        )
     )
 }
 

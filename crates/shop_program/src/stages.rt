@@ -1,24 +1,22 @@
 // The program, stage by stage.
 use crate::adding::add_job;
-use crate::asking::job_with;
+use crate::asking::asked_job;
 use crate::creating::create_job;
-use crate::doing::{Done, do_job, fault_files, is_content};
-use crate::ending::{Outputs, end, explain_answer};
+use crate::doing::{change_in_place, reply_of_bytes, reply_of_look};
+use crate::ending::{end, end_in_place, explain_answer};
 use crate::extracting::extract_job;
-use crate::inputs::{Inputs, files_of, open_inputs};
-use crate::settling::settled_job;
+use crate::settling::{Opened, warn};
 use crate::stop::Stop;
 use crate::streams::take_closed_streams;
 use crate::surveying::survey_job;
 use crate::words::{greet, told_fault, words_of};
 use explanations::Overheard;
-use folder_adding::adds_files;
-use shop_commands::{extracts, tell_words_fault};
+use shop_commands::tell_words_fault;
 use shop_files::{Ending, Found, JobFiles};
 use shop_help::read_fault;
-use shop_jobs::{Ask, Job};
+use shop_jobs::{Ask, Change, Job, Look, VolumeAsk};
 use shop_replies::{Failure, Refusal, Reply};
-use shop_words::{Asked, UNSETTLED, Unread, asks_explain, read_words};
+use shop_words::{Asked, Unread, asks_explain, read_words};
 use std::io::{BufWriter, Write};
 
 /// Does what the program's words ask for, and answers its status. Standard output is written
@@ -97,67 +95,130 @@ fn run_noting<T: Write>(
     }
 }
 
-// The job that the words ask for, its inputs opened, and the job settled where a word leaves to the
-// image how it is read; then it is done. The image is held, with its lock, to the end.
+// Notes the files of faults that an answer keeps, where it is to be explained: the lines that name
+// them, if there is memory for them.
+fn note_faults(rt: &HostRuntime, reply: &Reply, found: &mut Found) {
+    if found.is_wanted {
+        found.fault_files = match reply.fault_files() {
+            Some(lines) => lines.to_string(rt.alloc()).ok(),
+            None => None,
+        };
+    }
+}
+
+// Tells the reply to a job, and puts its files into their places.
+fn end_noting<T: Write>(
+    rt: &HostRuntime,
+    job: &Job,
+    reply: Reply,
+    files: &JobFiles,
+    found: &mut Found,
+    text: &mut T,
+) -> Ending {
+    note_faults(rt, &reply, found);
+    end(rt, job, reply, files, text)
+}
+
+// Does a job on all bytes of its image, and ends it.
+fn do_on_bytes<T: Write>(
+    rt: &HostRuntime,
+    job: &Job,
+    opened: &mut Opened,
+    found: &mut Found,
+    text: &mut T,
+) -> Result<Ending, Stop> {
+    if opened.files.has_no_free_place(rt) {
+        return Err(Stop::from(Refusal::Exists));
+    }
+    let reply = reply_of_bytes(rt, job, &mut opened.inputs);
+    Ok(end_noting(rt, job, reply, &opened.files, found, text))
+}
+
+// Looks at a volume, and tells what it holds. The bytes of a file that are told are no words of the
+// program's.
+fn look_job<T: Write>(
+    rt: &HostRuntime,
+    job: &Job,
+    look: &Look,
+    opened: &mut Opened,
+    found: &mut Found,
+    text: &mut T,
+) -> Result<Ending, Stop> {
+    if opened.files.has_no_free_place(rt) {
+        return Err(Stop::from(Refusal::Exists));
+    }
+    let reply = reply_of_look(rt, job, look, &mut opened.inputs);
+    let ending = end_noting(rt, job, reply, &opened.files, found, text);
+    found.is_content = ending.status == 0 && matches!(look, Look::Read { to_file: false, .. });
+    Ok(ending)
+}
+
+// Changes a volume, in its image's own file or in another, and ends the job.
+fn change_job<T: Write>(
+    rt: &HostRuntime,
+    job: &Job,
+    change: &Change,
+    opened: &mut Opened,
+    found: &mut Found,
+    text: &mut T,
+) -> Result<Ending, Stop> {
+    if !job.output.is_in_place() {
+        return do_on_bytes(rt, job, opened, found, text);
+    }
+    let mut certificate = opened.files.certificate_output(rt);
+    match change_in_place(rt, job, change, &opened.inputs, &mut certificate) {
+        Ok(outcome) => Ok(end_in_place(outcome, certificate, text)),
+        Err(stop) => {
+            certificate.discard();
+            Err(stop)
+        }
+    }
+}
+
+// Does what is asked of the volume of an image, and ends the job.
+fn do_on_volume<T: Write>(
+    rt: &HostRuntime,
+    job: &Job,
+    ask: &VolumeAsk,
+    opened: &mut Opened,
+    found: &mut Found,
+    text: &mut T,
+) -> Result<Ending, Stop> {
+    match ask {
+        VolumeAsk::Look(look) => look_job(rt, job, look, opened, found, text),
+        VolumeAsk::Extract(options) => extract_job(rt, job, *options, opened, text),
+        VolumeAsk::Add(options) => {
+            warn(rt, &job.input.reading, &mut opened.inputs, found);
+            add_job(rt, job, options, opened, text)
+        }
+        VolumeAsk::Change(change) => {
+            warn(rt, &job.input.reading, &mut opened.inputs, found);
+            change_job(rt, job, change, opened, found, text)
+        }
+    }
+}
+
+// Does the job that the words ask for, by what that is: here alone it is told apart. The files of
+// one that has an image are opened first, and what the words leave to the images is put into it.
 fn run_stages<T: Write>(
     rt: &HostRuntime,
     asked: &Asked<'_>,
     found: &mut Found,
     text: &mut T,
 ) -> Result<Ending, Stop> {
-    let first = job_with(rt, asked, UNSETTLED, text)?;
-    if let Ask::Survey { form } = &first.ask {
-        return survey_job(rt, &first, *form, found.is_wanted, text);
-    }
-    if let Ask::Create { options, .. } = &first.ask {
-        return create_job(rt, &first, options, found, text);
-    }
-    let files = files_of(rt, &first, found)?;
-    let mut inputs = open_inputs(rt, asked.left_open(), &first, &files, found)?;
-    let settled = settled_job(rt, asked, &first, &files, &mut inputs, found, text)?;
-    let job = match &settled {
-        Some(job) => job,
-        None => &first,
+    let mut job = asked_job(rt, asked, text)?;
+    let is_of_containers = match &job.ask {
+        Ask::Survey(form) => {
+            return survey_job(rt, &job.input.image, *form, found.is_wanted, text);
+        }
+        Ask::Create(options) => return create_job(rt, &job, options, found, text),
+        Ask::Wrap(_) | Ask::Unwrap => true,
+        Ask::Identify | Ask::Convert { .. } | Ask::Volume(_) => false,
     };
-    finish_job(rt, job, &files, &mut inputs, found, text)
-}
-
-// Notes the files of faults that an answer keeps, where it is to be explained.
-fn note_faults(rt: &HostRuntime, done: &Done, found: &mut Found) {
-    if found.is_wanted {
-        found.fault_files = fault_files(rt, done);
-    }
-}
-
-// The job done, its files ended and its answer told.
-fn finish_job<T: Write>(
-    rt: &HostRuntime,
-    job: &Job,
-    files: &JobFiles<'_>,
-    inputs: &mut Inputs,
-    found: &mut Found,
-    text: &mut T,
-) -> Result<Ending, Stop> {
-    if extracts(job) {
-        return extract_job(rt, job, inputs, text);
-    }
-    if files.has_no_free_place(rt) {
-        return Err(Stop::Refused(Refusal::Exists));
-    }
-    if adds_files(job) {
-        return add_job(rt, job, files, inputs, text);
-    }
-    let mut outputs = Outputs::of(rt, files);
-    match do_job(rt, job, inputs, &mut outputs.certificate) {
-        Ok(done) => {
-            note_faults(rt, &done, found);
-            let ending = end(rt, done, outputs, text);
-            found.is_content = ending.status == 0 && is_content(job);
-            Ok(ending)
-        }
-        Err(stop) => {
-            outputs.discard();
-            Err(stop)
-        }
+    let mut opened = Opened::of(rt, &job, is_of_containers, found)?;
+    opened.settle(&mut job.input, found);
+    match &job.ask {
+        Ask::Volume(ask) => do_on_volume(rt, &job, ask, &mut opened, found, text),
+        _ => do_on_bytes(rt, &job, &mut opened, found, text),
     }
 }

@@ -5,14 +5,12 @@ ghost use Rattle.shop_replies.specs.Reading.{IsReadFailure};
 
 use crate::words::WORDS_REFUSED;
 use a2_media::FileError;
+use image_settling::Unsettled;
 use shop_files::{Clash, Unwritten};
-use shop_jobs::{Ask, Job, Look};
+use shop_jobs::Beside;
 use shop_replies::{FAILED, Failure, Refusal, Reply, Side, written};
 use std::alloc::{AllocError, AllocFailed};
 use std::io::{self, ErrorKind, Write};
-
-/// The status of a refused job.
-const REFUSED: u8 = 3;
 
 /// Why a job is not done.
 #[derive(Clone, Copy)]
@@ -22,35 +20,13 @@ pub enum Stop {
     /// Two roles of the job have one file, and one of them is written; or its output file is in the
     /// folder whose files it adds.
     Clash(Clash),
-    /// The job is refused by its words or by the file of its image.
-    Refused(Refusal),
-    /// A file could not be read, or there was no memory.
-    Failed(Failure),
-    /// No way to read the image is better than all others.
-    Ambiguous,
-    /// There is no volume in the image.
-    Unknown,
-    /// One of the two images of a comparison could not be read.
-    FailedOf(Side, Failure),
-    /// One of them is in no container that can be read.
-    RefusedOf(Side, Refusal),
-    /// No way to read one of them is better than all others.
-    AmbiguousOf(Side),
-    /// There is no volume in one of them.
-    UnknownOf(Side),
+    /// The job is refused by its words or by a file; where it compares two images, by this one.
+    Refused(Refusal, Option<Side>),
+    /// A file could not be read, or there was no memory; where two images are compared, for this
+    /// one.
+    Failed(Failure, Option<Side>),
     /// A file can't be written, so nothing was done.
     Unwritten(Unwritten),
-}
-
-// Whether a job compares its image with another.
-fn compares(job: &Job) -> bool {
-    matches!(
-        job.ask,
-        Ask::Look {
-            look: Look::Compare { .. },
-            ..
-        }
-    )
 }
 
 /// Why a call of the system failed: for want of memory exactly where the system says so,
@@ -67,36 +43,34 @@ pub fn failure_of(error: &io::Error) -> Failure
     }
 }
 
+// A reply, which says of which of two images it is where it is of one.
+fn of_side(reply: Reply, side: Option<Side>) -> Reply {
+    match side {
+        Some(side) => reply.of_image(side),
+        None => reply,
+    }
+}
+
 impl Stop {
     /// Tells why, and answers the status.
     pub fn tell<T: Write>(self, text: &mut T) -> u8 {
         match self {
             Stop::Told(status) => status,
             Stop::Clash(clash) => written(clash.line(), WORDS_REFUSED, text),
-            Stop::Refused(refusal) => Reply::refused(refusal).tell(text),
-            Stop::Failed(failure) => Reply::failed(failure).tell(text),
-            Stop::Ambiguous => written(b"REFUSED Ambiguous\n", REFUSED, text),
-            Stop::Unknown => written(b"REFUSED Unknown\n", REFUSED, text),
-            Stop::FailedOf(side, failure) => Reply::failed(failure).of_image(side).tell(text),
-            Stop::RefusedOf(side, refusal) => Reply::refused_of(side, refusal).tell(text),
-            Stop::AmbiguousOf(Side::First) => written(b"REFUSED Ambiguous 1\n", REFUSED, text),
-            Stop::AmbiguousOf(Side::Second) => written(b"REFUSED Ambiguous 2\n", REFUSED, text),
-            Stop::UnknownOf(Side::First) => written(b"REFUSED Unknown 1\n", REFUSED, text),
-            Stop::UnknownOf(Side::Second) => written(b"REFUSED Unknown 2\n", REFUSED, text),
+            Stop::Refused(refusal, side) => of_side(Reply::refused(refusal), side).tell(text),
+            Stop::Failed(failure, side) => of_side(Reply::failed(failure), side).tell(text),
             Stop::Unwritten(_) => FAILED,
         }
     }
 
-    /// The same of one of the images of a job, where that compares two.
-    pub fn of_image(self, job: &Job, side: Side) -> Stop {
-        if !compares(job) {
+    /// The same of one of the images of a job, where another stands beside it.
+    pub fn of_image(self, beside: &Beside, side: Side) -> Stop {
+        if !matches!(beside, Beside::Image { .. }) {
             return self;
         }
         match self {
-            Stop::Failed(failure) => Stop::FailedOf(side, failure),
-            Stop::Refused(refusal) => Stop::RefusedOf(side, refusal),
-            Stop::Ambiguous => Stop::AmbiguousOf(side),
-            Stop::Unknown => Stop::UnknownOf(side),
+            Stop::Refused(refusal, _) => Stop::Refused(refusal, Some(side)),
+            Stop::Failed(failure, _) => Stop::Failed(failure, Some(side)),
             stop => stop,
         }
     }
@@ -110,30 +84,45 @@ impl Stop {
     }
 }
 
-impl From<FileError> for Stop {
-    fn from(error: FileError) -> Stop {
-        match error {
-            FileError::InPlace => Stop::Refused(Refusal::InPlace),
-            FileError::Io => Stop::Failed(Failure::Input),
-            FileError::Length => Stop::Refused(Refusal::Length),
-        }
+impl From<Refusal> for Stop {
+    fn from(refusal: Refusal) -> Stop {
+        Stop::Refused(refusal, None)
     }
 }
 
 impl From<Failure> for Stop {
     fn from(failure: Failure) -> Stop {
-        Stop::Failed(failure)
+        Stop::Failed(failure, None)
+    }
+}
+
+impl From<FileError> for Stop {
+    fn from(error: FileError) -> Stop {
+        match error {
+            FileError::InPlace => Stop::from(Refusal::InPlace),
+            FileError::Io => Stop::from(Failure::Input),
+            FileError::Length => Stop::from(Refusal::Length),
+        }
+    }
+}
+
+impl From<Unsettled> for Stop {
+    fn from(unsettled: Unsettled) -> Stop {
+        match unsettled {
+            Unsettled::Refused(refusal) => Stop::from(refusal),
+            Unsettled::Memory => Stop::from(Failure::Memory),
+        }
     }
 }
 
 impl From<AllocError> for Stop {
     fn from(_: AllocError) -> Stop {
-        Stop::Failed(Failure::Memory)
+        Stop::from(Failure::Memory)
     }
 }
 
 impl<T: Drop> From<AllocFailed<T>> for Stop {
     fn from(_: AllocFailed<T>) -> Stop {
-        Stop::Failed(Failure::Memory)
+        Stop::from(Failure::Memory)
     }
 }

@@ -4,7 +4,7 @@ use crate::walking::{Finder, Kind, Root};
 use disk_container::MOST_BYTES;
 use image_survey::{FileId, ImageVerdict, Survey, SurveyError, Surveyed, survey_image};
 use shop_files::{Ending, Foreign, ImageUse, OpenImage, Unwritten, foreign_of, tell_foreign};
-use shop_jobs::{Job, SurveyForm, is_on_standard_input};
+use shop_jobs::{Source, SurveyForm};
 use shop_replies::Failure;
 use std::alloc::AllocError;
 use std::fs::{self, Metadata};
@@ -101,7 +101,7 @@ impl Surveying<'_> {
     // beginning of an answer, and nothing else.
     fn stop(&self, error: SurveyError) -> Stop {
         match error {
-            SurveyError::Memory if !self.has_told => Stop::Failed(Failure::Memory),
+            SurveyError::Memory if !self.has_told => Stop::from(Failure::Memory),
             SurveyError::Memory | SurveyError::Output => Stop::Unwritten(Unwritten::Text),
         }
     }
@@ -230,7 +230,7 @@ fn input_of(rt: &HostRuntime) -> Result<Vec<u8>, Stop> {
     let mut list = Vec::new(rt.alloc());
     match rt.stdin().read_to_end(&mut list) {
         Ok(_) => Ok(list),
-        Err(error) => Err(Stop::Failed(failure_of(&error))),
+        Err(error) => Err(Stop::from(failure_of(&error))),
     }
 }
 
@@ -275,11 +275,11 @@ fn survey_path<T: Write>(
     surveying.tell(path, file, &found, text)
 }
 
-/// Tells of the files that a job looks at, then which images are the same and how many files there
-/// are.
+/// Tells of the files that a survey looks at, those of a path or those that standard input names,
+/// then which images are the same and how many files there are.
 pub fn survey_job<T: Write>(
     rt: &HostRuntime,
-    job: &Job,
+    image: &Source,
     form: SurveyForm,
     explains: bool,
     text: &mut T,
@@ -291,10 +291,10 @@ pub fn survey_job<T: Write>(
         has_told: false,
         passed: 0,
     };
-    if is_on_standard_input(job) {
-        survey_list(&mut surveying, text)?;
-    } else {
-        survey_path(&mut surveying, job.image.as_str(), text)?;
+    match image {
+        Source::Nothing => {}
+        Source::StandardInput => survey_list(&mut surveying, text)?,
+        Source::File(path) => survey_path(&mut surveying, path.as_str(), text)?,
     }
     let Surveying { survey, passed, .. } = surveying;
     Ok(Ending::written(survey.end(rt.alloc(), passed, text)))

@@ -55,7 +55,7 @@ fn kind_of(found: &Metadata) -> Kind {
 // What is taken where the system fails: want of memory ends the walk.
 fn unread(error: &io::Error) -> Result<Kind, Stop> {
     match failure_of(error) {
-        Failure::Memory => Err(Stop::Failed(Failure::Memory)),
+        Failure::Memory => Err(Stop::from(Failure::Memory)),
         _ => Ok(Kind::Unread),
     }
 }
@@ -123,7 +123,7 @@ impl Root<'_, '_> {
         let place = self.place_of(folder)?;
         let names = match fs::read_dir(self.rt, place.as_str()) {
             Ok(names) => names,
-            Err(error) if folder.is_empty() => return Err(Stop::Failed(failure_of(&error))),
+            Err(error) if folder.is_empty() => return Err(Stop::from(failure_of(&error))),
             Err(error) => {
                 let kind = unread(&error)?;
                 return finder.take(folder.to_string(self.rt.alloc())?, kind);

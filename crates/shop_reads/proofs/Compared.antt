@@ -17,8 +17,8 @@ use Rattle.volume_compare.specs.declared.error.CompareError.{CompareError}
 use Rattle.volume_compare.specs.declared.error.CompareError.TheVariants as compares
 use Rattle.volume_compare.specs.declared.finding.Side.TheVariants as volumes
 use Rattle.volume_compare.specs.declared.report.Comparison.{Comparison}
-use Rattle.shop_jobs.specs.declared.job.CompareOptions.{CompareOptions}
-use Rattle.shop_jobs.specs.declared.job.FileSystem.{FileSystem}
+use Rattle.shop_jobs.specs.declared.looks.CompareOptions.{CompareOptions}
+use Rattle.shop_jobs.specs.declared.input.FileSystem.{FileSystem}
 use Rattle.shop_replies.specs.declared.refusal.Side.TheVariants.{Second}
 use Rattle.shop_replies.specs.declared.reply.Reply.{Reply}
 use Rattle.shop_replies.specs.declared.reply.Status.{Status}
@@ -43,15 +43,15 @@ refuses-take file_system order front bytes images.Memory taken refuses = refuses
 refuses-take file_system order front bytes images.Number taken refuses = absurd refuses
 refuses-take file_system order front bytes images.NoSector taken refuses = absurd refuses
 
-pub compared-take : (options : CompareOptions) (front bytes : List ℕ) (form : PlaceForm) (files : FileMeaning) (format : Meaning) (device : DeviceState) (reply : Reply)
-    → front ≡ take (most_bytes options.other_order + 1) bytes → IsCompared options front form files format device reply
-    → IsCompared options bytes form files format device reply
-compared-take options front bytes form files format device reply taken is = elim is [
-  | inl refused ↦ inl (refused.0, refuses-take (file_system_of form) options.other_order front bytes refused.0 taken refused.1, refused.2)
+pub compared-take : (options : CompareOptions) (order : Order) (front bytes : List ℕ) (form : PlaceForm) (files : FileMeaning) (format : Meaning) (device : DeviceState) (reply : Reply)
+    → front ≡ take (most_bytes order + 1) bytes → IsCompared options order front form files format device reply
+    → IsCompared options order bytes form files format device reply
+compared-take options order front bytes form files format device reply taken is = elim is [
+  | inl refused ↦ inl (refused.0, refuses-take (file_system_of form) order front bytes refused.0 taken refused.1, refused.2)
   | inr told ↦
       let With : DeviceState → Type 0 = λ other. IsComparedWith options form files format device other reply in
-      inr (OfVolume-whole (file_system_of form) options.other_order bytes With
-      (subst (λ (xs : List ℕ). OfVolume (file_system_of form) options.other_order xs With) taken told))
+      inr (OfVolume-whole (file_system_of form) order bytes With
+      (subst (λ (xs : List ℕ). OfVolume (file_system_of form) order xs With) taken told))
 ]
 
 -- ---- no image
@@ -68,9 +68,9 @@ error_not_made (compares.Device side) made = false≢true made
 error_not_made (compares.TooLarge side) made = false≢true made
 error_not_made compares.Memory made = false≢true made
 
-pub compared_not_made : (options : CompareOptions) (bytes : List ℕ) (form : PlaceForm) (files : FileMeaning) (format : Meaning) (device : DeviceState) (reply : Reply)
-    → IsCompared options bytes form files format device reply → ¬ IsMade reply
-compared_not_made options bytes form files format device reply is made = elim is [
+pub compared_not_made : (options : CompareOptions) (order : Order) (bytes : List ℕ) (form : PlaceForm) (files : FileMeaning) (format : Meaning) (device : DeviceState) (reply : Reply)
+    → IsCompared options order bytes form files format device reply → ¬ IsMade reply
+compared_not_made options order bytes form files format device reply is made = elim is [
   | inl refused ↦ image_refused refused.0 (subst (λ (r : Reply). IsMade r) refused.2 made)
   | inr (takes, image, of, compared) ↦ elim compared.told [
     | inl told ↦ told_not_made (comparison_status told.0.equal) reply told.2.0 made
@@ -132,22 +132,22 @@ pub other_honest : (file_system : FileSystem) (order : Order) (bytes : List ℕ)
     → OfVolume file_system order bytes (λ state. other ≡ state) → IsTrue other.honest
 other_honest file_system order bytes other of = subst (λ (d : DeviceState). IsTrue d.honest) (sym of.3) refl
 
-pub compared_told : (options : CompareOptions) (bytes : List ℕ) (form : PlaceForm) (files : FileMeaning) (format : Meaning) (device now other other_now : DeviceState)
-    (reply : Reply) (file_system : FileSystem) → file_system ≡ file_system_of form → OfVolume file_system options.other_order bytes (λ state. other ≡ state)
+pub compared_told : (options : CompareOptions) (order : Order) (bytes : List ℕ) (form : PlaceForm) (files : FileMeaning) (format : Meaning) (device now other other_now : DeviceState)
+    (reply : Reply) (file_system : FileSystem) → file_system ≡ file_system_of form → OfVolume file_system order bytes (λ state. other ≡ state)
     → IsTrue device.honest → (FailedBetween device now → LacksUnit device)
     → ((comparison : Comparison) × IsComparison options.all form files format options.most device now other other_now comparison × TellsComparison comparison reply)
     ⊎ ((error : CompareError) × IsRefused form files format options.most device now other other_now error × (reply ≡ error_reply error))
-    → IsCompared options bytes form files format device reply
-compared_told options bytes form files format device now other other_now reply file_system same of honest lack told =
+    → IsCompared options order bytes form files format device reply
+compared_told options order bytes form files format device now other other_now reply file_system same of honest lack told =
     let quiet : other.read_failures ≡ Some 0 = subst (λ (d : DeviceState). d.read_failures ≡ Some 0) (sym of.3) refl in
     let with : IsComparedWith options form files format device other reply = record {
       now = now;
       other_now = other_now;
       lacks = lack;
       unreadable = lacking_where_quiet device now honest;
-      other_unreadable = lacking_where_quiet other other_now (other_honest file_system options.other_order bytes other of) quiet;
+      other_unreadable = lacking_where_quiet other other_now (other_honest file_system order bytes other of) quiet;
       told = told;
     } in
     let With : DeviceState → Type 0 = λ d. IsComparedWith options form files format device d reply in
-    let of_other : OfVolume file_system options.other_order bytes With = (of.0, of.1, of.2, subst With of.3 with) in
-    inr (subst (λ (fs : FileSystem). OfVolume fs options.other_order bytes With) same of_other)
+    let of_other : OfVolume file_system order bytes With = (of.0, of.1, of.2, subst With of.3 with) in
+    inr (subst (λ (fs : FileSystem). OfVolume fs order bytes With) same of_other)

@@ -12,12 +12,13 @@ use Rattle.dos_format.specs.Dos.{dos_meaning}
 use Rattle.file_listings.specs.DosText.{IsListingText}
 use Rattle.file_listings.specs.lemmas.DosListing.{dos_listing_text, no_dos_listing}
 use Rattle.shop_jobs.specs.Job.{Catalog}
-use Rattle.shop_jobs.specs.declared.job.FileSystem.{FileSystem}
-use Rattle.shop_jobs.specs.declared.job.FileSystem.TheVariants.{Dos}
-use Rattle.shop_jobs.specs.declared.job.VolumeOptions.{VolumeOptions}
+use Rattle.shop_jobs.specs.declared.input.FileSystem.{FileSystem}
+use Rattle.shop_jobs.specs.declared.input.FileSystem.TheVariants.{Dos}
+use Rattle.shop_jobs.specs.declared.input.VolumeOptions.{VolumeOptions}
 use Rattle.shop_replies.specs.declared.reply.Reply.{Reply}
 use Rattle.shop_replies.specs.Volume.{device_of}
 use Rattle.shop_reads.specs.CatalogReply.{IsListed}
+use Rattle.shop_reads.specs.Extra.{ExtraView}
 use Rattle.shop_reads.specs.Look.{IsLookReply, shown_by}
 use Rattle.shop_reads.specs.DosCatalogReply.{IsDosCatalogReply, IsDosListed}
 use Rattle.shop_volumes.specs.VolumeReply.{IsVolumeReply}
@@ -38,12 +39,12 @@ listed-dos data_disk reserved device reply size is = elim is [
   | inr (inr (inr memory)) ↦ inr (inr (inr memory))
 ]
 
-abbrev IsCatalogTold : VolumeOptions → List ℕ → List ℕ → Reply → Type 0
-IsCatalogTold volume image bytes reply = IsVolumeReply volume None image (λ (reserved : List Bool). IsLookReply Catalog bytes (shown_by volume reserved)) reply
+abbrev IsCatalogTold : VolumeOptions → List ℕ → ExtraView → Reply → Type 0
+IsCatalogTold volume image extra reply = IsVolumeReply volume None image (λ (reserved : List Bool). IsLookReply Catalog extra (shown_by volume reserved)) reply
 
-reply-dos : (order : Order) (data_disk : Bool) (image bytes : List ℕ) (reply : Reply)
-    → IsCatalogTold (record { file_system = Dos; order = order; data_disk = data_disk }) image bytes reply → IsDosCatalogReply order image reply
-reply-dos order data_disk image bytes reply is = elim is [
+reply-dos : (order : Order) (data_disk : Bool) (image : List ℕ) (extra : ExtraView) (reply : Reply)
+    → IsCatalogTold (record { file_system = Dos; order = order; data_disk = data_disk }) image extra reply → IsDosCatalogReply order image reply
+reply-dos order data_disk image extra reply is = elim is [
   | inl (inl refused) ↦ absurd (refused.1 tt)
   | inl (inr (inl long)) ↦ inl (long.0, long.2)
   | inl (inr (inr memory)) ↦ inr (inl memory)
@@ -55,9 +56,9 @@ reply-dos order data_disk image bytes reply is = elim is [
   ))
 ]
 
-pub dos_catalog_listed : (volume : VolumeOptions) (image bytes : List ℕ) (reply : Reply) → volume.file_system ≡ Dos
-    → IsVolumeReply volume None image (λ (reserved : List Bool). IsLookReply Catalog bytes (shown_by volume reserved)) reply → IsDosCatalogReply volume.order image reply
-dos_catalog_listed volume image bytes reply dos is =
+pub dos_catalog_listed : (volume : VolumeOptions) (image : List ℕ) (extra : ExtraView) (reply : Reply) → volume.file_system ≡ Dos
+    → IsVolumeReply volume None image (λ (reserved : List Bool). IsLookReply Catalog extra (shown_by volume reserved)) reply → IsDosCatalogReply volume.order image reply
+dos_catalog_listed volume image extra reply dos is =
     let same : volume ≡ record { file_system = Dos; order = volume.order; data_disk = volume.data_disk } =
     ap (λ (system : FileSystem). record { file_system = system; order = volume.order; data_disk = volume.data_disk }) dos in
-    reply-dos volume.order volume.data_disk image bytes reply (subst (λ (v : VolumeOptions). IsCatalogTold v image bytes reply) same is)
+    reply-dos volume.order volume.data_disk image extra reply (subst (λ (v : VolumeOptions). IsCatalogTold v image extra reply) same is)

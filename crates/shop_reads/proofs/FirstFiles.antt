@@ -23,7 +23,7 @@ use Rattle.row_text.specs.declared.row.Digested.TheVariants.{Untold, Missing, Of
 use Rattle.file_listings.specs.Known.{FileFacts, FileParts, facts_with, no_facts}
 use Rattle.file_listings.specs.Known as known
 use Rattle.file_listings.specs.declared.facts.Facts.{Facts}
-use Rattle.shop_jobs.specs.declared.job.ListOptions.{ListOptions}
+use Rattle.shop_jobs.specs.declared.looks.ListOptions.{ListOptions}
 use Rattle.volume_compare.specs.Contents.{IsUnread, SeenVolume, volume_in}
 use Rattle.volume_compare.proofs.Wider.{wider_unread}
 use Rattle.shop_reads.specs.EntriesReply.{AddressIs, AreFacts, AreFactsUpTo, AreTextFacts, PartsAre, DigestIs, IsAddress, IsCompleteUpTo, IsDigest, ReadTooMuch, WantsNothing, bytes_read, bytes_told, digest_by, is_missing, lacks_digest, no_digest, parts_found, unread_facts, wants_address, wants_digest, wants_places}

@@ -4,7 +4,7 @@ use Rattle.std.specs.Prelude.{◌⊎◌, IsTrue, Option}
 use Rattle.a2_device.specs.Device.{DeviceState}
 use Rattle.file_cmds.specs.lemmas.Reading.{lacking_where_quiet, lacks_where_quiet}
 use Rattle.shop_jobs.specs.Job.{LookView}
-use Rattle.shop_jobs.specs.declared.job.VolumeOptions.{VolumeOptions}
+use Rattle.shop_jobs.specs.declared.input.VolumeOptions.{VolumeOptions}
 use Rattle.shop_replies.specs.declared.refusal.Failure.TheVariants as failures
 use Rattle.shop_replies.specs.declared.reply.Reply.{Reply}
 use Rattle.shop_replies.specs.Reply.{failed}

@@ -8,9 +8,9 @@ use Rattle.file_cmds.specs.declared.error.CmdError.{CmdError}
 use Rattle.file_cmds.specs.declared.error.CmdError.TheVariants as commands
 use Rattle.file_cmds.specs.lemmas.Reading.{lacking_where_quiet, one_reading, read_twice}
 use Rattle.file_listings.specs.Known.{FileFacts, no_facts}
-use Rattle.shop_jobs.specs.declared.job.ListForm.{ListForm}
-use Rattle.shop_jobs.specs.declared.job.ListForm.TheVariants as forms
-use Rattle.shop_jobs.specs.declared.job.ListOptions.{ListOptions}
+use Rattle.shop_jobs.specs.declared.looks.ListForm.{ListForm}
+use Rattle.shop_jobs.specs.declared.looks.ListForm.TheVariants as forms
+use Rattle.shop_jobs.specs.declared.looks.ListOptions.{ListOptions}
 use Rattle.shop_replies.specs.declared.reply.Reply.{Reply}
 use Rattle.volume_compare.specs.Contents.{SeenVolume}
 use Rattle.shop_reads.specs.EntriesReply.{AddressIs, AreFacts, AreFactsUpTo, DigestIs, LacksUnitOf, PartsAre, ReadTooMuch, is_json, is_names, reads_files, wants_address, wants_places}

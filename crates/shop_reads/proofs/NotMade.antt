@@ -1,6 +1,6 @@
 -- Which looks make something for a file.
-use Rattle.std.proofs.Common.{ℕ, Bool, true, false, List, [], ◌∷◌, None, Some, inl, inr, refl}
-use Rattle.std.specs.Prelude.{IsSome}
+use Rattle.std.proofs.Common.{ℕ, Bool, true, false, List, [], ◌∷◌, inl, inr, subst}
+use Rattle.std.proofs.lemmas.Bool.{false≢true}
 use Rattle.a2_device.specs.Device.{DeviceState}
 use Rattle.a2_device.specs.declared.part.Part.{Part}
 use Rattle.vol_layout.specs.declared.form.PlaceForm.{PlaceForm}
@@ -12,8 +12,7 @@ use Rattle.file_formats.specs.FileNames.{FileNameView}
 use Rattle.shop_reads.specs.FileNames.{named_by}
 use Rattle.file_formats.specs.Files.{FileMeaning}
 use Rattle.shop_jobs.specs.Job.{LookView, Catalog, Entries, Check, Compare, Map, Read, Plan, Verify}
-use Rattle.shop_jobs.specs.Paths.{new_file_of}
-use Rattle.shop_jobs.specs.declared.job.ReadForm.{ReadForm}
+use Rattle.shop_jobs.specs.declared.looks.ReadForm.{ReadForm}
 use Rattle.shop_replies.specs.declared.refusal.Refusal.TheVariants as refusals
 use Rattle.shop_replies.specs.declared.refusal.Failure.TheVariants as failures
 use Rattle.shop_replies.specs.declared.reply.Reply.{Reply}
@@ -21,12 +20,13 @@ use Rattle.shop_replies.specs.declared.reply.Status.TheVariants.{Done, Wrong}
 use Rattle.shop_replies.specs.Reply.{IsMade, IsMadeReply}
 use Rattle.shop_replies.proofs.NotMade.{failed_not_made, refused_not_made, told_not_made}
 use Rattle.shop_volumes.proofs.NotMade.{unopened_told_not_made}
-use Rattle.shop_jobs.specs.declared.job.ListOptions.{ListOptions}
+use Rattle.shop_jobs.specs.declared.looks.ListOptions.{ListOptions}
 use Rattle.shop_reads.specs.BodiesReply.{IsCheckedWhole, TellsBodies, unread_parts}
 use Rattle.shop_reads.specs.CatalogReply.{IsListed}
 use Rattle.shop_reads.specs.EntriesReply.{IsEntriesTold, list_status}
 use Rattle.shop_reads.specs.CheckReply.{IsChecked}
-use Rattle.shop_reads.specs.Look.{IsLookReply, ShownMeaning}
+use Rattle.shop_reads.specs.Extra.{ExtraView, FileBytes, ImageBytes, given_bytes}
+use Rattle.shop_reads.specs.Look.{GoesToFile, IsLookReply, ShownMeaning}
 use Rattle.shop_reads.specs.MapReply.{IsMapped}
 use Rattle.shop_reads.specs.PlanReply.{IsPlanned}
 use Rattle.shop_reads.specs.PlanWords.{IsPlannedInWords}
@@ -135,7 +135,7 @@ entries_not_made options form files format device reply is made = elim is [
 ]
 
 read_not_made : (name : FileNameView) (form : ReadForm) (place : PlaceForm) (files : FileMeaning) (format : Meaning) (device : DeviceState) (reply : Reply)
-    → IsRead name form None place files format device reply → ¬ IsMade reply
+    → IsRead name form false place files format device reply → ¬ IsMade reply
 read_not_made name form place files format device reply is made = elim is [
   | inl content ↦ told_not_made Done reply content.0 made
   | inr (inl refused) ↦ refused_not_made refusals.Form reply refused.0 made
@@ -146,9 +146,9 @@ read_not_made name form place files format device reply is made = elim is [
 ]
 
 -- a read whose bytes go to a new file answers with them
-read_made : (name : FileNameView) (form : ReadForm) (path : List ℕ) (place : PlaceForm) (files : FileMeaning) (format : Meaning) (device : DeviceState) (reply : Reply)
-    → IsRead name form (Some path) place files format device reply → IsMade reply → IsMadeReply reply
-read_made name form path place files format device reply is made = elim is [
+read_made : (name : FileNameView) (form : ReadForm) (place : PlaceForm) (files : FileMeaning) (format : Meaning) (device : DeviceState) (reply : Reply)
+    → IsRead name form true place files format device reply → IsMade reply → IsMadeReply reply
+read_made name form place files format device reply is made = elim is [
   | inl content ↦ content.0
   | inr (inl refused) ↦ absurd (refused_not_made refusals.Form reply refused.0 made)
   | inr (inr (inl refused)) ↦ absurd (refused_not_made refusals.Check reply refused.0 made)
@@ -158,20 +158,23 @@ read_made name form path place files format device reply is made = elim is [
 ]
 
 -- a look that makes something has a new file for it, and answers with `OK`
-pub look_made : (look : LookView) (bytes : List ℕ) (format : ShownMeaning) (device : DeviceState) (reply : Reply) → IsLookReply look bytes format device reply
-    → IsMade reply → IsSome (new_file_of look) × IsMadeReply reply
-look_made Catalog bytes format device reply is made = absurd (listed_not_made format.form format.units device reply is made)
-look_made (Entries options) bytes format device reply is made = absurd (entries_not_made options format.form format.files format.units device reply is made)
-look_made (Check false) bytes format device reply is made = absurd (checked_not_made format.form format.units device reply is made)
-look_made (Check true) bytes format device reply is made = absurd (bodies_not_made format.form format.files format.units device reply is made)
-look_made Map bytes format device reply is made = absurd (mapped_not_made format.form format.units format.unreserved device reply is made)
-look_made (Compare other options) bytes format device reply is made =
-    absurd (compared_not_made options bytes format.form format.files format.units device reply is made)
-look_made (Read name form None) bytes format device reply is made =
+pub look_made : (look : LookView) (extra : ExtraView) (format : ShownMeaning) (device : DeviceState) (reply : Reply) → IsLookReply look extra format device reply
+    → IsMade reply → GoesToFile look × IsMadeReply reply
+look_made Catalog extra format device reply is made = absurd (listed_not_made format.form format.units device reply is made)
+look_made (Entries options) extra format device reply is made = absurd (entries_not_made options format.form format.files format.units device reply is made)
+look_made (Check false) extra format device reply is made = absurd (checked_not_made format.form format.units device reply is made)
+look_made (Check true) extra format device reply is made = absurd (bodies_not_made format.form format.files format.units device reply is made)
+look_made Map extra format device reply is made = absurd (mapped_not_made format.form format.units format.unreserved device reply is made)
+look_made (Compare options) (FileBytes bytes) format device reply is made =
+    absurd (false≢true (subst (λ (r : Reply). IsMade r) is made))
+look_made (Compare options) (ImageBytes order bytes) format device reply is made =
+    absurd (compared_not_made options order bytes format.form format.files format.units device reply is made)
+look_made (Read name form false) extra format device reply is made =
     absurd (read_not_made (named_by name) form format.form format.files format.units device reply is made)
-look_made (Read name form (Some path)) bytes format device reply is made =
-    (refl, read_made (named_by name) form path format.form format.files format.units device reply is made)
-look_made (Plan reclaim false) bytes format device reply is made = absurd (planned_not_made reclaim format.units device reply is made)
-look_made (Plan reclaim true) bytes format device reply is made =
+look_made (Read name form true) extra format device reply is made =
+    (tt, read_made (named_by name) form format.form format.files format.units device reply is made)
+look_made (Plan reclaim false) extra format device reply is made = absurd (planned_not_made reclaim format.units device reply is made)
+look_made (Plan reclaim true) extra format device reply is made =
     absurd (planned_in_words_not_made format.form format.files reclaim format.units device reply is made)
-look_made (Verify from reclaim) bytes format device reply is made = absurd (verified_not_made reclaim bytes format.units device reply is made)
+look_made (Verify reclaim) extra format device reply is made =
+    absurd (verified_not_made reclaim (given_bytes extra) format.units device reply is made)

@@ -1,6 +1,6 @@
 -- What is told of a listing and of a read that are refused.
 use Rattle.std.proofs.Common.{◌≡◌, ◌≢◌, ℕ, Bool, List, inl, inr, refl, subst, sym}
-use Rattle.std.specs.Prelude.{Option, Result, Ok, Some, None, true, Err, IsTrue}
+use Rattle.std.specs.Prelude.{Option, Result, Ok, Some, None, true, false, Err, IsTrue}
 use Rattle.a2_device.specs.Device.{DeviceState, OnlyReads}
 use Rattle.a2_device.specs.Reading.{unread}
 use Rattle.vol_layout.specs.declared.form.PlaceForm.{PlaceForm}
@@ -13,7 +13,7 @@ use Rattle.file_cmds.specs.Refusal.{told_device}
 use Rattle.file_cmds.specs.lemmas.Reading.{none_read, one_failed}
 use Rattle.shop_replies.specs.declared.reply.Reply.{Reply}
 use Rattle.file_listings.specs.DosText.{Text}
-use Rattle.shop_jobs.specs.declared.job.FileSystem.{FileSystem}
+use Rattle.shop_jobs.specs.declared.input.FileSystem.{FileSystem}
 use Rattle.shop_replies.specs.Volume.{form_of}
 use Rattle.vol_layout.specs.declared.reserve_error.ReserveError.{ReserveError}
 use Rattle.vol_layout.specs.declared.reserve_error.ReserveError.TheVariants as reserves
@@ -22,8 +22,8 @@ use Rattle.shop_reads.specs.GoingOn.{Going, Ends, TellsFile, TellsUnit, FailsFor
 use Rattle.file_cmds.specs.Read.{HasNoFile, IsUnreadable}
 use Rattle.file_cmds.specs.declared.error.CmdError.{CmdError}
 use Rattle.file_cmds.specs.declared.error.CmdError.TheVariants as commands
-use Rattle.shop_jobs.specs.declared.job.ListOptions.{ListOptions}
-use Rattle.shop_jobs.specs.declared.job.ReadForm.{ReadForm}
+use Rattle.shop_jobs.specs.declared.looks.ListOptions.{ListOptions}
+use Rattle.shop_jobs.specs.declared.looks.ReadForm.{ReadForm}
 use Rattle.shop_reads.specs.CatalogReply.{IsListed}
 use Rattle.shop_reads.specs.EntriesReply.{IsEntriesTold}
 use Rattle.shop_reads.specs.ReadReply.{HandsContent, IsRead}
@@ -46,20 +46,20 @@ module _ (files : FileMeaning) (format : Meaning) (device : DeviceState) where
   not_told options form commands.Device found fault lack = inr (inr (inr (inl (refl, lack refl))))
   not_told options form commands.Memory found fault lack = inr (inr (inr (inr refl)))
 
-  pub not_read : (name : FileNameView) (form : ReadForm) (out : Option (List ℕ)) (place : PlaceForm) (error : CmdError)
+  pub not_read : (name : FileNameView) (form : ReadForm) (to_file : Bool) (place : PlaceForm) (error : CmdError)
       → (error ≡ commands.Check → IsUnreadable format files device.store name)
       → (error ≡ commands.NotFound → HasNoFile format files device.store name) → FailsForLack device (reply_to_refusal error)
-      → IsRead name form out place files format device (reply_to_refusal error)
-  not_read name form out place commands.Check broken missing lack = inr (inr (inl (refl, broken refl)))
-  not_read name form out place commands.NotFound broken missing lack = inr (inr (inr (inl (refl, missing refl))))
-  not_read name form out place commands.Device broken missing lack = inr (inr (inr (inr (inl (refl, lack refl)))))
-  not_read name form out place commands.Memory broken missing lack = inr (inr (inr (inr (inr refl))))
+      → IsRead name form to_file place files format device (reply_to_refusal error)
+  not_read name form to_file place commands.Check broken missing lack = inr (inr (inl (refl, broken refl)))
+  not_read name form to_file place commands.NotFound broken missing lack = inr (inr (inr (inl (refl, missing refl))))
+  not_read name form to_file place commands.Device broken missing lack = inr (inr (inr (inr (inl (refl, lack refl)))))
+  not_read name form to_file place commands.Memory broken missing lack = inr (inr (inr (inr (inr refl))))
 
 -- what is handed out is the content of which something is said
-pub hands : (out : Option (List ℕ)) (Is : List ℕ → Type 0) (content : List ℕ) (reply : Reply) → Is content
-    → HandsContent out (λ bytes. bytes ≡ content) reply → HandsContent out Is reply
-hands None Is content reply is told = (told.0, subst Is (sym told.1) is)
-hands (Some path) Is content reply is told = (told.0, subst Is (sym told.1) is)
+pub hands : (to_file : Bool) (Is : List ℕ → Type 0) (content : List ℕ) (reply : Reply) → Is content
+    → HandsContent to_file (λ bytes. bytes ≡ content) reply → HandsContent to_file Is reply
+hands false Is content reply is told = (told.0, subst Is (sym told.1) is)
+hands true Is content reply is told = (told.0, subst Is (sym told.1) is)
 
 -- where the reply to a refusal tells a failure of the device, a read failed
 pub refusal_failed : (T : Type 0) (old new : DeviceState) (error : CmdError) → IsTrue old.honest → OnlyReads (told_device {T = T} (Err error)) old new

@@ -1,6 +1,7 @@
 -- What is told of a volume whose files are compared with those of another image.
 use Rattle.std.specs.Prelude.{◌≡◌, ◌⊎◌, ℕ, Bool, List, Some, Contains, length, if◌then◌else◌}
 use Rattle.a2_device.specs.Device.{DeviceState}
+use Rattle.a2_device.specs.declared.order.Order.{Order}
 use Rattle.a2_image.specs.declared.error.ImageError.{ImageError}
 use Rattle.file_cmds.specs.ReadingOn.{FailedAt, FailedBetween}
 use Rattle.file_formats.specs.Files.{FileMeaning}
@@ -12,7 +13,7 @@ use Rattle.volume_compare.specs.declared.error.CompareError.TheVariants as compa
 use Rattle.volume_compare.specs.declared.finding.Side.{Side as VolumeSide}
 use Rattle.volume_compare.specs.declared.finding.Side.TheVariants as volumes
 use Rattle.volume_compare.specs.declared.report.Comparison.{Comparison}
-use Rattle.shop_jobs.specs.declared.job.CompareOptions.{CompareOptions}
+use Rattle.shop_jobs.specs.declared.looks.CompareOptions.{CompareOptions}
 use Rattle.shop_replies.specs.declared.refusal.Failure.TheVariants as failures
 use Rattle.shop_replies.specs.declared.refusal.Refusal.TheVariants as refusals
 use Rattle.shop_replies.specs.declared.refusal.Side.{Side}
@@ -23,6 +24,7 @@ use Rattle.shop_replies.specs.declared.reply.Status.TheVariants.{Done, Wrong}
 use Rattle.shop_replies.specs.declared.reply.Told.TheVariants as tells
 use Rattle.shop_replies.specs.Reply.{IsTold, failed, failed_of, of_image, refused_of, reply_to_image}
 use Rattle.shop_replies.specs.Volume.{LacksUnit, OfVolume, RefusesBytes}
+use Rattle.shop_reads.specs.Extra.{ExtraView, FileBytes, ImageBytes}
 use Rattle.shop_reads.specs.FileSystems.{file_system_of}
 
 -- the image whose volume is the first or the second
@@ -63,11 +65,19 @@ pub record IsComparedWith (options : CompareOptions) (form : PlaceForm) (files :
       ⊎ ((error : CompareError) × IsRefused form files format options.most device now other other_now error
       × (reply ≡ error_reply error))
 
--- The reply to `compare`, where another image has these bytes: why they are not taken as one; or what is told of the
--- files of the two volumes, or why these are not compared.
-abbrev pub IsCompared : CompareOptions → List ℕ → PlaceForm → FileMeaning → Meaning → DeviceState → Reply → Type 0
-IsCompared options bytes form files format device reply =
-    ((error : ImageError) × RefusesBytes (file_system_of form) options.other_order (length bytes) error
+-- The reply to `compare`, where another image in this order has these bytes: why they are not taken as one; or what is
+-- told of the files of the two volumes, or why these are not compared.
+abbrev pub IsCompared : CompareOptions → Order → List ℕ → PlaceForm → FileMeaning → Meaning → DeviceState → Reply
+    → Type 0
+IsCompared options order bytes form files format device reply =
+    ((error : ImageError) × RefusesBytes (file_system_of form) order (length bytes) error
     × (reply ≡ of_image Second (reply_to_image error)))
-    ⊎ OfVolume (file_system_of form) options.other_order bytes
+    ⊎ OfVolume (file_system_of form) order bytes
     (λ other. IsComparedWith options form files format device other reply)
+
+-- The same of what is read beside the image. Of bytes that are no image in a known order nothing is compared.
+abbrev pub IsComparedBeside : CompareOptions → ExtraView → PlaceForm → FileMeaning → Meaning → DeviceState → Reply
+    → Type 0
+IsComparedBeside options (ImageBytes order bytes) form files format device reply =
+    IsCompared options order bytes form files format device reply
+IsComparedBeside options (FileBytes bytes) form files format device reply = reply ≡ refused_of Second refusals.Unknown

@@ -4,7 +4,7 @@ use Rattle.a2_device.specs.declared.order.Order.{Order}
 use Rattle.a2_device.specs.Device.{DeviceState}
 use Rattle.file_formats.specs.Catalog.{HasNoCatalog}
 use Rattle.file_listings.specs.DosText.{IsListingText}
-use Rattle.shop_jobs.specs.declared.job.FileSystem.TheVariants.{Dos}
+use Rattle.shop_jobs.specs.declared.input.FileSystem.TheVariants.{Dos}
 use Rattle.shop_replies.specs.declared.refusal.Refusal.TheVariants as refusals
 use Rattle.shop_replies.specs.declared.refusal.Failure.TheVariants as failures
 use Rattle.shop_replies.specs.declared.reply.Reply.{Reply}

@@ -22,9 +22,9 @@ use Rattle.file_listings.specs.declared.facts.Facts.{Facts}
 use Rattle.file_listings.specs.declared.style.EntryStyle.{EntryStyle}
 use Rattle.file_listings.specs.declared.style.EntryStyle.TheVariants as styles
 use Rattle.file_listings.specs.declared.style.Style.TheVariants.{Entries}
-use Rattle.shop_jobs.specs.declared.job.ListForm.{ListForm}
-use Rattle.shop_jobs.specs.declared.job.ListForm.TheVariants as forms
-use Rattle.shop_jobs.specs.declared.job.ListOptions.{ListOptions}
+use Rattle.shop_jobs.specs.declared.looks.ListForm.{ListForm}
+use Rattle.shop_jobs.specs.declared.looks.ListForm.TheVariants as forms
+use Rattle.shop_jobs.specs.declared.looks.ListOptions.{ListOptions}
 use Rattle.shop_replies.specs.declared.refusal.Refusal.TheVariants as refusals
 use Rattle.shop_replies.specs.declared.refusal.Failure.TheVariants as failures
 use Rattle.shop_replies.specs.declared.reply.Reply.{Reply}

@@ -13,8 +13,8 @@ use Rattle.file_forms.specs.declared.form.FileForm.{FileForm}
 use Rattle.host_folders.specs.HostNames.{aux_in, name_bytes, type_in}
 use Rattle.vol_layout.specs.declared.form.PlaceForm.{PlaceForm}
 use Rattle.vol_layout.specs.declared.form.PlaceForm.TheVariants.{Sector, Block}
-use Rattle.shop_jobs.specs.declared.job.ReadForm.{ReadForm}
-use Rattle.shop_jobs.specs.declared.job.ReadForm.TheVariants as reads
+use Rattle.shop_jobs.specs.declared.looks.ReadForm.{ReadForm}
+use Rattle.shop_jobs.specs.declared.looks.ReadForm.TheVariants as reads
 use Rattle.vol_format.specs.Directory.{Listed}
 
 -- The name in an AppleSingle file: of DOS 3.3 the low seven bits of the bytes that count, of ProDOS what stands behind

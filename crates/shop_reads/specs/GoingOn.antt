@@ -3,7 +3,7 @@ use Rattle.std.specs.Prelude.{◌≢◌, ℕ, Bool, Contains, IsTrue, if◌then�
 use Rattle.a2_device.specs.Device.{DeviceState, OnlyReads}
 use Rattle.file_cmds.specs.ReadingOn.{FailedAt, FailedBetween, ReadsOn}
 use Rattle.shop_jobs.specs.Job.{LookView, Entries, Check, Compare}
-use Rattle.shop_jobs.specs.declared.job.ListOptions.{ListOptions}
+use Rattle.shop_jobs.specs.declared.looks.ListOptions.{ListOptions}
 use Rattle.shop_replies.specs.declared.refusal.Failure.TheVariants as failures
 use Rattle.shop_replies.specs.declared.reply.Reply.{Reply}
 use Rattle.shop_replies.specs.Reply.{failed}
@@ -26,7 +26,7 @@ check_going bodies = if bodies then TellsUnit else Ends
 abbrev pub going_of : LookView → Going
 going_of (Entries options) = list_going options
 going_of (Check bodies) = check_going bodies
-going_of (Compare other options) = TellsFile
+going_of (Compare options) = TellsFile
 going_of look = Ends
 
 -- Calls that read alone, some of which may have failed; a failure of the device is told only where one has.

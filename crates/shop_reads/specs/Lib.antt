@@ -24,3 +24,4 @@ pub mod Look
 pub mod ImageLook
 pub mod DosCatalogReply
 pub mod lemmas
+pub mod Extra

@@ -1,20 +1,21 @@
 -- What is told of a volume that is looked at.
-use Rattle.std.specs.Prelude.{ℕ, Bool, true, false, List, []}
+use Rattle.std.specs.Prelude.{Bool, true, false, List, []}
 use Rattle.a2_device.specs.Device.{DeviceState}
 use Rattle.vol_layout.specs.declared.form.PlaceForm.{PlaceForm}
 use Rattle.vol_format.specs.Meaning.{Meaning}
 use Rattle.file_formats.specs.Files.{FileMeaning}
 use Rattle.shop_jobs.specs.Job.{LookView, Catalog, Entries, Check, Map, Compare, Read, Plan, Verify}
-use Rattle.shop_jobs.specs.declared.job.FileSystem.{FileSystem}
-use Rattle.shop_jobs.specs.declared.job.VolumeOptions.{VolumeOptions}
+use Rattle.shop_jobs.specs.declared.input.FileSystem.{FileSystem}
+use Rattle.shop_jobs.specs.declared.input.VolumeOptions.{VolumeOptions}
 use Rattle.shop_replies.specs.declared.reply.Reply.{Reply}
 use Rattle.shop_replies.specs.Volume.{form_of, meaning_of}
 use Rattle.shop_volumes.specs.VolumeFiles.{files_of}
 use Rattle.shop_reads.specs.BodiesReply.{IsCheckedWhole}
 use Rattle.shop_reads.specs.CatalogReply.{IsListed}
 use Rattle.shop_reads.specs.CheckReply.{IsChecked}
-use Rattle.shop_reads.specs.CompareReply.{IsCompared}
+use Rattle.shop_reads.specs.CompareReply.{IsComparedBeside}
 use Rattle.shop_reads.specs.EntriesReply.{IsEntriesTold}
+use Rattle.shop_reads.specs.Extra.{ExtraView, given_bytes}
 use Rattle.shop_reads.specs.FileNames.{named_by}
 use Rattle.shop_reads.specs.MapReply.{IsMapped}
 use Rattle.shop_reads.specs.PlanReply.{IsPlanned}
@@ -43,20 +44,26 @@ shown_in file_system data_disk reserved = record {
 abbrev pub shown_by : VolumeOptions → List Bool → ShownMeaning
 shown_by volume reserved = shown_in volume.file_system volume.data_disk reserved
 
--- what is told of each look at the volume of a device, with these bytes of a file beside it: another image's, for
--- `compare`, or a certificate's, for `verify`
-abbrev pub IsLookReply : LookView → List ℕ → ShownMeaning → DeviceState → Reply → Type 0
-IsLookReply Catalog bytes format device reply = IsListed format.form format.units device reply
-IsLookReply (Entries options) bytes format device reply =
+-- the look reads a file of the volume, and its bytes go to a new file
+abbrev pub GoesToFile : LookView → Type 0
+GoesToFile (Read name form true) = Unit {0}
+GoesToFile look = ⊥
+
+-- what is told of each look at the volume of a device, with what is read beside it: another image, for `compare`, or a
+-- certificate, for `verify`
+abbrev pub IsLookReply : LookView → ExtraView → ShownMeaning → DeviceState → Reply → Type 0
+IsLookReply Catalog extra format device reply = IsListed format.form format.units device reply
+IsLookReply (Entries options) extra format device reply =
     IsEntriesTold options format.form format.files format.units device reply
-IsLookReply (Check false) bytes format device reply = IsChecked format.form format.units device reply
-IsLookReply (Check true) bytes format device reply = IsCheckedWhole format.form format.files format.units device reply
-IsLookReply Map bytes format device reply = IsMapped format.form format.units format.unreserved device reply
-IsLookReply (Compare other options) bytes format device reply =
-    IsCompared options bytes format.form format.files format.units device reply
-IsLookReply (Read name form out) bytes format device reply =
-    IsRead (named_by name) form out format.form format.files format.units device reply
-IsLookReply (Plan reclaim false) bytes format device reply = IsPlanned reclaim format.units device reply
-IsLookReply (Plan reclaim true) bytes format device reply =
+IsLookReply (Check false) extra format device reply = IsChecked format.form format.units device reply
+IsLookReply (Check true) extra format device reply = IsCheckedWhole format.form format.files format.units device reply
+IsLookReply Map extra format device reply = IsMapped format.form format.units format.unreserved device reply
+IsLookReply (Compare options) extra format device reply =
+    IsComparedBeside options extra format.form format.files format.units device reply
+IsLookReply (Read name form to_file) extra format device reply =
+    IsRead (named_by name) form to_file format.form format.files format.units device reply
+IsLookReply (Plan reclaim false) extra format device reply = IsPlanned reclaim format.units device reply
+IsLookReply (Plan reclaim true) extra format device reply =
     IsPlannedInWords format.form format.files reclaim format.units device reply
-IsLookReply (Verify from reclaim) bytes format device reply = IsVerified reclaim bytes format.units device reply
+IsLookReply (Verify reclaim) extra format device reply =
+    IsVerified reclaim (given_bytes extra) format.units device reply

@@ -1,5 +1,5 @@
 -- What is told of a file that is read.
-use Rattle.std.specs.Prelude.{◌≡◌, ◌⊎◌, ℕ, true, false, List, Option, Some, None}
+use Rattle.std.specs.Prelude.{◌≡◌, ◌⊎◌, ℕ, Bool, true, false, List}
 use Rattle.a2_device.specs.Device.{DeviceState}
 use Rattle.vol_format.specs.Directory.{Directory, entry_of}
 use Rattle.vol_format.specs.Meaning.{Meaning}
@@ -9,8 +9,8 @@ use Rattle.file_forms.specs.Found.{FileView}
 use Rattle.file_cmds.specs.Read.{HasNoFile, IsTextAt, IsUnreadable}
 use Rattle.file_cmds.specs.Text.{IsEntryText}
 use Rattle.vol_layout.specs.declared.form.PlaceForm.{PlaceForm}
-use Rattle.shop_jobs.specs.declared.job.ReadForm.{ReadForm}
-use Rattle.shop_jobs.specs.declared.job.ReadForm.TheVariants as reads
+use Rattle.shop_jobs.specs.declared.looks.ReadForm.{ReadForm}
+use Rattle.shop_jobs.specs.declared.looks.ReadForm.TheVariants as reads
 use Rattle.shop_replies.specs.declared.refusal.Refusal.TheVariants as refusals
 use Rattle.shop_replies.specs.declared.refusal.Failure.TheVariants as failures
 use Rattle.shop_replies.specs.declared.reply.Reply.{Reply}
@@ -44,17 +44,17 @@ LacksFormAt place files format store name reads.Whole = ⊥
 LacksFormAt place files format store name form = OfFileAt place files format store name (LacksWantedForm form)
 
 -- bytes of which this is said are told, or they go to a new file with `OK`
-abbrev pub HandsContent : Option (List ℕ) → (List ℕ → Type 0) → Reply → Type 0
-HandsContent None Is reply = IsTold Done reply × Is (text_of reply)
-HandsContent (Some path) Is reply = IsMadeReply reply × Is (made_of reply)
+abbrev pub HandsContent : Bool → (List ℕ → Type 0) → Reply → Type 0
+HandsContent false Is reply = IsTold Done reply × Is (text_of reply)
+HandsContent true Is reply = IsMadeReply reply × Is (made_of reply)
 
 -- The reply to `read`: the first file with this name, as it is wanted; `Form` where it has no such form; `Check` for a
 -- directory or a file that can't be read; `NotFound` where no file has the name; a failure where a unit can't be read;
 -- or want of memory.
-abbrev pub IsRead : FileNameView → ReadForm → Option (List ℕ) → PlaceForm → FileMeaning → Meaning → DeviceState → Reply
+abbrev pub IsRead : FileNameView → ReadForm → Bool → PlaceForm → FileMeaning → Meaning → DeviceState → Reply
     → Type 0
-IsRead name form out place files format device reply =
-    HandsContent out (IsContentAt place files format device.store name form) reply
+IsRead name form to_file place files format device reply =
+    HandsContent to_file (IsContentAt place files format device.store name form) reply
     ⊎ ((reply ≡ refused refusals.Form) × LacksFormAt place files format device.store name form)
     ⊎ ((reply ≡ refused refusals.Check) × IsUnreadable format files device.store name)
     ⊎ ((reply ≡ refused refusals.NotFound) × HasNoFile format files device.store name)

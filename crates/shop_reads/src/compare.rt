@@ -1,13 +1,22 @@
 // The job that compares the files of a volume with those of another image.
 ghost use Rattle.std.specs.Prelude.{◌≡◌, IfErr, IfOk, IsTrue, length};
 ghost use Rattle.a2_device.specs.Device.{IsSameDevice};
-ghost use Rattle.shop_jobs.specs.declared.job.FileSystem.TheVariants.{Dos as OfDos};
-ghost use Rattle.shop_reads.specs.CompareReply.{IsCompared, TellsComparison, comparison_status, error_reply, image_of};
+ghost use Rattle.shop_jobs.specs.declared.input.FileSystem.TheVariants.{Dos as OfDos};
+ghost use Rattle.shop_reads.specs.CompareReply.{
+  IsCompared,
+  IsComparedBeside,
+  TellsComparison,
+  comparison_status,
+  error_reply,
+  image_of,
+};
+ghost use Rattle.shop_reads.specs.Extra.{extra_view};
 ghost use Rattle.shop_reads.specs.FileSystems.{file_system_of as file_system_by};
 ghost use Rattle.shop_reads.specs.GoingOn.{FailsForLackBy, ReadsBy, TellsFile};
 ghost use Rattle.shop_replies.specs.Volume.{HasUnitsOf, OfVolume, RefusesBytes};
 ghost use Rattle.vol_format.specs.Fits.{Fits};
 
+use crate::extra::Extra;
 use crate::listing::ShownFormat;
 use a2_device::{Device, Order};
 use a2_image::ImageError;
@@ -80,24 +89,25 @@ fn other_device(
     Ok(device_of(image, file_system))
 }
 
-/// Which files of the volume on a device differ from those of another image's, and which only one of them has. A file
-/// that can't be read is told so, and the others are compared all the same.
+/// Which files of the volume on a device differ from those of another image's, which is in this order, and which only
+/// one of them has. A file that can't be read is told so, and the others are compared all the same.
 pub fn compare_reply<D: Device, F: ShownFormat>(
     alloc: Global,
     device: &mut D,
     format: &F,
     other: Vec<u8>,
+    order: Order,
     options: CompareOptions,
 ) -> Reply
     requires fits { Fits (F.meaning format.now) (D.state device.old) }
     ensures reads { ReadsBy TellsFile result (D.state device.old) (D.state device.new) }
     ensures told { IsTrue (D.state device.old).honest
         → FailsForLackBy TellsFile result (D.state device.old) (D.state device.new)
-        → IsCompared options other.items (F.form format.now) (F.files format.now) (F.meaning format.now)
+        → IsCompared options order other.items (F.form format.now) (F.files format.now) (F.meaning format.now)
         (D.state device.old) result }
 {
     let form = format.form();
-    let mut second = match other_device(other, options.other_order, file_system_of(form)) {
+    let mut second = match other_device(other, order, file_system_of(form)) {
         Ok(second) => second,
         Err(error) => return Reply::from(error).of_image(Side::Second),
     };
@@ -105,5 +115,29 @@ pub fn compare_reply<D: Device, F: ShownFormat>(
     match compare_volumes(alloc, device, &mut second, format, form, all, most) {
         Ok(comparison) => comparison_reply(comparison),
         Err(error) => error_reply(error),
+    }
+}
+
+/// The same of what is read beside the image: `Refused` with `Unknown`, of the second image, where that is no image
+/// whose order is known.
+pub fn compare_beside<D: Device, F: ShownFormat>(
+    alloc: Global,
+    device: &mut D,
+    format: &F,
+    extra: Extra,
+    options: CompareOptions,
+) -> Reply
+    requires fits { Fits (F.meaning format.now) (D.state device.old) }
+    ensures reads { ReadsBy TellsFile result (D.state device.old) (D.state device.new) }
+    ensures told { IsTrue (D.state device.old).honest
+        → FailsForLackBy TellsFile result (D.state device.old) (D.state device.new)
+        → IsComparedBeside options (extra_view extra) (F.form format.now) (F.files format.now) (F.meaning format.now)
+        (D.state device.old) result }
+{
+    match extra {
+        Extra::Image { bytes, order } => {
+            compare_reply(alloc, device, format, bytes, order, options)
+        }
+        Extra::File(_) => Reply::refused_of(Side::Second, Refusal::Unknown),
     }
 }

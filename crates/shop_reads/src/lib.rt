@@ -5,7 +5,8 @@
 //! `look_on_device` answers a `Look` by one `Reply` of `shop_replies`; the words may reserve places, and
 //! `look_at_volume` is told them. It makes the format of the file system, DOS 3.3 or ProDOS, and `look_reply` works on
 //! any format whose volumes are told of (`ShownFormat`). `image_look` looks at the volume of an image in memory, which
-//! is on a device like any other.
+//! is on a device like any other. What a look reads beside the volume is an `Extra`: a file, or another image in its
+//! order.
 //!
 //! The model: which reply comes, by the state of the device, is a relation for each look (`CatalogReply`,
 //! `EntriesReply`, `ReadReply`, `CheckReply` with `CheckText` and `FaultLines`, `BodiesReply`, `MapReply` with
@@ -25,6 +26,7 @@ mod check;
 mod check_text;
 mod compare;
 mod entries;
+mod extra;
 mod facts;
 mod fault_files;
 mod known;
@@ -47,8 +49,9 @@ mod wants;
 
 pub use bodies::bodies_reply;
 pub use check::check_reply;
-pub use compare::compare_reply;
+pub use compare::{compare_beside, compare_reply};
 pub use entries::entries_reply;
+pub use extra::Extra;
 pub use known::{FactsError, Known, known_of};
 pub use listing::{ShownFormat, listing_reply};
 pub use looking::{look_at_volume, look_on_device, look_reply};

@@ -1,10 +1,11 @@
 // Looking at the volume of a device.
 ghost use Rattle.std.specs.Prelude.{◌≡◌, ◌≢◌, ◌⊎◌, false, IsTrue, option_map};
 ghost use Rattle.shop_jobs.specs.Job.{look_view};
-ghost use Rattle.shop_jobs.specs.declared.job.FileSystem.TheVariants.{Dos as OfDos, Prodos as OfProdos};
+ghost use Rattle.shop_jobs.specs.declared.input.FileSystem.TheVariants.{Dos as OfDos, Prodos as OfProdos};
 ghost use Rattle.shop_replies.specs.declared.refusal.Failure.TheVariants.{Device as OfDevice, Memory as OfMemory};
 ghost use Rattle.shop_replies.specs.Reply.{failed};
 ghost use Rattle.shop_replies.specs.Volume.{HasUnitsOf};
+ghost use Rattle.shop_reads.specs.Extra.{extra_view};
 ghost use Rattle.shop_reads.specs.GoingOn.{FailsForLackIn, HasNotFailed, ReadsFor};
 ghost use Rattle.shop_reads.specs.Look.{IsLookReply, shown_by, shown_in};
 ghost use Rattle.shop_volumes.specs.Reserving.{IsDeviceReply};
@@ -12,8 +13,9 @@ ghost use Rattle.vol_format.specs.Fits.{Fits};
 
 use crate::bodies::bodies_reply;
 use crate::check::check_reply;
-use crate::compare::compare_reply;
+use crate::compare::compare_beside;
 use crate::entries::entries_reply;
+use crate::extra::Extra;
 use crate::listing::{ShownFormat, listing_reply};
 use crate::map::map_reply;
 use crate::naming::file_name;
@@ -30,13 +32,13 @@ use shop_volumes::{reserve_reply, reserved_by};
 use std::alloc::Global;
 use vol_layout::Reserved;
 
-/// What is told of a look at the volume of a device, by its format, with the bytes of a file beside it. Each failure of
+/// What is told of a look at the volume of a device, by its format, with what is read beside it. Each failure of
 /// the device is told, and nothing else is told as one; a list goes on behind a file that can't be read, and a check of
 /// bodies behind a unit.
 pub fn look_reply<D: Device, F: ShownFormat>(
     alloc: Global,
     look: &Look,
-    extra: Vec<u8>,
+    extra: Extra,
     device: &mut D,
     format: &F,
 ) -> Reply
@@ -44,7 +46,7 @@ pub fn look_reply<D: Device, F: ShownFormat>(
     ensures reads { ReadsFor (look_view look.now) result (D.state device.old) (D.state device.new) }
     ensures told { IsTrue (D.state device.old).honest
         → FailsForLackIn (look_view look.now) result (D.state device.old) (D.state device.new)
-        → IsLookReply (look_view look.now) extra.items
+        → IsLookReply (look_view look.now) (extra_view extra)
         (record {
           form = F.form format.now;
           files = F.files format.now;
@@ -59,10 +61,11 @@ pub fn look_reply<D: Device, F: ShownFormat>(
         Look::Check { bodies: false } => check_reply(alloc, device, format, format.form()),
         Look::Check { bodies: true } => bodies_reply(alloc, device, format),
         Look::Map => map_reply(alloc, device, format),
-        Look::Read { name, form, out } => {
-            let name = file_name(name);
-            read_reply(alloc, device, format, name, *form, out.as_deref())
-        }
+        Look::Read {
+            name,
+            form,
+            to_file,
+        } => read_reply(alloc, device, format, file_name(name), *form, *to_file),
         Look::Plan {
             reclaim,
             words: false,
@@ -71,10 +74,8 @@ pub fn look_reply<D: Device, F: ShownFormat>(
             reclaim,
             words: true,
         } => plan_words_reply(alloc, device, format, *reclaim),
-        Look::Compare { options, .. } => compare_reply(alloc, device, format, extra, *options),
-        Look::Verify { reclaim, .. } => {
-            verify_reply(alloc, device, format, *reclaim, extra.as_slice())
-        }
+        Look::Compare(options) => compare_beside(alloc, device, format, extra, *options),
+        Look::Verify { reclaim } => { verify_reply(alloc, device, format, *reclaim, extra.file()) }
     }
 }
 
@@ -82,7 +83,7 @@ pub fn look_reply<D: Device, F: ShownFormat>(
 fn look_at_dos<D: Device>(
     alloc: Global,
     look: &Look,
-    extra: Vec<u8>,
+    extra: Extra,
     device: &mut D,
     data_disk: bool,
     reserved: Reserved,
@@ -91,7 +92,7 @@ fn look_at_dos<D: Device>(
     ensures reads { ReadsFor (look_view look.now) result (D.state device.old) (D.state device.new) }
     ensures told { IsTrue (D.state device.old).honest
         → FailsForLackIn (look_view look.now) result (D.state device.old) (D.state device.new)
-        → (result ≡ failed OfMemory) ⊎ IsLookReply (look_view look.now) extra.items
+        → (result ≡ failed OfMemory) ⊎ IsLookReply (look_view look.now) (extra_view extra)
         (shown_in OfDos data_disk reserved) (D.state device.old) result }
 {
     let Ok(format) = Dos33::new(alloc, data_disk, reserved) else {
@@ -104,7 +105,7 @@ fn look_at_dos<D: Device>(
 fn look_at_prodos<D: Device>(
     alloc: Global,
     look: &Look,
-    extra: Vec<u8>,
+    extra: Extra,
     device: &mut D,
     reserved: Reserved,
 ) -> Reply
@@ -112,18 +113,19 @@ fn look_at_prodos<D: Device>(
     ensures reads { ReadsFor (look_view look.now) result (D.state device.old) (D.state device.new) }
     ensures told { IsTrue (D.state device.old).honest
         → FailsForLackIn (look_view look.now) result (D.state device.old) (D.state device.new)
-        → IsLookReply (look_view look.now) extra.items (shown_in OfProdos false reserved) (D.state device.old) result }
+        → IsLookReply (look_view look.now) (extra_view extra) (shown_in OfProdos false reserved)
+        (D.state device.old) result }
 {
     let format = Prodos::new(alloc, reserved);
     look_reply(alloc, look, extra, device, &format)
 }
 
-/// What is told of a look at the volume of a device, where these places are reserved, with the bytes of a file beside
+/// What is told of a look at the volume of a device, where these places are reserved, with what is read beside
 /// it. Each failure of the device is told, and nothing else is told as one.
 pub fn look_at_volume<D: Device>(
     alloc: Global,
     look: &Look,
-    extra: Vec<u8>,
+    extra: Extra,
     device: &mut D,
     options: VolumeOptions,
     reserved: Reserved,
@@ -132,7 +134,7 @@ pub fn look_at_volume<D: Device>(
     ensures reads { ReadsFor (look_view look.now) result (D.state device.old) (D.state device.new) }
     ensures told { IsTrue (D.state device.old).honest
         → FailsForLackIn (look_view look.now) result (D.state device.old) (D.state device.new)
-        → (result ≡ failed OfMemory) ⊎ IsLookReply (look_view look.now) extra.items (shown_by options reserved)
+        → (result ≡ failed OfMemory) ⊎ IsLookReply (look_view look.now) (extra_view extra) (shown_by options reserved)
         (D.state device.old) result }
 {
     match options.file_system {
@@ -141,12 +143,12 @@ pub fn look_at_volume<D: Device>(
     }
 }
 
-/// What is told of a look at the volume of a device, with the bytes of a file beside it. The words may reserve places.
+/// What is told of a look at the volume of a device, with what is read beside it. The words may reserve places.
 /// Each failure of the device is told, and nothing else is told as one.
 pub fn look_on_device<D: Device>(
     alloc: Global,
     look: &Look,
-    extra: Vec<u8>,
+    extra: Extra,
     device: &mut D,
     options: VolumeOptions,
     reserve: Option<&str>,
@@ -156,7 +158,7 @@ pub fn look_on_device<D: Device>(
     ensures told { IsTrue (D.state device.old).honest
         → HasNotFailed (look_view look.now) result (D.state device.old) (D.state device.new)
         → IsDeviceReply options.file_system (option_map (λ s. s.now) reserve.entry)
-        (λ reserved. IsLookReply (look_view look.now) extra.items (shown_by options reserved)
+        (λ reserved. IsLookReply (look_view look.now) (extra_view extra) (shown_by options reserved)
         (D.state device.old) result) result }
 {
     match reserved_by(alloc, form_of(options.file_system), reserve) {

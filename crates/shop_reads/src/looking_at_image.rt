@@ -1,10 +1,12 @@
 // Looking at the volume of an image.
 ghost use Rattle.std.specs.Prelude.{◌≡◌, option_map};
 ghost use Rattle.shop_jobs.specs.Job.{look_view};
+ghost use Rattle.shop_reads.specs.Extra.{extra_view};
 ghost use Rattle.shop_reads.specs.Look.{IsLookReply, shown_by};
 ghost use Rattle.shop_reads.specs.ImageLook.{IsImageLook, sided as with_side};
 ghost use Rattle.shop_volumes.specs.VolumeReply.{IsVolumeReply};
 
+use crate::extra::Extra;
 use crate::looking::look_at_volume;
 use shop_jobs::{Look, VolumeOptions};
 use shop_replies::{Reply, Side};
@@ -16,7 +18,7 @@ fn sided(look: &Look, reply: Reply) -> Reply
     ensures { result ≡ with_side (look_view look.now) reply }
 {
     match look {
-        Look::Compare { .. } => reply.of_image(Side::First),
+        Look::Compare(_) => reply.of_image(Side::First),
         _ => reply,
     }
 }
@@ -25,13 +27,13 @@ fn sided(look: &Look, reply: Reply) -> Reply
 fn volume_look(
     alloc: Global,
     look: &Look,
-    extra: Vec<u8>,
+    extra: Extra,
     image: Vec<u8>,
     options: VolumeOptions,
     reserve: Option<&str>,
 ) -> Reply
     ensures { IsVolumeReply options (option_map (λ s. s.now) reserve.entry) image.items
-        (λ reserved. IsLookReply (look_view look.now) extra.items (shown_by options reserved)) result }
+        (λ reserved. IsLookReply (look_view look.now) (extra_view extra) (shown_by options reserved)) result }
 {
     match volume_in(alloc, image, options, reserve) {
         Ok((mut device, reserved)) => {
@@ -41,7 +43,7 @@ fn volume_look(
     }
 }
 
-/// What is told of a look at the volume of an image, with the bytes of a file beside it. The words may reserve places,
+/// What is told of a look at the volume of an image, with what is read beside it. The words may reserve places,
 /// as sectors or as blocks.
 ///
 /// `Refused` with `Reserve` where they are no list of places, with `Length` where no image of this order has so many
@@ -50,12 +52,12 @@ fn volume_look(
 pub fn image_look(
     alloc: Global,
     look: &Look,
-    extra: Vec<u8>,
+    extra: Extra,
     image: Vec<u8>,
     options: VolumeOptions,
     reserve: Option<&str>,
 ) -> Reply
-    ensures { IsImageLook (look_view look.now) extra.items options (option_map (λ s. s.now) reserve.entry)
+    ensures { IsImageLook (look_view look.now) (extra_view extra) options (option_map (λ s. s.now) reserve.entry)
         image.items result }
 {
     sided(

@@ -1,5 +1,5 @@
 // The job that reads a file of a volume.
-ghost use Rattle.std.specs.Prelude.{◌≡◌, false, Err, IfNone, IfOk, IfSome, IsTrue, List, ℕ, option_map};
+ghost use Rattle.std.specs.Prelude.{◌≡◌, false, Err, IfNone, IfOk, IfSome, IsTrue, List, ℕ};
 ghost use Rattle.a2_device.specs.Device.{OnlyReads};
 ghost use Rattle.file_cmds.specs.Read.{HasNoFile, IsUnreadable};
 ghost use Rattle.file_cmds.specs.Refusal.{told_device};
@@ -79,33 +79,34 @@ fn read_content<D: Device, F: ShownFormat>(
 }
 
 // The bytes of a file are told, or go to a new file.
-fn content_reply(out: Option<&str>, content: Vec<u8>) -> Reply
-    ensures told { HandsContent (option_map (λ s. s.now) out.entry) (λ bytes. bytes ≡ content.items) result }
+fn content_reply(to_file: bool, content: Vec<u8>) -> Reply
+    ensures told { HandsContent to_file (λ bytes. bytes ≡ content.items) result }
     ensures quiet { tells_device result ≡ false }
 {
-    match out {
-        Some(_) => Reply::made(content),
-        None => Reply::content(content),
+    if to_file {
+        Reply::made(content)
+    } else {
+        Reply::content(content)
     }
 }
 
-/// The first file of a name of the volume on a device, as it is wanted: told, or for a new file where one is named.
+/// The first file of a name of the volume on a device, as it is wanted: told, or for a new file.
 pub fn read_reply<D: Device, F: ShownFormat>(
     alloc: Global,
     device: &mut D,
     format: &F,
     name: FileName<'_>,
     form: ReadForm,
-    out: Option<&str>,
+    to_file: bool,
 ) -> Reply
     requires fits { Fits (F.meaning format.now) (D.state device.old) }
     ensures reads { OnlyReads (tells_device result) (D.state device.old) (D.state device.new) }
     ensures told { IsTrue (D.state device.old).honest → FailsForLack (D.state device.old) result
-        → IsRead (name_view name.entry) form (option_map (λ s. s.now) out.entry) (F.form format.now)
+        → IsRead (name_view name.entry) form to_file (F.form format.now)
         (F.files format.now) (F.meaning format.now) (D.state device.old) result }
 {
     match read_content(alloc, device, format, name, form) {
-        Ok(Some(content)) => content_reply(out, content),
+        Ok(Some(content)) => content_reply(to_file, content),
         Ok(None) => Reply::refused(Refusal::Form),
         Err(error) => refusal_reply(error),
     }

@@ -7,8 +7,8 @@ use Rattle.a2_device.specs.declared.order.Order.{Order}
 use Rattle.a2_device.specs.declared.order.Order.TheVariants.{Dos, Prodos, Nibble}
 use Rattle.a2_device.specs.Device.{DeviceState}
 use Rattle.a2_device.specs.Order.{IsImageLength}
-use Rattle.shop_jobs.specs.declared.job.FileSystem.{FileSystem}
-use Rattle.shop_jobs.specs.declared.job.FileSystem.TheVariants.{Dos as Dos_volume, Prodos as Prodos_volume}
+use Rattle.shop_jobs.specs.declared.input.FileSystem.{FileSystem}
+use Rattle.shop_jobs.specs.declared.input.FileSystem.TheVariants.{Dos as Dos_volume, Prodos as Prodos_volume}
 use Rattle.shop_replies.specs.declared.reply.Reply.{Reply}
 use Rattle.shop_replies.specs.Reply.{made_of}
 use Rattle.disk_container.specs.declared.container.Container.{Container}
@@ -76,13 +76,13 @@ pub OfVolume-whole : (file_system : FileSystem) (order : Order) (image : List �
 OfVolume-whole file_system order image P volume = subst (λ bytes. OfVolume file_system order bytes P) (past-most file_system order image volume.0) volume
 
 -- so of an image that is wrapped
-pub wrap-whole : (words : WrappingView) (image : List ℕ) (reply : Reply) → IsWrapReply words (take (most_bytes words.order + 1) image) reply
-    → IsWrapReply words image reply
-wrap-whole words image reply is = elim is [
+pub wrap-whole : (order : Order) (words : WrappingView) (image : List ℕ) (reply : Reply) → IsWrapReply order words (take (most_bytes order + 1) image) reply
+    → IsWrapReply order words image reply
+wrap-whole order words image reply is = elim is [
   | inl wrapped ↦
-      let whole = past-most Prodos_volume words.order image wrapped.0.image in
-      subst (λ bytes. IsWrapReply words bytes reply) whole (inl wrapped)
-  | inr (inl long) ↦ inr (inl (long.0, λ takes. long.1 (record { image = TakesBytes-take Prodos_volume words.order image takes.image; not_long = takes.not_long })))
+      let whole = past-most Prodos_volume order image wrapped.0.image in
+      subst (λ bytes. IsWrapReply order words bytes reply) whole (inl wrapped)
+  | inr (inl long) ↦ inr (inl (long.0, λ takes. long.1 (record { image = TakesBytes-take Prodos_volume order image takes.image; not_long = takes.not_long })))
   | inr (inr memory) ↦ inr (inr memory)
 ]
 

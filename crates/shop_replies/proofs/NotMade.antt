@@ -33,8 +33,8 @@ converted_image order to volume image reply is made = elim is [
 ]
 
 -- a container that is made, and a payload that is taken out of one
-pub wrapped_image : (words : WrappingView) (image : List ℕ) (reply : Reply) → IsWrapReply words image reply → IsMade reply → IsMadeReply reply
-wrapped_image words image reply is made = elim is [
+pub wrapped_image : (order : Order) (words : WrappingView) (image : List ℕ) (reply : Reply) → IsWrapReply order words image reply → IsMade reply → IsMadeReply reply
+wrapped_image order words image reply is made = elim is [
   | inl wrapped ↦ wrapped.1
   | inr (inl long) ↦ absurd (refused_not_made refusals.Length reply long.0 made)
   | inr (inr memory) ↦ absurd (failed_not_made failures.Memory reply memory made)

@@ -4,7 +4,7 @@ use Rattle.a2_device.specs.declared.order.Order.{Order}
 use Rattle.a2_image.specs.declared.error.ImageError.{ImageError}
 use Rattle.a2_image.specs.declared.error.ImageError.TheVariants as images
 use Rattle.a2_image.specs.Opening.{RefusesToOpen}
-use Rattle.shop_jobs.specs.declared.job.FileSystem.TheVariants.{Dos as Dos_volume, Prodos as Prodos_volume}
+use Rattle.shop_jobs.specs.declared.input.FileSystem.TheVariants.{Dos as Dos_volume, Prodos as Prodos_volume}
 use Rattle.shop_replies.specs.Disk.{RefusesDisk}
 use Rattle.shop_replies.specs.Volume.{RefusesBytes}
 

@@ -1,5 +1,6 @@
 -- What `wrap` and `unwrap` answer, and what is handed out of a job on the payload of a container.
 use Rattle.std.specs.Prelude.{◌≡◌, ◌⊎◌, List, ◌++◌, ℕ, None, length}
+use Rattle.a2_device.specs.declared.order.Order.{Order}
 use Rattle.disk_container.specs.declared.container.Container.{Container}
 use Rattle.disk_container.specs.declared.error.ContainerFault.{ContainerFault}
 use Rattle.disk_container.specs.Container.{IsContainer, payload_in}
@@ -11,20 +12,20 @@ use Rattle.shop_replies.specs.declared.refusal.Refusal.TheVariants as refusals
 use Rattle.shop_replies.specs.declared.reply.Reply.{Reply}
 use Rattle.shop_replies.specs.Reply.{IsMade, IsMadeReply, failed, made_of, refused}
 
--- an image of so many bytes may be wrapped, by these words
-abbrev pub TakesImage : WrappingView → ℕ → Type 0
-TakesImage words bytes = CanBeWrapped words.order bytes (length words.comment)
+-- an image of so many bytes in an order may be wrapped, by these words
+abbrev pub TakesImage : Order → WrappingView → ℕ → Type 0
+TakesImage order words bytes = CanBeWrapped order bytes (length words.comment)
 
--- the container of an image, by these words
-abbrev pub container_by : WrappingView → List ℕ → List ℕ
-container_by words image = wrapped_bytes words.order words.volume words.comment words.protect image
+-- its container, by these words
+abbrev pub container_by : Order → WrappingView → List ℕ → List ℕ
+container_by order words image = wrapped_bytes order words.volume words.comment words.protect image
 
 -- What `wrap` answers: the container; `Length` where no image of the order has so many bytes, or the comment is too
 -- long; or want of memory.
-abbrev pub IsWrapReply : WrappingView → List ℕ → Reply → Type 0
-IsWrapReply words image reply =
-    (TakesImage words (length image) × IsMadeReply reply × (made_of reply ≡ container_by words image))
-    ⊎ ((reply ≡ refused refusals.Length) × ¬ TakesImage words (length image))
+abbrev pub IsWrapReply : Order → WrappingView → List ℕ → Reply → Type 0
+IsWrapReply order words image reply =
+    (TakesImage order words (length image) × IsMadeReply reply × (made_of reply ≡ container_by order words image))
+    ⊎ ((reply ≡ refused refusals.Length) × ¬ TakesImage order words (length image))
     ⊎ (reply ≡ failed failures.Memory)
 
 -- What `unwrap` answers: the payload of the container; or what is wrong with a file that is none.

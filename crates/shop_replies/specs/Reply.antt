@@ -52,6 +52,8 @@ refusal_line refusals.Single = codes "REFUSED Single\n"
 refusal_line refusals.NoSector = codes "REFUSED NoSector\n"
 refusal_line refusals.Host = codes "REFUSED Host\n"
 refusal_line refusals.Differs = codes "REFUSED Differs\n"
+refusal_line refusals.Ambiguous = codes "REFUSED Ambiguous\n"
+refusal_line refusals.Unknown = codes "REFUSED Unknown\n"
 
 abbrev pub failure_line : Failure → List ℕ
 failure_line failures.Input = codes "FAILED Input\n"

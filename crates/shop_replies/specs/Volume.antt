@@ -16,8 +16,8 @@ use Rattle.vol_layout.specs.declared.form.PlaceForm.TheVariants as forms
 use Rattle.vol_format.specs.Meaning.{Meaning}
 use Rattle.dos_format.specs.Dos.{dos_meaning}
 use Rattle.pro_format.specs.Pro.{pro_meaning}
-use Rattle.shop_jobs.specs.declared.job.FileSystem.{FileSystem}
-use Rattle.shop_jobs.specs.declared.job.FileSystem.TheVariants.{Dos, Prodos}
+use Rattle.shop_jobs.specs.declared.input.FileSystem.{FileSystem}
+use Rattle.shop_jobs.specs.declared.input.FileSystem.TheVariants.{Dos, Prodos}
 use Rattle.shop_replies.specs.Disk.{disk_bytes}
 
 -- DOS 3.3 has sectors and ProDOS blocks, and so are their places named

@@ -4,17 +4,18 @@ ghost use Rattle.shop_replies.specs.ContainerReply.{IsInShell, IsUnwrapReply, Is
 
 use crate::refusal::{Failure, Refusal};
 use crate::reply::Reply;
+use a2_device::Order;
 use disk_container::{Shell, WrapError, container_of, keep_payload, wrap};
 use shop_jobs::WrapOptions;
 use std::alloc::Global;
 
-/// The container of an image: `Made`, or `Refused` with `Length`, or `Failed` for want of memory.
-pub fn wrap_reply(alloc: Global, image: &[u8], options: &WrapOptions) -> Reply
-    ensures { IsWrapReply (wrapping_view options.now) image.now result }
+/// The container of an image in an order: `Made`, or `Refused` with `Length`, or `Failed` for want of memory.
+pub fn wrap_reply(alloc: Global, image: &[u8], order: Order, options: &WrapOptions) -> Reply
+    ensures { IsWrapReply order (wrapping_view options.now) image.now result }
 {
     let wrapped = wrap(
         alloc,
-        options.order,
+        order,
         options.volume,
         options.comment.as_bytes(),
         options.protect,

@@ -1,7 +1,7 @@
 // Taking the bytes of an image, and the device of its volume.
 ghost use Rattle.std.specs.Prelude.{◌≡◌, IfErr, IfOk, length};
 ghost use Rattle.a2_image.specs.Image.{IsOfDisk};
-ghost use Rattle.shop_jobs.specs.declared.job.FileSystem.TheVariants.{Dos as OfDos};
+ghost use Rattle.shop_jobs.specs.declared.input.FileSystem.TheVariants.{Dos as OfDos};
 ghost use Rattle.shop_replies.specs.Volume.{
   HasUnitsOf,
   IsImageOf,

@@ -1,40 +1,53 @@
 // Bytes, read from readers that may fail.
 ghost use Rattle.std.specs.Prelude.{◌≡◌, ◌+◌, IfErr, IfOk, IfSome, take};
-ghost use Rattle.shop_jobs.specs.Job.{ask_view};
-ghost use Rattle.shop_replies.specs.Reading.{IsReadFailure, most_beside, most_of_image};
+ghost use Rattle.shop_jobs.specs.Input.{beside_view, reading_view};
+ghost use Rattle.shop_replies.specs.Reading.{
+  IsReadFailure,
+  most_beside,
+  most_in_order as most_in,
+  most_of_image,
+};
 
 use crate::disk::most_bytes;
 use crate::refusal::Failure;
 use disk_container::MOST_BYTES;
-use shop_jobs::{Ask, Job, Look, image_order};
+use shop_jobs::{Beside, ImageReading, OrderSaid};
 use std::alloc::Global;
 use std::io::{ErrorKind, Read};
 
 /// The most bytes that a certificate and a file that is saved may have.
 const MOST_GIVEN: u32 = 16_777_216;
 
-/// The most bytes that are taken of the image of a job: those of its order, or of a container where it names none.
-pub fn most_of_image(job: &Job) -> u32
-    ensures { result ≡ most_of_image (ask_view job.now.ask) }
+// The most bytes that are taken of an image in an order: where that is to be found, as the image may stand in a
+// container, those of one.
+fn most_in_order(order: OrderSaid) -> u32
+    ensures { result ≡ most_in order }
 {
-    match image_order(job) {
-        Some(order) => most_bytes(order) as u32,
+    match order {
+        OrderSaid::Is(order) => most_bytes(order) as u32,
+        OrderSaid::ByReading | OrderSaid::ByContainer => MOST_BYTES as u32,
+    }
+}
+
+/// The most bytes that are taken of an image that is read so: those of its order, or of a container where that is not
+/// known.
+pub fn most_of_image(reading: &ImageReading) -> u32
+    ensures { result ≡ most_of_image (reading_view reading.now) }
+{
+    match reading.order() {
+        Some(order) => most_in_order(order),
         None => MOST_BYTES as u32,
     }
 }
 
-/// The most bytes that are taken of the file beside the image of a job; of another image, and of one whose system is
-/// copied, those of its order.
-pub fn most_beside(job: &Job) -> u32
-    ensures { result ≡ most_beside (ask_view job.now.ask) }
+/// The most bytes that are taken of what is read beside an image: of another image those of its order, or of a
+/// container where that is not known.
+pub fn most_beside(beside: &Beside) -> u32
+    ensures { result ≡ most_beside (beside_view beside.now) }
 {
-    match &job.ask {
-        Ask::Look {
-            look: Look::Compare { options, .. },
-            ..
-        } => most_bytes(options.other_order) as u32,
-        Ask::Create { options, .. } => most_bytes(options.order) as u32,
-        _ => MOST_GIVEN,
+    match beside {
+        Beside::Image { order, .. } => most_in_order(*order),
+        Beside::Nothing | Beside::File(_) | Beside::Folder(_) => MOST_GIVEN,
     }
 }
 

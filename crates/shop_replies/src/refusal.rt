@@ -57,6 +57,10 @@ pub enum Refusal {
     Host,
     /// The readable form that stands beside a file does not give just the bytes of that file.
     Differs,
+    /// No way to read the image is better than every other.
+    Ambiguous,
+    /// There is no volume in the image, or it is not known how it is read.
+    Unknown,
 }
 
 /// What failed under a job.
@@ -132,6 +136,8 @@ impl Refusal {
             Refusal::NoSector => b"REFUSED NoSector\n",
             Refusal::Host => b"REFUSED Host\n",
             Refusal::Differs => b"REFUSED Differs\n",
+            Refusal::Ambiguous => b"REFUSED Ambiguous\n",
+            Refusal::Unknown => b"REFUSED Unknown\n",
         }
     }
 }

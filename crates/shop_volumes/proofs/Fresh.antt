@@ -3,7 +3,7 @@ use Rattle.std.proofs.Common.{◌≡◌, [], refl, subst, sym}
 use Rattle.std.specs.Prelude.{IsTrue, Some, None}
 use Rattle.a2_device.specs.Device.{DeviceState, OnlyReads}
 use Rattle.a2_image.specs.Image.{DiskImage}
-use Rattle.shop_jobs.specs.declared.job.FileSystem.{FileSystem}
+use Rattle.shop_jobs.specs.declared.input.FileSystem.{FileSystem}
 use Rattle.shop_replies.specs.declared.reply.Reply.{Reply}
 use Rattle.shop_replies.specs.Volume.{device_of}
 use Rattle.shop_replies.proofs.Lacking.{unit_lacks}

@@ -4,7 +4,7 @@ use Rattle.std.specs.Prelude.{Option}
 use Rattle.a2_device.specs.Device.{DeviceState}
 use Rattle.vol_mover.specs.declared.error.OpenError.{OpenError}
 use Rattle.vol_mover.specs.declared.error.OpenError.TheVariants as opens
-use Rattle.shop_jobs.specs.declared.job.VolumeOptions.{VolumeOptions}
+use Rattle.shop_jobs.specs.declared.input.VolumeOptions.{VolumeOptions}
 use Rattle.shop_replies.specs.declared.refusal.Refusal.TheVariants as refusals
 use Rattle.shop_replies.specs.declared.refusal.Failure.TheVariants as failures
 use Rattle.shop_replies.specs.declared.reply.Reply.{Reply}

@@ -5,7 +5,7 @@ use Rattle.vol_layout.specs.declared.reserve_error.ReserveError.{ReserveError}
 use Rattle.vol_layout.specs.declared.reserve_error.ReserveError.TheVariants as reserves
 use Rattle.vol_layout.specs.declared.form.PlaceForm.{PlaceForm}
 use Rattle.file_listings.specs.DosText.{Text}
-use Rattle.shop_jobs.specs.declared.job.FileSystem.{FileSystem}
+use Rattle.shop_jobs.specs.declared.input.FileSystem.{FileSystem}
 use Rattle.shop_replies.specs.declared.refusal.Refusal.TheVariants as refusals
 use Rattle.shop_replies.specs.declared.refusal.Failure.TheVariants as failures
 use Rattle.shop_replies.specs.declared.reply.Reply.{Reply}

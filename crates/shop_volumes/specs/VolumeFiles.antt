@@ -2,8 +2,8 @@
 use Rattle.file_formats.specs.DosFiles.{dos_files}
 use Rattle.file_formats.specs.Files.{FileMeaning}
 use Rattle.file_formats.specs.ProFiles.{pro_files}
-use Rattle.shop_jobs.specs.declared.job.FileSystem.{FileSystem}
-use Rattle.shop_jobs.specs.declared.job.FileSystem.TheVariants.{Dos, Prodos}
+use Rattle.shop_jobs.specs.declared.input.FileSystem.{FileSystem}
+use Rattle.shop_jobs.specs.declared.input.FileSystem.TheVariants.{Dos, Prodos}
 
 -- how the files of a file system are named, shown and read
 abbrev pub files_of : FileSystem → FileMeaning

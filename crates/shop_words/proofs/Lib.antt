@@ -3,6 +3,7 @@ mod Shop
 mod Meant
 mod Ends
 mod CommandRows
+mod JobParts
 mod Numbers
 mod HexWords
 mod PlainWalk

@@ -1,5 +1,5 @@
 -- The job that clap finds in a plain list is the list's own.
-use Rattle.std.proofs.Common.{◌≡◌, refl, subst, Bool, true, false, ◌||◌, ◌&&◌, Contains, List, [], ◌∷◌, Option, codes, is_some}
+use Rattle.std.proofs.Common.{◌≡◌, refl, subst, Bool, true, false, ◌||◌, ◌&&◌, Contains, ℕ, List, [], ◌∷◌, Option, codes, is_some, option_and_then}
 use Rattle.std.proofs.lemmas.Bool.{and_parts}
 use Rattle.std.proofs.lemmas.Slice.Eq.{bytes_eq-Decides}
 use Rattle.std.specs.List.{list_all, list_any}
@@ -7,8 +7,10 @@ use Rattle.std.specs.Str.{bytes_eq}
 use Rattle.clap.specs.Walk.{first_of}
 use Rattle.shop_words.specs.Table.{Text, FormView, forms}
 use Rattle.shop_words.specs.Plain.{Use, positional_names}
-use Rattle.shop_words.specs.Job.{is_counted, job_by, line_job, line_said}
+use Rattle.shop_words.specs.Job.{ask_by, aux_named, beside_by, change_asked, is_counted, job_by, job_of, line_job, line_said, output_by, reading_by, save_with, source_by}
 use Rattle.shop_words.specs.Ways.{Said, is_on}
+use Rattle.shop_words.specs.declared.table.Reading.{Reading}
+use Rattle.shop_words.specs.declared.table.Reading.TheVariants as readings
 use Rattle.shop_words.specs.declared.table.Verb.{Verb}
 use Rattle.shop_words.specs.declared.table.Verb.TheVariants as verbs
 use Rattle.clap.proofs.OnLiterals.{clap_on_literals}
@@ -61,55 +63,84 @@ plain_defaults f at =
 abbrev pub SaySame : {X : Type 0} → (Option Text → X) → Said → Said → List Text → Type 0
 SaySame read s t names = (name : Text) → list_any (λ n. bytes_eq n name) names ≡ true → read (s name) ≡ read (t name)
 
-job_by-same : (verb : Verb) (s t : Said) → SaySame (λ o. o) s t option_names → SaySame is_on s t flag_names → job_by verb s ≡ job_by verb t
-job_by-same verbs.Catalog s t o on =
-    rw (o (codes "image") refl, o (codes "fs") refl, o (codes "order") refl, on (codes "data-disk") refl) refl
-job_by-same verbs.List s t o on =
-    rw (o (codes "image") refl, o (codes "fs") refl, o (codes "order") refl, on (codes "data-disk") refl, on (codes "places") refl, o (codes "format") refl, on (codes "digests") refl, o (codes "most") refl) refl
-job_by-same verbs.Compare s t o on =
-    rw (o (codes "image") refl, o (codes "fs") refl, o (codes "order") refl, on (codes "data-disk") refl, o (codes "other") refl, o (codes "other-order") refl, on (codes "all") refl, o (codes "most") refl) refl
-job_by-same verbs.Map s t o on =
-    rw (o (codes "image") refl, o (codes "fs") refl, o (codes "order") refl, on (codes "data-disk") refl, o (codes "reserve") refl) refl
-job_by-same verbs.Check s t o on =
-    rw (o (codes "image") refl, o (codes "fs") refl, o (codes "order") refl, on (codes "data-disk") refl, o (codes "reserve") refl, on (codes "bodies") refl) refl
-job_by-same verbs.Read s t o on =
-    rw (o (codes "image") refl, o (codes "fs") refl, o (codes "order") refl, on (codes "data-disk") refl, o (codes "name") refl, on (codes "stored") refl, on (codes "whole") refl, o (codes "as") refl, o (codes "out") refl) refl
-job_by-same verbs.Extract s t o on =
-    rw (o (codes "image") refl, o (codes "fs") refl, o (codes "order") refl, on (codes "data-disk") refl, o (codes "names") refl, on (codes "texts") refl, o (codes "most") refl, o (codes "into") refl) refl
-job_by-same verbs.Convert s t o on =
-    rw (o (codes "image") refl, o (codes "order") refl, o (codes "to") refl, o (codes "out") refl, o (codes "volume") refl) refl
-job_by-same verbs.Plan s t o on =
-    rw (o (codes "image") refl, o (codes "fs") refl, o (codes "order") refl, on (codes "data-disk") refl, o (codes "reserve") refl, on (codes "reclaim") refl, on (codes "words") refl) refl
-job_by-same verbs.Optimize s t o on =
-    rw (o (codes "image") refl, o (codes "fs") refl, o (codes "order") refl, on (codes "data-disk") refl, o (codes "out") refl, on (codes "in-place") refl, o (codes "reserve") refl, on (codes "reclaim") refl, o (codes "stop-after") refl, o (codes "cert") refl) refl
-job_by-same verbs.Lock s t o on =
-    rw (o (codes "image") refl, o (codes "fs") refl, o (codes "order") refl, on (codes "data-disk") refl, o (codes "out") refl, on (codes "in-place") refl, o (codes "reserve") refl, o (codes "name") refl, on (codes "stored") refl) refl
-job_by-same verbs.Unlock s t o on =
-    rw (o (codes "image") refl, o (codes "fs") refl, o (codes "order") refl, on (codes "data-disk") refl, o (codes "out") refl, on (codes "in-place") refl, o (codes "reserve") refl, o (codes "name") refl, on (codes "stored") refl) refl
-job_by-same verbs.Delete s t o on =
-    rw (o (codes "image") refl, o (codes "fs") refl, o (codes "order") refl, on (codes "data-disk") refl, o (codes "out") refl, on (codes "in-place") refl, o (codes "reserve") refl, o (codes "name") refl, on (codes "stored") refl) refl
-job_by-same verbs.Rename s t o on =
-    rw (o (codes "image") refl, o (codes "fs") refl, o (codes "order") refl, on (codes "data-disk") refl, o (codes "out") refl, on (codes "in-place") refl, o (codes "reserve") refl, o (codes "name") refl, on (codes "stored") refl, o (codes "new") refl) refl
-job_by-same verbs.Save s t o on =
-    rw (o (codes "image") refl, o (codes "fs") refl, o (codes "order") refl, on (codes "data-disk") refl, o (codes "out") refl, on (codes "in-place") refl, o (codes "reserve") refl, o (codes "name") refl, on (codes "replace") refl, o (codes "type") refl, o (codes "aux") refl, o (codes "date") refl, o (codes "as") refl, o (codes "high") refl, o (codes "from") refl) refl
-job_by-same verbs.Verify s t o on =
-    rw (o (codes "image") refl, o (codes "fs") refl, o (codes "order") refl, on (codes "data-disk") refl, o (codes "reserve") refl, on (codes "reclaim") refl, o (codes "from") refl) refl
-job_by-same verbs.Identify s t o on =
-    rw (o (codes "image") refl) refl
-job_by-same verbs.Wrap s t o on =
-    rw (o (codes "image") refl, o (codes "order") refl, o (codes "volume") refl, o (codes "comment") refl, on (codes "protect") refl, o (codes "out") refl) refl
-job_by-same verbs.Unwrap s t o on =
-    rw (o (codes "image") refl, o (codes "out") refl) refl
-job_by-same verbs.Survey s t o on =
-    rw (o (codes "path") refl, o (codes "format") refl) refl
-job_by-same verbs.Create s t o on =
-    rw (o (codes "out") refl, on (codes "data-disk") refl, o (codes "boot") refl, o (codes "blocks") refl, o (codes "name") refl, o (codes "date") refl, o (codes "order") refl, o (codes "volume") refl, o (codes "fs") refl) refl
-job_by-same verbs.Reclaim s t o on =
-    rw (o (codes "image") refl, o (codes "fs") refl, o (codes "order") refl, on (codes "data-disk") refl, o (codes "out") refl, on (codes "in-place") refl, o (codes "reserve") refl) refl
-job_by-same verbs.Add s t o on =
-    rw (o (codes "image") refl, o (codes "fs") refl, o (codes "order") refl, on (codes "data-disk") refl, o (codes "from") refl, o (codes "into") refl, o (codes "date") refl, o (codes "out") refl, o (codes "reserve") refl) refl
-job_by-same verbs.MakeDirectory s t o on =
-    rw (o (codes "image") refl, o (codes "fs") refl, o (codes "order") refl, o (codes "name") refl, o (codes "date") refl, o (codes "out") refl, on (codes "in-place") refl, o (codes "reserve") refl) refl
+-- each part of a job is the same by words that say the same
+source_by-same : (verb : Verb) (s t : Said) → SaySame (λ o. o) s t option_names → source_by verb s ≡ source_by verb t
+source_by-same verbs.Create s t o = refl
+source_by-same verbs.Survey s t o = rw (o (codes "path") refl) refl
+source_by-same _ s t o = rw (o (codes "image") refl) refl
+
+reading_by-same : (verb : Verb) (reading : Reading) (s t : Said) → SaySame (λ o. o) s t option_names → SaySame is_on s t flag_names
+    → reading_by verb reading s ≡ reading_by verb reading t
+reading_by-same verb readings.Nothing s t o on = refl
+reading_by-same verb (readings.Volume out) s t o on =
+    rw (o (codes "into") refl, o (codes "fs") refl, o (codes "order") refl, on (codes "data-disk") refl, o (codes "reserve") refl) refl
+reading_by-same verb (readings.Prodos out) s t o on =
+    rw (o (codes "fs") refl, o (codes "order") refl, on (codes "data-disk") refl, o (codes "reserve") refl) refl
+reading_by-same verb (readings.Order out) s t o on = rw (o (codes "order") refl) refl
+reading_by-same verb (readings.Bare out) s t o on = rw (o (codes "order") refl) refl
+
+beside_by-same : (verb : Verb) (reading : Reading) (s t : Said) → SaySame (λ o. o) s t option_names → SaySame is_on s t flag_names
+    → beside_by verb reading s ≡ beside_by verb reading t
+beside_by-same verbs.Verify reading s t o on = rw (o (codes "from") refl) refl
+beside_by-same verbs.Save reading s t o on = rw (o (codes "from") refl) refl
+beside_by-same verbs.Add reading s t o on = rw (o (codes "from") refl) refl
+beside_by-same verbs.Compare reading s t o on = rw (o (codes "image") refl, o (codes "other") refl, o (codes "other-order") refl, o (codes "order") refl) refl
+beside_by-same verbs.Create reading s t o on = rw (o (codes "boot") refl, o (codes "order") refl, o (codes "fs") refl, on (codes "data-disk") refl) refl
+beside_by-same _ reading s t o on = refl
+
+save_with-same : (s t : Said) → SaySame (λ o. o) s t option_names → SaySame is_on s t flag_names → (aux_type : Option ℕ)
+    → save_with s aux_type ≡ save_with t aux_type
+save_with-same s t o on aux_type =
+    rw (o (codes "name") refl, o (codes "type") refl, o (codes "date") refl, o (codes "as") refl, o (codes "high") refl, on (codes "replace") refl) refl
+
+ask_by-same : (verb : Verb) (s t : Said) → SaySame (λ o. o) s t option_names → SaySame is_on s t flag_names → ask_by verb s ≡ ask_by verb t
+ask_by-same verbs.Catalog s t o on = refl
+ask_by-same verbs.List s t o on = rw (o (codes "format") refl, o (codes "most") refl, on (codes "places") refl, on (codes "digests") refl) refl
+ask_by-same verbs.Compare s t o on = rw (o (codes "most") refl, on (codes "all") refl) refl
+ask_by-same verbs.Map s t o on = refl
+ask_by-same verbs.Check s t o on = rw (on (codes "bodies") refl) refl
+ask_by-same verbs.Read s t o on = rw (o (codes "name") refl, o (codes "as") refl, o (codes "out") refl, on (codes "stored") refl, on (codes "whole") refl) refl
+ask_by-same verbs.Extract s t o on = rw (o (codes "names") refl, o (codes "most") refl, on (codes "texts") refl) refl
+ask_by-same verbs.Convert s t o on = rw (o (codes "to") refl, o (codes "volume") refl) refl
+ask_by-same verbs.Plan s t o on = rw (on (codes "reclaim") refl, on (codes "words") refl) refl
+ask_by-same verbs.Optimize s t o on = rw (o (codes "stop-after") refl, on (codes "reclaim") refl) refl
+ask_by-same verbs.Lock s t o on = rw (o (codes "name") refl, on (codes "stored") refl) refl
+ask_by-same verbs.Unlock s t o on = rw (o (codes "name") refl, on (codes "stored") refl) refl
+ask_by-same verbs.Delete s t o on = rw (o (codes "name") refl, on (codes "stored") refl) refl
+ask_by-same verbs.Rename s t o on = rw (o (codes "name") refl, o (codes "new") refl, on (codes "stored") refl) refl
+ask_by-same verbs.Save s t o on =
+    λ i. change_asked (option_and_then (λ aux_type. save_with-same s t o on aux_type i) (aux_named (o (codes "aux") refl i)))
+ask_by-same verbs.Verify s t o on = rw (on (codes "reclaim") refl) refl
+ask_by-same verbs.Identify s t o on = refl
+ask_by-same verbs.Wrap s t o on = rw (o (codes "volume") refl, o (codes "comment") refl, on (codes "protect") refl) refl
+ask_by-same verbs.Unwrap s t o on = refl
+ask_by-same verbs.Survey s t o on = rw (o (codes "format") refl) refl
+ask_by-same verbs.Create s t o on = rw (o (codes "blocks") refl, o (codes "name") refl, o (codes "date") refl, o (codes "order") refl, o (codes "volume") refl, o (codes "fs") refl, on (codes "data-disk") refl) refl
+ask_by-same verbs.Reclaim s t o on = refl
+ask_by-same verbs.Add s t o on = rw (o (codes "fs") refl, o (codes "into") refl, o (codes "date") refl) refl
+ask_by-same verbs.MakeDirectory s t o on = rw (o (codes "name") refl, o (codes "date") refl) refl
+
+output_by-same : (verb : Verb) (s t : Said) → SaySame (λ o. o) s t option_names → SaySame is_on s t flag_names → output_by verb s ≡ output_by verb t
+output_by-same verbs.Read s t o on = rw (o (codes "out") refl) refl
+output_by-same verbs.Extract s t o on = rw (o (codes "into") refl) refl
+output_by-same verbs.Convert s t o on = rw (o (codes "out") refl) refl
+output_by-same verbs.Add s t o on = rw (o (codes "out") refl) refl
+output_by-same verbs.Wrap s t o on = rw (o (codes "out") refl) refl
+output_by-same verbs.Unwrap s t o on = rw (o (codes "out") refl) refl
+output_by-same verbs.Create s t o on = rw (o (codes "out") refl) refl
+output_by-same verbs.Optimize s t o on = rw (o (codes "out") refl, on (codes "in-place") refl) refl
+output_by-same verbs.Lock s t o on = rw (o (codes "out") refl, on (codes "in-place") refl) refl
+output_by-same verbs.Unlock s t o on = rw (o (codes "out") refl, on (codes "in-place") refl) refl
+output_by-same verbs.Delete s t o on = rw (o (codes "out") refl, on (codes "in-place") refl) refl
+output_by-same verbs.Rename s t o on = rw (o (codes "out") refl, on (codes "in-place") refl) refl
+output_by-same verbs.Save s t o on = rw (o (codes "out") refl, on (codes "in-place") refl) refl
+output_by-same verbs.Reclaim s t o on = rw (o (codes "out") refl, on (codes "in-place") refl) refl
+output_by-same verbs.MakeDirectory s t o on = rw (o (codes "out") refl, on (codes "in-place") refl) refl
+output_by-same _ s t o on = refl
+
+job_by-same : (f : FormView) (s t : Said) → SaySame (λ o. o) s t option_names → SaySame is_on s t flag_names → job_by f s ≡ job_by f t
+job_by-same f s t o on = λ i. job_of (source_by-same f.verb s t o i) (reading_by-same f.verb f.reading s t o on i)
+    (beside_by-same f.verb f.reading s t o on i) (ask_by-same f.verb s t o on i) (output_by-same f.verb s t o on i) (o (codes "cert") refl i)
 
 -- what clap finds under a name
 abbrev pub rows_said : FormView → List Text → List Use → Said
@@ -140,9 +171,9 @@ flags_same f positionals uses plain name at =
 
 -- the job is the same by what clap finds and by what the list says
 pub job_by-rows : (f : FormView) (positionals : List Text) (uses : List Use) → HasPlainDefaults f
-    → job_by f.verb (rows_said f positionals uses) ≡ line_job f positionals uses
+    → job_by f (rows_said f positionals uses) ≡ line_job f positionals uses
 job_by-rows f positionals uses plain =
-    job_by-same f.verb (rows_said f positionals uses) (line_said f positionals uses) (options_same f positionals uses plain) (flags_same f positionals uses plain)
+    job_by-same f (rows_said f positionals uses) (line_said f positionals uses) (options_same f positionals uses plain) (flags_same f positionals uses plain)
 
 -- no flag of the program is among the words of a command
 pub counts_same : (f : FormView) (positionals : List Text) (uses : List Use) → HasPlainDefaults f

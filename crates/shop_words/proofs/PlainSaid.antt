@@ -3,14 +3,12 @@
 use Rattle.std.proofs.Common.{◌≡◌, ℕ, refl, Bool, true, List, [], ◌∷◌, Option, Some, None, ◌&&◌, codes, is_some, length, option_map, option_and_then, arith}
 use Rattle.std.proofs.lemmas.Bool.{and_parts}
 use Rattle.std.specs.List.{list_all, list_any}
-use Rattle.a2_device.specs.declared.order.Order.{Order}
-use Rattle.shop_jobs.specs.Job.{ChangeView, LookView, TargetView}
-use Rattle.shop_jobs.specs.declared.job.FileSystem.{FileSystem}
-use Rattle.shop_jobs.specs.declared.job.VolumeOptions.{VolumeOptions}
-use Rattle.shop_words.specs.Job.{change_of, file_system_named, job_of, line_job, look_of, order_named, volume_by}
+use Rattle.shop_jobs.specs.Input.{BesideView, ReadingView, SourceView}
+use Rattle.shop_jobs.specs.Job.{AskView, TargetView}
+use Rattle.shop_words.specs.Job.{ask_by, beside_by, file_system_by, file_system_meant, job_by, job_of, line_job, names_directory, order_meant, output_by, reading_by, source_by, volume_by, volume_in}
 use Rattle.shop_words.specs.Plain.{IsPlainLine, Use, is_number, positional_names, value_of}
 use Rattle.shop_words.specs.Table.{FormView, Text}
-use Rattle.shop_words.specs.Ways.{Said}
+use Rattle.shop_words.specs.Ways.{Said, is_on}
 use Rattle.shop_words.proofs.PlainUsed.{is_needed_name, named_only, needed_said, number_ensures, takes_number, takes_words, value_passes, words_ensure}
 
 -- ---- a list of as many positional words as its form has
@@ -68,15 +66,22 @@ pub mapped_there : {X Y : Type 0} (f : X → Y) (o : Option X) → is_some o ≡
 mapped_there f None p = cc
 mapped_there f (Some x) p = refl
 
-pub look_there : (image : Text) (look : Option LookView) (volume : Option VolumeOptions) (reserve : Option Text)
-    → is_some look ≡ true → is_some volume ≡ true → is_some (job_of (Some image) (look_of look volume reserve)) ≡ true
-look_there image look volume reserve = both look volume (λ l v. job_of (Some image) (look_of l v reserve)) (λ x y. refl)
+-- a job, where each part of it is there
+parts_there : (image : Option SourceView) (reading : Option ReadingView) (beside : Option BesideView) (ask : Option AskView) (output : Option TargetView)
+    (certificate : Option Text) → is_some image ≡ true → is_some reading ≡ true → is_some beside ≡ true → is_some ask ≡ true → is_some output ≡ true
+    → is_some (job_of image reading beside ask output certificate) ≡ true
+parts_there None reading beside ask output certificate p q r s t = cc
+parts_there (Some i) None beside ask output certificate p q r s t = cc
+parts_there (Some i) (Some v) None ask output certificate p q r s t = cc
+parts_there (Some i) (Some v) (Some b) None output certificate p q r s t = cc
+parts_there (Some i) (Some v) (Some b) (Some a) None certificate p q r s t = cc
+parts_there (Some i) (Some v) (Some b) (Some a) (Some o) certificate p q r s t = refl
 
-pub change_there : (image : Text) (change : Option ChangeView) (volume : Option VolumeOptions) (target : Option TargetView)
-    (reserve : Option Text) → is_some change ≡ true → is_some volume ≡ true → is_some target ≡ true
-    → is_some (job_of (Some image) (change_of change volume target reserve)) ≡ true
-change_there image change volume target reserve =
-    three change volume target (λ c v t. job_of (Some image) (change_of c v t reserve)) (λ x y z. refl)
+pub job_there : (f : FormView) (said : Said) → is_some (source_by f.verb said) ≡ true → is_some (reading_by f.verb f.reading said) ≡ true
+    → is_some (beside_by f.verb f.reading said) ≡ true → is_some (ask_by f.verb said) ≡ true → is_some (output_by f.verb said) ≡ true
+    → is_some (job_by f said) ≡ true
+job_there f said = parts_there (source_by f.verb said) (reading_by f.verb f.reading said) (beside_by f.verb f.reading said) (ask_by f.verb said)
+    (output_by f.verb said) (said (codes "cert"))
 
 -- what is said or not is read
 pub read_there : {X : Type 0} (read : Option Text → Option X) (said : Option Text) → is_some (read None) ≡ true
@@ -108,6 +113,10 @@ module _ (f : FormView) (positionals : List Text) (uses : List Use) (plain : IsP
   pub needed : (name : Text) → list_any (is_needed_name name) f.parameters ≡ true → (v : Text) × (value_of name uses ≡ Some v)
   needed name is = needed_said f.parameters name uses is plain.complete
 
+  pub needed_there : {X : Type 0} (name : Text) (made : Text → X) → list_any (is_needed_name name) f.parameters ≡ true
+      → is_some (option_map made (value_of name uses)) ≡ true
+  needed_there name made is = let said = needed name is in rw said.1 refl
+
   -- an option of some words that is said
   pub needed_word : {X : Type 0} (name : Text) (named : Text → Option X) → list_any (is_needed_name name) f.parameters ≡ true
       → list_all (named_only name (takes_words (λ w. is_some (named w)))) f.parameters ≡ true
@@ -116,44 +125,36 @@ module _ (f : FormView) (positionals : List Text) (uses : List Use) (plain : IsP
       let said = needed name is in
       rw said.1 (words_pass name (λ w. is_some (named w)) only said.0 said.1)
 
--- ---- the volume
+-- ---- the reading
 
-both_named : (a : Option FileSystem) (b : Option Order) → is_some a ≡ true → is_some b ≡ true → (c : FileSystem → Order → VolumeOptions)
-    → is_some (option_and_then (λ x. option_map (c x) b) a) ≡ true
-both_named None b p q c = cc
-both_named (Some x) None p q c = cc
-both_named (Some x) (Some y) p q c = refl
-
-abbrev names_file_system : Text → Bool
-names_file_system word = is_some (file_system_named word)
-
-abbrev names_order : Text → Bool
-names_order word = is_some (order_named word)
-
--- the options `--fs` and `--order` of a form are needed, and each of their values names something
-abbrev has_file_system_option : FormView → Bool
-has_file_system_option f = list_any (is_needed_name (codes "fs")) f.parameters
-    && list_all (named_only (codes "fs") (takes_words names_file_system)) f.parameters
+-- the options `--fs` and `--order` of a form are needed, and each of their values says something
+abbrev has_file_system_option : Bool → FormView → Bool
+has_file_system_option in_directory f = list_any (is_needed_name (codes "fs")) f.parameters
+    && list_all (named_only (codes "fs") (takes_words (λ w. is_some (file_system_meant in_directory w)))) f.parameters
 
 abbrev has_order_option : FormView → Bool
 has_order_option f = list_any (is_needed_name (codes "order")) f.parameters
-    && list_all (named_only (codes "order") (takes_words names_order)) f.parameters
+    && list_all (named_only (codes "order") (takes_words (λ w. is_some (order_meant f.reading w)))) f.parameters
 
-pub file_system_by-line : (f : FormView) (positionals : List Text) (uses : List Use) → IsPlainLine f positionals uses → has_file_system_option f ≡ true
-    → is_some (option_and_then file_system_named (value_of (codes "fs") uses)) ≡ true
-file_system_by-line f positionals uses plain has =
+file_system_by-line : (f : FormView) (positionals : List Text) (uses : List Use) → IsPlainLine f positionals uses → (in_directory : Bool)
+    → has_file_system_option in_directory f ≡ true → is_some (option_and_then (file_system_meant in_directory) (value_of (codes "fs") uses)) ≡ true
+file_system_by-line f positionals uses plain in_directory has =
     let parts = and_parts (list_any (is_needed_name (codes "fs")) f.parameters) _ has in
-    needed_word f positionals uses plain (codes "fs") file_system_named parts.0 parts.1
+    needed_word f positionals uses plain (codes "fs") (file_system_meant in_directory) parts.0 parts.1
 
 pub order_by-line : (f : FormView) (positionals : List Text) (uses : List Use) → IsPlainLine f positionals uses → has_order_option f ≡ true
-    → is_some (option_and_then order_named (value_of (codes "order") uses)) ≡ true
+    → is_some (option_and_then (order_meant f.reading) (value_of (codes "order") uses)) ≡ true
 order_by-line f positionals uses plain has =
     let parts = and_parts (list_any (is_needed_name (codes "order")) f.parameters) _ has in
-    needed_word f positionals uses plain (codes "order") order_named parts.0 parts.1
+    needed_word f positionals uses plain (codes "order") (order_meant f.reading) parts.0 parts.1
 
 pub volume_by-line : (f : FormView) (positionals : List Text) (uses : List Use) → IsPlainLine f positionals uses → (said : Said)
-    → has_file_system_option f ≡ true → has_order_option f ≡ true
-    → said (codes "fs") ≡ value_of (codes "fs") uses → said (codes "order") ≡ value_of (codes "order") uses → is_some (volume_by said) ≡ true
+    → has_file_system_option (names_directory f.verb (said (codes "into"))) f ≡ true → has_order_option f ≡ true
+    → said (codes "fs") ≡ value_of (codes "fs") uses → said (codes "order") ≡ value_of (codes "order") uses
+    → is_some (volume_by f.reading (file_system_by f.verb said) said) ≡ true
 volume_by-line f positionals uses plain said has_fs has_order fs_said order_said =
-    rw (fs_said, order_said) (both_named (option_and_then file_system_named (value_of (codes "fs") uses)) (option_and_then order_named (value_of (codes "order") uses))
-    (file_system_by-line f positionals uses plain has_fs) (order_by-line f positionals uses plain has_order) _)
+    let in_directory = names_directory f.verb (said (codes "into")) in
+    rw (fs_said, order_said) (both (option_and_then (file_system_meant in_directory) (value_of (codes "fs") uses))
+    (option_and_then (order_meant f.reading) (value_of (codes "order") uses))
+    (λ a b. volume_in a b (is_on (said (codes "data-disk"))) (said (codes "reserve"))) (λ x y. refl)
+    (file_system_by-line f positionals uses plain in_directory has_fs) (order_by-line f positionals uses plain has_order))

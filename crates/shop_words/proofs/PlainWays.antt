@@ -1,4 +1,4 @@
--- A plain list leaves nothing to its images: its job is that of its own words.
+-- A plain list leaves nothing to its images: its job is that of its own words, and is settled.
 use Rattle.std.proofs.Common.{◌≡◌, ◌∙◌, ap, refl, sym, subst, Bool, true, false, List, [], ◌∷◌, Option, Some, None, ◌||◌, ◌&&◌, not, codes, is_some, option_map, option_and_then, if◌then◌else◌, Contains, All}
 use Rattle.std.proofs.lemmas.Bool.{and_from, and_parts, and_right, not-true, or_parts}
 use Rattle.std.proofs.lemmas.Slice.Eq.{bytes_eq-Decides}
@@ -6,17 +6,20 @@ use Rattle.std.specs.List.{list_all, list_any}
 use Rattle.std.specs.Str.{bytes_eq}
 use Rattle.clap.proofs.OnLiterals.{clap_on_literals}
 use Rattle.clap.specs.Walk.{first_of}
-use Rattle.shop_words.specs.Job.{is_closed, is_counted, is_flagged, job_by, job_with, line_job, line_said, positional_said, takes_auto, words_by}
+use Rattle.a2_device.specs.declared.order.Order.{Order}
+use Rattle.shop_jobs.specs.Input.{AsSectors, BesideView, FileBeside, FolderBeside, ReadingView, SourceView, is_settled, is_settled_beside, is_settled_order, is_settled_reading}
+use Rattle.shop_jobs.specs.Job.{AskView, JobView, TargetView}
+use Rattle.shop_jobs.specs.declared.input.FileSystem.{FileSystem}
+use Rattle.shop_jobs.specs.declared.input.OrderSaid.{OrderSaid}
+use Rattle.shop_jobs.specs.declared.input.OrderSaid.TheVariants.{Is}
+use Rattle.shop_words.specs.Job.{ask_by, beside_by, boot_said, file_system_by, file_system_meant, file_system_named, is_counted, is_flagged, is_prodos, job_by, job_of, line_job, line_said, names_directory, new_order_by, order_by, order_meant, order_named, other_image, other_named, other_order, output_by, positional_said, prodos_by, reading_by, source_by, system_image, takes_auto, volume_in, words_by, words_job}
 use Rattle.shop_words.specs.Plain.{IsPlainLine, IsUseOf, Use, positional_names, value_of}
 use Rattle.shop_words.specs.Table.{FormView, ParameterView, Text, forms}
-use Rattle.shop_words.specs.Ways.{Said, Words, file_system_said, found_file_system, has_file_system, has_order, is_auto_said, is_auto_word, is_container_word, is_file_system_left, leaves_open, left_open, may_leave, or_auto, order_said, other_order_said, other_said, put_file_system, put_order, settled, settled_file_system, settled_order, settled_other_order, stand_in, takes_container}
+use Rattle.shop_words.specs.Ways.{Said, Words, file_system_said, has_file_system, has_order, is_auto_word, is_container_word, is_on, leaves_open, may_leave, or_auto, order_said, said, takes_container}
 use Rattle.shop_words.specs.declared.table.Reading.{Reading}
 use Rattle.shop_words.specs.declared.table.Reading.TheVariants as readings
 use Rattle.shop_words.specs.declared.table.Verb.{Verb}
 use Rattle.shop_words.specs.declared.table.Verb.TheVariants as verbs
-use Rattle.shop_words.specs.declared.ways.StandIn.{StandIn}
-use Rattle.shop_words.specs.declared.ways.Ways.{Ways}
-use Rattle.shop_jobs.specs.declared.job.FileSystem.{FileSystem}
 use Rattle.shop_words.proofs.KnownForms.{of_forms}
 use Rattle.shop_words.proofs.PlainJobs.{job_by-rows, counts_same, option_names, options_same, plain_defaults, rows_said}
 use Rattle.shop_words.proofs.PlainTaken.{finished_rows, top_rows}
@@ -37,38 +40,126 @@ own_parts word own =
     let parts = and_parts (not (is_auto_word word)) (not (is_container_word word)) own in
     (not-true (is_auto_word word) parts.0, not-true (is_container_word word) parts.1)
 
-no_stand_in : (reading : Reading) (word : Text) → is_own_word word ≡ true → stand_in reading word ≡ None
-no_stand_in reading word own =
+-- ---- what is there leaves nothing to an image
+
+-- what is said passes the test, if anything is
+abbrev if_there : {X : Type 0} → (X → Bool) → Option X → Bool
+if_there test None = true
+if_there test (Some x) = test x
+
+abbrev order_settled : Option OrderSaid → Bool
+order_settled = if_there is_settled_order
+
+meant_settled : (reading : Reading) (word : Text) → is_own_word word ≡ true → order_settled (order_meant reading word) ≡ true
+meant_settled reading word own =
     let parts = own_parts word own in
-    rw (parts.0, parts.1, and_right (has_order reading) false refl, and_right (takes_container reading) false refl) refl
+    rw (parts.0, parts.1, and_right (has_order reading) false refl, and_right (takes_container reading) false refl) (by_order (order_named word)) where
+      by_order : (o : Option Order) → order_settled (option_map Is o) ≡ true
+      by_order None = refl
+      by_order (Some o) = refl
 
-left_as_is : (reading : Reading) (file_system : FileSystem) (word : Text) → is_own_word word ≡ true
-    → put_file_system reading file_system word ≡ word
-left_as_is reading file_system word own =
-    rw ((own_parts word own).0, and_right (has_file_system reading) false refl) refl
+order_by-settled : (reading : Reading) (said : Option Text) → IsOwn said → order_settled (option_and_then (order_meant reading) said) ≡ true
+order_by-settled reading None own = refl
+order_by-settled reading (Some word) own = meant_settled reading word (own word refl)
 
--- ---- what is said, or not
+other_order-settled : (reading : Reading) (said order : Option Text) → IsOwn said → IsOwn order → order_settled (other_order reading said order) ≡ true
+other_order-settled reading None order own own_order = order_by-settled reading order own_order
+other_order-settled reading (Some word) order own own_order = meant_settled reading word (own word refl)
 
-not_auto : (said : Option Text) → IsOwn said → is_auto_said said ≡ false
-not_auto None own = refl
-not_auto (Some word) own = (own_parts word (own word refl)).0
+abbrev system_settled : Option (Option FileSystem) → Bool
+system_settled = if_there is_some
 
-nothing_open : (reading : Reading) (said : Option Text) → IsOwn said → option_and_then (stand_in reading) said ≡ None
-nothing_open reading None own = refl
-nothing_open reading (Some word) own = no_stand_in reading word (own word refl)
+file_system-settled : (in_directory : Bool) (said : Option Text) → IsOwn said
+    → system_settled (option_and_then (file_system_meant in_directory) said) ≡ true
+file_system-settled in_directory None own = refl
+file_system-settled in_directory (Some word) own = rw (own_parts word (own word refl)).0 (by_name (file_system_named word)) where
+  by_name : (f : Option FileSystem) → system_settled (option_map Some f) ≡ true
+  by_name None = refl
+  by_name (Some f) = refl
 
-file_system_as_is : (reading : Reading) (file_system : FileSystem) (said : Option Text) → IsOwn said
-    → option_map (put_file_system reading file_system) said ≡ said
-file_system_as_is reading file_system None own = refl
-file_system_as_is reading file_system (Some word) own = ap Some (left_as_is reading file_system word (own word refl))
+prodos-settled : (said : Said) → system_settled (prodos_by said) ≡ true
+prodos-settled said = by_test (is_prodos (said (codes "fs"))) refl where
+  by_test : (b : Bool) → is_prodos (said (codes "fs")) ≡ b → system_settled (prodos_by said) ≡ true
+  by_test true is = rw is refl
+  by_test false is = rw is refl
 
-order_as_is : (ways : Ways) (reading : Reading) (said : Option Text) → IsOwn said → option_map (put_order reading ways.order) said ≡ said
-order_as_is ways reading None own = refl
-order_as_is ways reading (Some word) own = rw (no_stand_in reading word (own word refl)) refl
+abbrev reading_settled : Option ReadingView → Bool
+reading_settled = if_there is_settled_reading
 
-other_as_is : (ways : Ways) (reading : Reading) (said : Option Text) → IsOwn said → option_map (put_order reading ways.other_order) said ≡ said
-other_as_is ways reading None own = refl
-other_as_is ways reading (Some word) own = rw (no_stand_in reading word (own word refl)) refl
+volume-settled : (file_system : Option (Option FileSystem)) (order : Option OrderSaid) (data_disk : Bool) (reserve : Option Text)
+    → system_settled file_system ≡ true → order_settled order ≡ true → reading_settled (volume_in file_system order data_disk reserve) ≡ true
+volume-settled None order data_disk reserve p q = refl
+volume-settled (Some f) None data_disk reserve p q = refl
+volume-settled (Some f) (Some o) data_disk reserve p q = and_from _ _ p q
+
+sectors-settled : (order : Option OrderSaid) → order_settled order ≡ true → reading_settled (option_map AsSectors order) ≡ true
+sectors-settled None p = refl
+sectors-settled (Some order) p = p
+
+reading_by-settled : (verb : Verb) (reading : Reading) (said : Said) → IsOwn (said (codes "fs")) → IsOwn (said (codes "order"))
+    → reading_settled (reading_by verb reading said) ≡ true
+reading_by-settled verb readings.Nothing said fs order = refl
+reading_by-settled verb (readings.Volume out) said fs order = volume-settled (file_system_by verb said) (order_by (readings.Volume out) said) _ _
+    (file_system-settled (names_directory verb (said (codes "into"))) (said (codes "fs")) fs) (order_by-settled (readings.Volume out) (said (codes "order")) order)
+reading_by-settled verb (readings.Prodos out) said fs order = volume-settled (prodos_by said) (order_by (readings.Prodos out) said) _ _
+    (prodos-settled said) (order_by-settled (readings.Prodos out) (said (codes "order")) order)
+reading_by-settled verb (readings.Order out) said fs order =
+    sectors-settled (order_by (readings.Order out) said) (order_by-settled (readings.Order out) (said (codes "order")) order)
+reading_by-settled verb (readings.Bare out) said fs order =
+    sectors-settled (order_by (readings.Bare out) said) (order_by-settled (readings.Bare out) (said (codes "order")) order)
+
+abbrev beside_settled : Option BesideView → Bool
+beside_settled = if_there is_settled_beside
+
+other_image-settled : (other : Option Text) (order : Option OrderSaid) → order_settled order ≡ true → beside_settled (other_image other order) ≡ true
+other_image-settled None order p = refl
+other_image-settled (Some other) None p = refl
+other_image-settled (Some other) (Some order) p = p
+
+system_image-settled : (boot : Option (Option Text)) (order : Option Order) → beside_settled (system_image boot order) ≡ true
+system_image-settled None order = refl
+system_image-settled (Some None) order = refl
+system_image-settled (Some (Some boot)) None = refl
+system_image-settled (Some (Some boot)) (Some order) = refl
+
+-- whatever path is said
+path-settled : (made : Text → BesideView) → ((path : Text) → is_settled_beside (made path) ≡ true) → (said : Option Text)
+    → beside_settled (option_map made said) ≡ true
+path-settled made each None = refl
+path-settled made each (Some path) = each path
+
+beside_by-settled : (verb : Verb) (reading : Reading) (said : Said) → IsOwn (said (codes "order")) → IsOwn (said (codes "other-order"))
+    → beside_settled (beside_by verb reading said) ≡ true
+beside_by-settled verbs.Verify reading said order other = path-settled FileBeside (λ path. refl) (said (codes "from"))
+beside_by-settled verbs.Save reading said order other = path-settled FileBeside (λ path. refl) (said (codes "from"))
+beside_by-settled verbs.Add reading said order other = path-settled FolderBeside (λ path. refl) (said (codes "from"))
+beside_by-settled verbs.Compare reading said order other =
+    other_image-settled (other_named (said (codes "image")) (said (codes "other"))) (other_order reading (said (codes "other-order")) (said (codes "order")))
+    (other_order-settled reading (said (codes "other-order")) (said (codes "order")) other order)
+beside_by-settled verbs.Create reading said order other =
+    system_image-settled (boot_said (is_on (said (codes "data-disk"))) (said (codes "boot"))) (new_order_by said)
+beside_by-settled _ reading said order other = refl
+
+abbrev pub job_settled : Option JobView → Bool
+job_settled = if_there (λ job. is_settled job.input)
+
+parts_settled : (image : Option SourceView) (reading : Option ReadingView) (beside : Option BesideView) (ask : Option AskView) (output : Option TargetView)
+    (certificate : Option Text) → reading_settled reading ≡ true → beside_settled beside ≡ true
+    → job_settled (job_of image reading beside ask output certificate) ≡ true
+parts_settled None reading beside ask output certificate p q = refl
+parts_settled (Some i) None beside ask output certificate p q = refl
+parts_settled (Some i) (Some v) None ask output certificate p q = refl
+parts_settled (Some i) (Some v) (Some b) None output certificate p q = refl
+parts_settled (Some i) (Some v) (Some b) (Some a) None certificate p q = refl
+parts_settled (Some i) (Some v) (Some b) (Some a) (Some o) certificate p q = and_from _ _ p q
+
+job_by-settled : (f : FormView) (said : Said) → IsOwn (said (codes "fs")) → IsOwn (said (codes "order")) → IsOwn (said (codes "other-order"))
+    → job_settled (job_by f said) ≡ true
+job_by-settled f said fs order other = parts_settled (source_by f.verb said) (reading_by f.verb f.reading said) (beside_by f.verb f.reading said)
+    (ask_by f.verb said) (output_by f.verb said) (said (codes "cert")) (reading_by-settled f.verb f.reading said fs order)
+    (beside_by-settled f.verb f.reading said order other)
+
+-- ---- words that leave nothing out
 
 said_itself : (opened : Bool) (said : Option Text) → (opened ≡ true → is_some said ≡ true) → or_auto opened said ≡ said
 said_itself true (Some word) there = refl
@@ -76,16 +167,10 @@ said_itself false (Some word) there = refl
 said_itself false None there = refl
 said_itself true None there = let no = there refl in cc
 
-other_itself : (said order : Option Text) → IsOwn order → other_said said order ≡ said
-other_itself (Some word) order own = refl
-other_itself None None own = refl
-other_itself None (Some word) own = let parts = own_parts word (own word refl) in rw (parts.0, parts.1) refl
-
--- ---- words that leave nothing to an image
-
 opens_order : (reading : Reading) (auto in_place : Bool) → may_leave reading auto in_place ≡ true → has_order reading ≡ true
 opens_order readings.Nothing auto in_place opened = cc
 opens_order (readings.Volume out) auto in_place opened = refl
+opens_order (readings.Prodos out) auto in_place opened = refl
 opens_order (readings.Order out) auto in_place opened = refl
 opens_order (readings.Bare out) auto in_place opened = refl
 
@@ -105,54 +190,18 @@ module _ (w : Words) (says : SaysWays w) where
   order_is : order_said w ≡ w.say (codes "order")
   order_is = said_itself _ (w.say (codes "order")) (λ opened. says.order (opens_order w.form.reading w.is_auto _ opened))
 
-  other_is : other_order_said w.form.verb w ≡ w.say (codes "other-order")
-  other_is = by_verb w.form.verb (ap (other_said (w.say (codes "other-order"))) order_is
-      ∙ other_itself (w.say (codes "other-order")) (w.say (codes "order")) says.own_order) where
-        by_verb : (verb : Verb) → other_said (w.say (codes "other-order")) (order_said w) ≡ w.say (codes "other-order")
-            → other_order_said verb w ≡ w.say (codes "other-order")
-        by_verb verbs.Compare is = is
-        by_verb _ is = refl
-
-  not_left : is_file_system_left w ≡ false
-  not_left = rw (ap is_auto_said file_system_is ∙ not_auto (w.say (codes "fs")) says.own_file_system)
-      (and_right (has_file_system w.form.reading) false refl)
-
-  leaves_nothing : is_closed (left_open w) ≡ true
-  leaves_nothing =
-      let order : (left_open w).order ≡ None = ap (option_and_then (stand_in w.form.reading)) order_is
-      ∙ nothing_open w.form.reading (w.say (codes "order")) says.own_order in
-      let other : (left_open w).other_order ≡ None = ap (option_and_then (stand_in w.form.reading)) other_is
-      ∙ nothing_open w.form.reading (w.say (codes "other-order")) says.own_other in
-      closed (is_file_system_left w) (left_open w).order (left_open w).other_order not_left order other where
-        closed : (fs : Bool) (a b : Option StandIn) → fs ≡ false → a ≡ None → b ≡ None
-            → is_closed (record { file_system = fs; order = a; other_order = b }) ≡ true
-        closed fs a b p q r = rw (p, q, r) refl
-
-  settled_as_said : (ways : Ways) → settled ways w ≡ w.say
-  settled_as_said ways = λ i name. each name i where
-    fs : settled_file_system ways w ≡ w.say (codes "fs")
-    fs = ap (option_map (put_file_system w.form.reading (found_file_system ways w))) file_system_is
-        ∙ file_system_as_is w.form.reading (found_file_system ways w) (w.say (codes "fs")) says.own_file_system
-
-    order : settled_order ways w ≡ w.say (codes "order")
-    order = ap (option_map (put_order w.form.reading ways.order)) order_is
-        ∙ order_as_is ways w.form.reading (w.say (codes "order")) says.own_order
-
-    other : settled_other_order ways w ≡ w.say (codes "other-order")
-    other = ap (option_map (put_order w.form.reading ways.other_order)) other_is
-        ∙ other_as_is ways w.form.reading (w.say (codes "other-order")) says.own_other
-
+  said_as_is : said w ≡ w.say
+  said_as_is = λ i name. each name i where
     -- a name that is this one, or another
     by_name : (b : Bool) (name this : Text) (here there : Option Text) → bytes_eq name this ≡ b → here ≡ w.say this → there ≡ w.say name
         → (if b then here else there) ≡ w.say name
     by_name true name this here there same e rest = e ∙ sym (ap w.say ((bytes_eq-Decides name this).0 same))
     by_name false name this here there same e rest = rest
 
-    each : (name : Text) → settled ways w name ≡ w.say name
+    each : (name : Text) → said w name ≡ w.say name
     each name =
-        by_name (bytes_eq name (codes "fs")) name (codes "fs") _ _ refl fs
-        (by_name (bytes_eq name (codes "order")) name (codes "order") _ _ refl order
-        (by_name (bytes_eq name (codes "other-order")) name (codes "other-order") _ _ refl other refl))
+        by_name (bytes_eq name (codes "fs")) name (codes "fs") _ _ refl file_system_is
+        (by_name (bytes_eq name (codes "order")) name (codes "order") _ _ refl order_is refl)
 
 -- ---- the words of a plain list
 
@@ -274,14 +323,17 @@ module _ (f : FormView) (positionals : List Text) (uses : List Use) (at : Contai
   words_are : words_by top_rows (finished_rows f positionals uses) f ≡ own_words
   words_are = ap (λ b. record { form = f; is_auto = b; say = rows_said f positionals uses }) (not_auto_line passes.1.1)
 
-  -- nothing is left open
-  pub closed-line : is_closed (left_open (words_by top_rows (finished_rows f positionals uses) f)) ≡ true
-  closed-line = ap (λ (w : Words). is_closed (left_open w)) words_are ∙ leaves_nothing own_words passes.0
+  is_words_job : words_job (words_by top_rows (finished_rows f positionals uses) f) ≡ job_by f (rows_said f positionals uses)
+  is_words_job =
+      ap words_job words_are
+      ∙ where_true (takes_auto f.verb false) (job_by f (said own_words)) passes.1.0
+      ∙ ap (job_by f) (said_as_is own_words passes.0)
 
-  -- and the job is that of the line, whatever ways the images have
-  pub job_with-line : (ways : Ways) → job_with ways (words_by top_rows (finished_rows f positionals uses) f) ≡ line_job f positionals uses
-  job_with-line ways =
-      ap (job_with ways) words_are
-      ∙ where_true (takes_auto f.verb false) (job_by f.verb (settled ways own_words)) passes.1.0
-      ∙ ap (job_by f.verb) (settled_as_said own_words passes.0 ways)
-      ∙ job_by-rows f positionals uses (plain_defaults f at)
+  -- the job is that of the line
+  pub words_job-line : words_job (words_by top_rows (finished_rows f positionals uses) f) ≡ line_job f positionals uses
+  words_job-line = is_words_job ∙ job_by-rows f positionals uses (plain_defaults f at)
+
+  -- and leaves nothing to the images
+  pub settled-line : job_settled (words_job (words_by top_rows (finished_rows f positionals uses) f)) ≡ true
+  settled-line = ap job_settled is_words_job
+      ∙ job_by-settled f (rows_said f positionals uses) passes.0.own_file_system passes.0.own_order passes.0.own_other

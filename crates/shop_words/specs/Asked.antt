@@ -7,7 +7,7 @@ use Rattle.clap.specs.Takes.{takes}
 use Rattle.clap.specs.Walk.{Row, rows_of}
 use Rattle.shop_jobs.specs.Job.{JobView}
 use Rattle.shop_words.specs.Grammar.{shop}
-use Rattle.shop_words.specs.Job.{closed_job, form_of, is_flagged, meant_words, rows_say, words_by}
+use Rattle.shop_words.specs.Job.{form_of, is_flagged, meant_words, rows_say, settled_alone, words_by, words_job}
 use Rattle.shop_words.specs.Table.{FormView, Text, form_view}
 use Rattle.shop_words.specs.Ways.{Words}
 use Rattle.shop_words.specs.declared.asked.Asked.{Asked}
@@ -40,9 +40,13 @@ found_asked above found = option_and_then (λ p. option_map (asked_by above p.1)
 abbrev pub asked_list : List Text → Option AskedView
 asked_list words = found_asked (matches_of shop (meant_words words)) (subcommand_of shop (meant_words words))
 
--- the job that a list asks for, whatever it is
+-- the job that a list asks for, whatever it is; what it leaves to its images stands in it as such
+abbrev pub open_job : List Text → Option JobView
+open_job words = option_and_then (λ a. words_job a.words) (asked_list words)
+
+-- the same where it leaves nothing to them
 abbrev pub asked_job : List Text → Option JobView
-asked_job words = option_and_then (λ a. closed_job a.words) (asked_list words)
+asked_job words = option_and_then settled_alone (open_job words)
 
 -- clap takes the words, and they have a job
 abbrev pub IsTaken : List Text → Type 0

@@ -7,3 +7,8 @@ use Rattle.shop_words.specs.declared.misfit.Misfit.TheVariants.{Memory}
 abbrev pub Gives : {T V : Type 0} → (T → V) → Option V → Result T Misfit → Type 0
 Gives view said (Ok given) = said ≡ Some (view given)
 Gives view said (Err misfit) = (misfit ≡ Memory) ⊎ (said ≡ None)
+
+-- two things that are said, where both are
+abbrev pub both : {A B : Type 0} → Option A → Option B → Option (A × B)
+both (Some a) (Some b) = Some (a, b)
+both _ _ = None

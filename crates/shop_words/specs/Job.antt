@@ -5,33 +5,34 @@ use Rattle.std.specs.Str.Parse.{digits_value}
 use Rattle.clap.specs.Walk.{Row, first_of}
 use Rattle.a2_device.specs.declared.order.Order.{Order}
 use Rattle.a2_device.specs.declared.order.Order.TheVariants as orders
-use Rattle.shop_words.specs.Hexadecimal.{bytes_named}
-use Rattle.shop_words.specs.Ways.{Said, Words, is_auto_word, is_on, left_open, settled}
-use Rattle.shop_words.specs.declared.table.Verb.{Verb}
-use Rattle.shop_words.specs.declared.table.Verb.TheVariants as verbs
-use Rattle.shop_words.specs.declared.ways.LeftOpen.{LeftOpen}
-use Rattle.shop_words.specs.declared.ways.Ways.{Ways}
-use Rattle.shop_words.specs.Table.{Text, FormView, forms, fewest_blocks, greatest_number, most_blocks, most_comment, most_writes}
-use Rattle.shop_words.specs.Plain.{Use, address_named, is_number, is_short, positional_names, value_of}
 use Rattle.apple_text.specs.declared.form.HighBit.{HighBit}
 use Rattle.apple_text.specs.declared.form.HighBit.TheVariants as high_bits
 use Rattle.file_forms.specs.declared.form.FileForm.TheVariants as file_forms
-use Rattle.file_forms.specs.declared.form.GivenForm.{GivenForm}
-use Rattle.file_forms.specs.declared.form.GivenForm.TheVariants as given_forms
-use Rattle.shop_jobs.specs.declared.job.ReadForm.{ReadForm}
-use Rattle.shop_jobs.specs.declared.job.ReadForm.TheVariants as read_forms
-use Rattle.shop_jobs.specs.declared.job.ListForm.{ListForm}
-use Rattle.shop_jobs.specs.declared.job.ListForm.TheVariants as list_forms
-use Rattle.shop_jobs.specs.declared.job.CompareOptions.{CompareOptions}
-use Rattle.shop_jobs.specs.declared.job.ExtractOptions.{ExtractOptions}
 use Rattle.host_folders.specs.declared.entry.Naming.{Naming}
 use Rattle.host_folders.specs.declared.entry.Naming.TheVariants as namings
-use Rattle.shop_jobs.specs.declared.job.FileSystem.{FileSystem}
-use Rattle.shop_jobs.specs.declared.job.FileSystem.TheVariants as file_systems
-use Rattle.shop_jobs.specs.declared.job.SurveyForm.{SurveyForm}
-use Rattle.shop_jobs.specs.declared.job.SurveyForm.TheVariants as survey_forms
-use Rattle.shop_jobs.specs.declared.job.VolumeOptions.{VolumeOptions}
-use Rattle.shop_jobs.specs.Job.{AddTo, AdditionView, AskView, AttributesView, ByPath, ByStored, Catalog, ChangeOf, ChangeView, Check, Compare, Convert, Create, CreationView, Delete, DosVolume, EditOf, EditView, ExtractFrom, FileNameView, Identify, InPlace, JobView, Lock, Entries, LookAt, LookView, MakeDirectory, Map, NewVolumeView, Optimize, Plan, ProdosVolume, Read, Reclaim, Rename, Save, Survey, TargetView, ToFile, Unlock, Unwrap, Verify, Wrap, WrappingView}
+use Rattle.shop_jobs.specs.Input.{AsBytes, AsSectors, AsVolume, BesideView, FileBeside, FolderBeside, FromFile, ImageBeside, NothingBeside, Nowhere, ReadingView, SourceView, StandardInput, is_settled}
+use Rattle.shop_jobs.specs.Job.{AddTo, AdditionView, AskView, AttributesView, ByPath, ByStored, Catalog, ChangeOf, ChangeView, Check, Compare, Convert, Create, CreationView, Delete, DosVolume, EditOf, EditView, Entries, ExtractFrom, FileNameView, Identify, InPlace, JobView, Lock, LookAt, LookView, MakeDirectory, Map, NewVolumeView, OfTheVolume, Optimize, Plan, ProdosVolume, Read, Reclaim, Rename, Save, Survey, TargetView, ToFile, ToFolder, ToNewFile, ToNothing, Unlock, Unwrap, Verify, Wrap, WrappingView}
+use Rattle.shop_jobs.specs.declared.changes.SaveForm.{SaveForm}
+use Rattle.shop_jobs.specs.declared.changes.SaveForm.TheVariants as save_forms
+use Rattle.shop_jobs.specs.declared.folders.ExtractOptions.{ExtractOptions}
+use Rattle.shop_jobs.specs.declared.folders.SurveyForm.{SurveyForm}
+use Rattle.shop_jobs.specs.declared.folders.SurveyForm.TheVariants as survey_forms
+use Rattle.shop_jobs.specs.declared.input.FileSystem.{FileSystem}
+use Rattle.shop_jobs.specs.declared.input.FileSystem.TheVariants as file_systems
+use Rattle.shop_jobs.specs.declared.input.OrderSaid.{OrderSaid}
+use Rattle.shop_jobs.specs.declared.input.OrderSaid.TheVariants.{ByContainer, ByReading, Is}
+use Rattle.shop_jobs.specs.declared.looks.ListForm.{ListForm}
+use Rattle.shop_jobs.specs.declared.looks.ListForm.TheVariants as list_forms
+use Rattle.shop_jobs.specs.declared.looks.ReadForm.{ReadForm}
+use Rattle.shop_jobs.specs.declared.looks.ReadForm.TheVariants as read_forms
+use Rattle.shop_words.specs.Hexadecimal.{bytes_named}
+use Rattle.shop_words.specs.Plain.{Use, address_named, is_number, is_short, positional_names, value_of}
+use Rattle.shop_words.specs.Table.{Text, FormView, forms, fewest_blocks, greatest_number, most_blocks, most_comment, most_writes}
+use Rattle.shop_words.specs.Ways.{Said, Words, has_order, is_auto_word, is_container_word, is_on, said, takes_container}
+use Rattle.shop_words.specs.declared.table.Reading.{Reading}
+use Rattle.shop_words.specs.declared.table.Reading.TheVariants as readings
+use Rattle.shop_words.specs.declared.table.Verb.{Verb}
+use Rattle.shop_words.specs.declared.table.Verb.TheVariants as verbs
 
 -- ---- what a word names
 
@@ -134,16 +135,79 @@ boot_said false boot = Some boot
 boot_said true None = Some None
 boot_said true (Some boot) = None
 
--- ---- what is said of a volume
+-- ---- how an image is read
 
--- what the image is read as
-abbrev pub volume_by : Said → Option VolumeOptions
-volume_by said = option_and_then (λ file_system. option_map (λ order. record {
+-- the order of an image: `auto` is that of its best reading, `2img` that of the header of its container
+abbrev pub order_meant : Reading → Text → Option OrderSaid
+order_meant reading word =
+    if has_order reading && is_auto_word word then Some ByReading else
+    if takes_container reading && is_container_word word then Some ByContainer else option_map Is (order_named word)
+
+abbrev pub order_by : Reading → Said → Option OrderSaid
+order_by reading said = option_and_then (order_meant reading) (said (codes "order"))
+
+-- files are added to a directory of ProDOS alone
+abbrev pub names_directory : Verb → Option Text → Bool
+names_directory verbs.Add (Some into) = true
+names_directory verb into = false
+
+-- the file system of a volume: `auto` is that of the best reading of its image, but where a directory is named
+abbrev pub found_in : Bool → Option FileSystem
+found_in true = Some file_systems.Prodos
+found_in false = None
+
+abbrev pub file_system_meant : Bool → Text → Option (Option FileSystem)
+file_system_meant in_directory word =
+    if is_auto_word word then Some (found_in in_directory) else option_map Some (file_system_named word)
+
+abbrev pub file_system_by : Verb → Said → Option (Option FileSystem)
+file_system_by verb said =
+    option_and_then (file_system_meant (names_directory verb (said (codes "into")))) (said (codes "fs"))
+
+-- that of a volume of ProDOS, said or left out or to the image
+abbrev pub is_prodos : Option Text → Bool
+is_prodos None = true
+is_prodos (Some word) = bytes_eq word (codes "prodos") || is_auto_word word
+
+abbrev pub prodos_by : Said → Option (Option FileSystem)
+prodos_by said = if is_prodos (said (codes "fs")) then Some (Some file_systems.Prodos) else None
+
+-- a volume in an order, a data disk where a flag says so; places to reserve are said or not
+abbrev pub volume_in : Option (Option FileSystem) → Option OrderSaid → Bool → Option Text → Option ReadingView
+volume_in (Some file_system) (Some order) data_disk reserve = Some (AsVolume (record {
   file_system = file_system;
   order = order;
-  data_disk = is_on (said (codes "data-disk"));
-}) (option_and_then order_named (said (codes "order"))))
-    (option_and_then file_system_named (said (codes "fs")))
+  data_disk = data_disk;
+  reserve = reserve;
+}))
+volume_in _ _ data_disk reserve = None
+
+abbrev pub volume_by : Reading → Option (Option FileSystem) → Said → Option ReadingView
+volume_by reading file_system said =
+    volume_in file_system (order_by reading said) (is_on (said (codes "data-disk"))) (said (codes "reserve"))
+
+-- as what the image is read: as bytes, where words say nothing of it; as a volume; or as sectors in an order
+abbrev pub reading_by : Verb → Reading → Said → Option ReadingView
+reading_by verb readings.Nothing said = Some AsBytes
+reading_by verb (readings.Volume out) said = volume_by (readings.Volume out) (file_system_by verb said) said
+reading_by verb (readings.Prodos out) said = volume_by (readings.Prodos out) (prodos_by said) said
+reading_by verb (readings.Order out) said = option_map AsSectors (order_by (readings.Order out) said)
+reading_by verb (readings.Bare out) said = option_map AsSectors (order_by (readings.Bare out) said)
+
+-- where the image is: `-` is standard input
+abbrev pub is_input : Text → Bool
+is_input path = bytes_eq path (codes "-")
+
+abbrev pub source_named : Text → SourceView
+source_named path = if is_input path then StandardInput else FromFile path
+
+-- a survey looks at what stands at a path, and a volume is made of no image
+abbrev pub source_by : Verb → Said → Option SourceView
+source_by verbs.Create said = Some Nowhere
+source_by verbs.Survey said = option_map source_named (said (codes "path"))
+source_by verb said = option_map source_named (said (codes "image"))
+
+-- ---- what is said of a volume
 
 -- where an image goes: to the file that is said, or in place where a flag says so; of the two exactly one is said
 abbrev pub target_named : Option Text → Bool → Option TargetView
@@ -185,32 +249,10 @@ list_by said = let places = is_on (said (codes "places")) in
     list_of (form_for places (form_said (said (codes "format")))) (is_on (said (codes "digests"))) places
     (most_bytes (said (codes "most")))
 
--- the path of the other image, where not both are standard input
-abbrev pub other_named : Option Text → Option Text → Option Text
-other_named (Some image) (Some other) =
-    if bytes_eq image (codes "-") && bytes_eq other (codes "-") then None else Some other
-other_named _ _ = None
-
--- the order of the other image, that of the image where none is said
-abbrev pub other_order : Option Text → Option Text → Option Order
-other_order None order = option_and_then order_named order
-other_order (Some word) order = order_named word
-
--- how it is compared; files that are the same are told too where a flag says so
-abbrev pub options_of : Option Order → Bool → Option ℕ → Option CompareOptions
-options_of (Some order) all (Some most) = Some (record { other_order = order; all = all; most = most })
-options_of _ all _ = None
-
-abbrev pub options_by : Said → Option CompareOptions
-options_by said = options_of (other_order (said (codes "other-order")) (said (codes "order")))
-    (is_on (said (codes "all"))) (most_bytes (said (codes "most")))
-
-abbrev pub compare_of : Option Text → Option CompareOptions → Option LookView
-compare_of (Some other) (Some options) = Some (Compare other options)
-compare_of _ _ = None
-
+-- files that are the same are told too where a flag says so
 abbrev pub compare_by : Said → Option LookView
-compare_by said = compare_of (other_named (said (codes "image")) (said (codes "other"))) (options_by said)
+compare_by said = option_map (λ most. Compare (record { all = is_on (said (codes "all")); most = most }))
+    (most_bytes (said (codes "most")))
 
 -- the bodies are checked too where a flag says so
 abbrev pub check_by : Said → LookView
@@ -231,27 +273,26 @@ read_form_said true None = Some read_forms.Whole
 read_form_said false (Some word) = read_form_named word
 read_form_said true (Some word) = None
 
--- a file, as what it is read, and the new file that it goes to, if one is said
-abbrev pub read_of : Option FileNameView → Option ReadForm → Option Text → Option LookView
-read_of (Some name) (Some form) out = Some (Read name form out)
-read_of _ _ out = None
+-- a file, as what it is read; its bytes go to a new file where one is said
+abbrev pub read_of : Option FileNameView → Option ReadForm → Bool → Option LookView
+read_of (Some name) (Some form) to_file = Some (Read name form to_file)
+read_of _ _ to_file = None
 
 abbrev pub read_by : Said → Option LookView
 read_by said = read_of (name_by said)
-    (read_form_said (is_on (said (codes "whole"))) (said (codes "as"))) (said (codes "out"))
+    (read_form_said (is_on (said (codes "whole"))) (said (codes "as"))) (is_some (said (codes "out")))
 
 -- a plan is told as a certificate, or in words where a flag says so
 abbrev pub plan_by : Said → LookView
 plan_by said = Plan (is_on (said (codes "reclaim"))) (is_on (said (codes "words")))
 
-abbrev pub verify_by : Said → Option LookView
-verify_by said = option_map (λ from. Verify from (is_on (said (codes "reclaim")))) (said (codes "from"))
+abbrev pub verify_by : Said → LookView
+verify_by said = Verify (is_on (said (codes "reclaim")))
 
 -- ---- what is changed of a volume
 
 abbrev pub optimize_by : Said → Option ChangeView
-optimize_by said = option_map (λ limit. Optimize (is_on (said (codes "reclaim"))) limit (said (codes "cert")))
-    (limit_named (said (codes "stop-after")))
+optimize_by said = option_map (Optimize (is_on (said (codes "reclaim")))) (limit_named (said (codes "stop-after")))
 
 abbrev pub edit_by : EditView → Said → Option ChangeView
 edit_by edit said = option_map (λ name. EditOf name edit) (name_by said)
@@ -260,84 +301,66 @@ edit_by edit said = option_map (λ name. EditOf name edit) (name_by said)
 abbrev pub rename_by : Said → Option ChangeView
 rename_by said = option_and_then (λ new. edit_by (Rename new) said) (said (codes "new"))
 
--- the highest bit of the bytes of a text that is said, or where none is, on in DOS 3.3 and off in ProDOS
-abbrev pub usual_high : FileSystem → HighBit
-usual_high file_systems.Dos = high_bits.On
-usual_high file_systems.Prodos = high_bits.Off
-
+-- the highest bit of the bytes of a text that is said, or that none is
 abbrev pub high_named : Text → Option HighBit
 high_named word =
     if bytes_eq word (codes "on") then Some high_bits.On else
     if bytes_eq word (codes "off") then Some high_bits.Off else None
 
-abbrev pub high_said : FileSystem → Option Text → Option HighBit
-high_said file_system None = Some (usual_high file_system)
-high_said file_system (Some word) = high_named word
+abbrev pub high_said : Option Text → Option (Option HighBit)
+high_said None = Some None
+high_said (Some word) = option_map Some (high_named word)
 
 -- the form in which a new file is given; of a text alone the highest bit is said
-abbrev pub text_given : Option HighBit → Option (Option GivenForm)
-text_given high = option_map (λ h. Some (given_forms.Text h)) high
+abbrev pub text_given : Option (Option HighBit) → Option (Option SaveForm)
+text_given high = option_map (λ h. Some (save_forms.Text h)) high
 
-abbrev pub without_high : Option Text → Option GivenForm → Option (Option GivenForm)
+abbrev pub without_high : Option Text → Option SaveForm → Option (Option SaveForm)
 without_high None form = Some form
 without_high (Some high) form = None
 
-abbrev pub given_form_named : Text → Option Text → FileSystem → Option (Option GivenForm)
-given_form_named word high file_system =
-    if bytes_eq word (codes "text") then text_given (high_said file_system high) else
-    if bytes_eq word (codes "applesoft") then without_high high (Some given_forms.Applesoft) else
-    if bytes_eq word (codes "single") then without_high high (Some given_forms.Single) else None
+abbrev pub save_form_named : Text → Option Text → Option (Option SaveForm)
+save_form_named word high =
+    if bytes_eq word (codes "text") then text_given (high_said high) else
+    if bytes_eq word (codes "applesoft") then without_high high (Some save_forms.Applesoft) else
+    if bytes_eq word (codes "single") then without_high high (Some save_forms.Single) else None
 
-abbrev pub given_form_said : Option Text → Option Text → FileSystem → Option (Option GivenForm)
-given_form_said None high file_system = without_high high None
-given_form_said (Some word) high file_system = given_form_named word high file_system
-
-abbrev pub given_form_by : Said → Option (Option GivenForm)
-given_form_by said = option_and_then (given_form_said (said (codes "as")) (said (codes "high")))
-    (option_and_then file_system_named (said (codes "fs")))
+abbrev pub save_form_said : Option Text → Option Text → Option (Option SaveForm)
+save_form_said None high = without_high high None
+save_form_said (Some word) high = save_form_named word high
 
 -- a program whose listing is given is loaded at $0801, so no other auxiliary type is said of it
-abbrev pub is_loadable : Option GivenForm → Option ℕ → Bool
-is_loadable (Some given_forms.Applesoft) (Some aux) = aux == 0x0801
+abbrev pub is_loadable : Option SaveForm → Option ℕ → Bool
+is_loadable (Some save_forms.Applesoft) (Some aux) = aux == 0x0801
 is_loadable form aux = true
+
+abbrev pub loadable : Option ℕ → Option SaveForm → Option (Option SaveForm)
+loadable aux form = if is_loadable form aux then Some form else None
+
+abbrev pub save_form_by : Option ℕ → Said → Option (Option SaveForm)
+save_form_by aux said = option_and_then (loadable aux) (save_form_said (said (codes "as")) (said (codes "high")))
 
 -- the type and the date of a new file are said or not
 abbrev pub attributes_by : Option ℕ → Said → AttributesView
 attributes_by aux said = record { kind = said (codes "type"); aux = aux; date = said (codes "date") }
 
 -- a new file, where each part of it is there; it takes the place of another one or not
-abbrev pub save_of : Bool → Option Text → Option AttributesView → Option (Option GivenForm) → Option Text
-    → Option ChangeView
-save_of replace (Some name) (Some attributes) (Some form) (Some from) =
-    if is_loadable form attributes.aux then Some (Save name attributes form from replace) else None
-save_of replace _ _ _ _ = None
+abbrev pub save_of : Bool → Option Text → AttributesView → Option (Option SaveForm) → Option ChangeView
+save_of replace (Some name) attributes (Some form) = Some (Save name attributes form replace)
+save_of replace _ attributes _ = None
+
+abbrev pub save_with : Said → Option ℕ → Option ChangeView
+save_with said aux = save_of (is_on (said (codes "replace"))) (said (codes "name")) (attributes_by aux said)
+    (save_form_by aux said)
 
 abbrev pub save_by : Said → Option ChangeView
-save_by said = save_of (is_on (said (codes "replace"))) (said (codes "name"))
-    (option_map (λ aux. attributes_by aux said) (aux_named (said (codes "aux")))) (given_form_by said)
-    (said (codes "from"))
+save_by said = option_and_then (save_with said) (aux_named (said (codes "aux")))
 
--- ---- what is asked, where each part of it is there
+-- a directory of this path is made, whose date is said or not
+abbrev pub directory_made_by : Said → Option ChangeView
+directory_made_by said = option_map (λ path. MakeDirectory path (said (codes "date"))) (said (codes "name"))
 
-abbrev pub look_of : Option LookView → Option VolumeOptions → Option Text → Option AskView
-look_of (Some look) (Some volume) reserve = Some (LookAt volume reserve look)
-look_of _ _ reserve = None
-
--- a look at the volume, with the places to reserve
-abbrev pub look_by : Option LookView → Option Text → Said → Option AskView
-look_by look reserve said = look_of look (volume_by said) reserve
-
-abbrev pub change_of : Option ChangeView → Option VolumeOptions → Option TargetView → Option Text → Option AskView
-change_of (Some change) (Some volume) (Some target) reserve = Some (ChangeOf volume reserve change target)
-change_of _ _ _ reserve = None
-
--- a change of a volume that the words name; places to reserve are said or not
-abbrev pub change_on : Option VolumeOptions → Option ChangeView → Said → Option AskView
-change_on volume change said = change_of change volume (target_by said) (said (codes "reserve"))
-
--- the same of the volume that they name by its file system
-abbrev pub change_by : Option ChangeView → Said → Option AskView
-change_by change said = change_on (volume_by said) change said
+-- ---- files of folders, other orders and containers
 
 -- how the files of the volume are put into a folder, with their readable forms where a flag says so
 abbrev pub extraction_of : Option Naming → Bool → Option ℕ → Option ExtractOptions
@@ -348,45 +371,38 @@ abbrev pub extraction_by : Said → Option ExtractOptions
 extraction_by said = extraction_of (naming_said (said (codes "names"))) (is_on (said (codes "texts")))
     (most_bytes (said (codes "most")))
 
-abbrev pub extract_of : Option VolumeOptions → Option ExtractOptions → Option Text → Option AskView
-extract_of (Some volume) (Some options) (Some into) = Some (ExtractFrom volume options into)
-extract_of _ _ _ = None
-
-abbrev pub extract_by : Said → Option AskView
-extract_by said = extract_of (volume_by said) (extraction_by said) (said (codes "into"))
-
-abbrev pub conversion_of : Option Order → Option Order → Option Text → Option ℕ → Option AskView
-conversion_of (Some order) (Some to) (Some out) (Some volume) =
-    Some (Convert (record { order = order; to = to; out = out; volume = volume }))
-conversion_of _ _ _ _ = None
+-- the order that is written, and the volume number of tracks that are made
+abbrev pub conversion_of : Option Order → Option ℕ → Option AskView
+conversion_of (Some to) (Some volume) = Some (Convert to volume)
+conversion_of _ _ = None
 
 abbrev pub convert_by : Said → Option AskView
-convert_by said = conversion_of (option_and_then order_named (said (codes "order")))
-    (option_and_then order_named (said (codes "to"))) (said (codes "out")) (volume_number (said (codes "volume")))
+convert_by said =
+    conversion_of (option_and_then order_named (said (codes "to"))) (volume_number (said (codes "volume")))
 
 -- how an image is put into a container, with protection where a flag says so
-abbrev pub wrapping_of : Option Order → Option (Option ℕ) → Option Text → Bool → Option WrappingView
-wrapping_of (Some order) (Some volume) (Some comment) protect =
-    Some (record { order = order; volume = volume; comment = comment; protect = protect })
-wrapping_of _ _ _ protect = None
+abbrev pub wrapping_of : Option (Option ℕ) → Option Text → Bool → Option WrappingView
+wrapping_of (Some volume) (Some comment) protect =
+    Some (record { volume = volume; comment = comment; protect = protect })
+wrapping_of _ _ protect = None
 
 abbrev pub wrapping_by : Said → Option WrappingView
-wrapping_by said = wrapping_of (option_and_then order_named (said (codes "order")))
-    (told_volume (said (codes "volume")))
-    (comment_said (said (codes "comment"))) (is_on (said (codes "protect")))
+wrapping_by said = wrapping_of (told_volume (said (codes "volume"))) (comment_said (said (codes "comment")))
+    (is_on (said (codes "protect")))
 
-abbrev pub wrap_of : Option WrappingView → Option Text → Option AskView
-wrap_of (Some words) (Some out) = Some (Wrap words out)
-wrap_of _ _ = None
+-- the directory under which the paths of the files begin that are added, or that none is said; a DOS 3.3 disk has none
+abbrev pub is_dos_said : Option Text → Bool
+is_dos_said None = false
+is_dos_said (Some word) = bytes_eq word (codes "dos")
 
-abbrev pub wrap_by : Said → Option AskView
-wrap_by said = wrap_of (wrapping_by said) (said (codes "out"))
+abbrev pub directory_said : Bool → Option Text → Option (Option Text)
+directory_said false into = Some into
+directory_said true None = Some None
+directory_said true (Some into) = None
 
-abbrev pub unwrap_by : Said → Option AskView
-unwrap_by said = option_map Unwrap (said (codes "out"))
-
-abbrev pub survey_by : Said → Option AskView
-survey_by said = option_map Survey (survey_form_said (said (codes "format")))
+abbrev pub addition_by : Said → Option AdditionView
+addition_by said = option_map (λ into. record { into = into; date = said (codes "date") })
+    (directory_said (is_dos_said (said (codes "fs"))) (said (codes "into")))
 
 -- ---- a new volume
 
@@ -433,105 +449,120 @@ abbrev pub creation_by : Said → Option CreationView
 creation_by said =
     option_and_then (creation_in (new_volume_words said)) (option_and_then file_system_named (said (codes "fs")))
 
-abbrev pub create_of : Option Text → Option (Option Text) → Option CreationView → Option AskView
-create_of (Some out) (Some boot) (Some words) = Some (Create words boot out)
-create_of _ _ _ = None
-
-abbrev pub create_by : Said → Option AskView
-create_by said = create_of (said (codes "out")) (boot_said (is_on (said (codes "data-disk"))) (said (codes "boot")))
-    (creation_by said)
-
--- ---- the files of a folder
-
--- the directory under which the paths of the files begin, or that none is said; a DOS 3.3 disk has none
-abbrev pub directory_said : FileSystem → Option Text → Option (Option Text)
-directory_said file_systems.Dos None = Some None
-directory_said file_systems.Dos (Some into) = None
-directory_said file_systems.Prodos into = Some into
-
-abbrev pub directory_by : Said → Option (Option Text)
-directory_by said = option_and_then (λ file_system. directory_said file_system (said (codes "into")))
+-- the order of its image
+abbrev pub new_order_by : Said → Option Order
+new_order_by said = option_and_then (λ file_system. order_said file_system (said (codes "order")))
     (option_and_then file_system_named (said (codes "fs")))
 
-abbrev pub addition_of : Option Text → Option (Option Text) → Option Text → Option AdditionView
-addition_of (Some from) (Some into) date = Some (record { from = from; into = into; date = date })
-addition_of _ _ date = None
+-- ---- what is asked
 
-abbrev pub addition_by : Said → Option AdditionView
-addition_by said = addition_of (said (codes "from")) (directory_by said) (said (codes "date"))
+abbrev pub look_asked : Option LookView → Option AskView
+look_asked look = option_map (λ l. OfTheVolume (LookAt l)) look
 
-abbrev pub add_of : Option VolumeOptions → Option AdditionView → Option Text → Option Text → Option AskView
-add_of (Some volume) (Some words) (Some out) reserve = Some (AddTo volume reserve words out)
-add_of _ _ _ reserve = None
-
-abbrev pub add_by : Said → Option AskView
-add_by said = add_of (volume_by said) (addition_by said) (said (codes "out")) (said (codes "reserve"))
-
--- ---- a new directory
-
--- the file system of a volume that has directories is ProDOS, said or left out or to the image
-abbrev pub is_prodos : Option Text → Bool
-is_prodos None = true
-is_prodos (Some word) = bytes_eq word (codes "prodos") || is_auto_word word
-
--- a ProDOS volume of an image in an order; it is no data disk
-abbrev pub prodos_in : Option Order → Option VolumeOptions
-prodos_in order = option_map (λ o. record { file_system = file_systems.Prodos; order = o; data_disk = false }) order
-
--- the one that the words name
-abbrev pub prodos_by : Said → Option VolumeOptions
-prodos_by said =
-    if is_prodos (said (codes "fs")) then prodos_in (option_and_then order_named (said (codes "order"))) else None
-
--- a directory of this path is made, whose date is said or not
-abbrev pub directory_made_by : Said → Option ChangeView
-directory_made_by said = option_map (λ path. MakeDirectory path (said (codes "date"))) (said (codes "name"))
-
-abbrev pub mkdir_by : Said → Option AskView
-mkdir_by said = change_on (prodos_by said) (directory_made_by said) said
+abbrev pub change_asked : Option ChangeView → Option AskView
+change_asked change = option_map (λ c. OfTheVolume (ChangeOf c)) change
 
 -- what a command asks, by what is said under each name
 abbrev pub ask_by : Verb → Said → Option AskView
-ask_by verbs.Catalog said = look_by (Some Catalog) None said
-ask_by verbs.List said = look_by (list_by said) None said
-ask_by verbs.Compare said = look_by (compare_by said) None said
-ask_by verbs.Map said = look_by (Some Map) (said (codes "reserve")) said
-ask_by verbs.Check said = look_by (Some (check_by said)) (said (codes "reserve")) said
-ask_by verbs.Read said = look_by (read_by said) None said
-ask_by verbs.Extract said = extract_by said
+ask_by verbs.Catalog said = look_asked (Some Catalog)
+ask_by verbs.List said = look_asked (list_by said)
+ask_by verbs.Compare said = look_asked (compare_by said)
+ask_by verbs.Map said = look_asked (Some Map)
+ask_by verbs.Check said = look_asked (Some (check_by said))
+ask_by verbs.Read said = look_asked (read_by said)
+ask_by verbs.Extract said = option_map (λ options. OfTheVolume (ExtractFrom options)) (extraction_by said)
 ask_by verbs.Convert said = convert_by said
-ask_by verbs.Plan said = look_by (Some (plan_by said)) (said (codes "reserve")) said
-ask_by verbs.Optimize said = change_by (optimize_by said) said
-ask_by verbs.Lock said = change_by (edit_by Lock said) said
-ask_by verbs.Unlock said = change_by (edit_by Unlock said) said
-ask_by verbs.Delete said = change_by (edit_by Delete said) said
-ask_by verbs.Rename said = change_by (rename_by said) said
-ask_by verbs.Save said = change_by (save_by said) said
-ask_by verbs.Verify said = look_by (verify_by said) (said (codes "reserve")) said
+ask_by verbs.Plan said = look_asked (Some (plan_by said))
+ask_by verbs.Optimize said = change_asked (optimize_by said)
+ask_by verbs.Lock said = change_asked (edit_by Lock said)
+ask_by verbs.Unlock said = change_asked (edit_by Unlock said)
+ask_by verbs.Delete said = change_asked (edit_by Delete said)
+ask_by verbs.Rename said = change_asked (rename_by said)
+ask_by verbs.Save said = change_asked (save_by said)
+ask_by verbs.Verify said = look_asked (Some (verify_by said))
 ask_by verbs.Identify said = Some Identify
-ask_by verbs.Wrap said = wrap_by said
-ask_by verbs.Unwrap said = unwrap_by said
-ask_by verbs.Survey said = survey_by said
-ask_by verbs.Create said = create_by said
-ask_by verbs.Reclaim said = change_by (Some Reclaim) said
-ask_by verbs.Add said = add_by said
-ask_by verbs.MakeDirectory said = mkdir_by said
+ask_by verbs.Wrap said = option_map Wrap (wrapping_by said)
+ask_by verbs.Unwrap said = Some Unwrap
+ask_by verbs.Survey said = option_map Survey (survey_form_said (said (codes "format")))
+ask_by verbs.Create said = option_map Create (creation_by said)
+ask_by verbs.Reclaim said = change_asked (Some Reclaim)
+ask_by verbs.Add said = option_map (λ options. OfTheVolume (AddTo options)) (addition_by said)
+ask_by verbs.MakeDirectory said = change_asked (directory_made_by said)
+
+-- ---- what is read beside the image
+
+-- the path of the other image of a comparison; not both images are standard input
+abbrev pub other_named : Option Text → Option Text → Option Text
+other_named (Some image) (Some other) = if is_input image && is_input other then None else Some other
+other_named _ _ = None
+
+-- its order, that of the image where none is said
+abbrev pub other_order : Reading → Option Text → Option Text → Option OrderSaid
+other_order reading None order = option_and_then (order_meant reading) order
+other_order reading (Some word) order = order_meant reading word
+
+abbrev pub other_image : Option Text → Option OrderSaid → Option BesideView
+other_image (Some other) (Some order) = Some (ImageBeside (source_named other) order)
+other_image _ _ = None
+
+-- the image whose system is copied to a new volume, in the order of that; none where none is said
+abbrev pub system_image : Option (Option Text) → Option Order → Option BesideView
+system_image (Some (Some boot)) (Some order) = Some (ImageBeside (FromFile boot) (Is order))
+system_image (Some None) order = Some NothingBeside
+system_image _ _ = None
+
+abbrev pub beside_by : Verb → Reading → Said → Option BesideView
+beside_by verbs.Verify reading said = option_map FileBeside (said (codes "from"))
+beside_by verbs.Save reading said = option_map FileBeside (said (codes "from"))
+beside_by verbs.Add reading said = option_map FolderBeside (said (codes "from"))
+beside_by verbs.Compare reading said = other_image (other_named (said (codes "image")) (said (codes "other")))
+    (other_order reading (said (codes "other-order")) (said (codes "order")))
+beside_by verbs.Create reading said =
+    system_image (boot_said (is_on (said (codes "data-disk"))) (said (codes "boot"))) (new_order_by said)
+beside_by verb reading said = Some NothingBeside
+
+-- ---- where what is made goes
+
+-- the bytes of a file go to a new file, or are told
+abbrev pub new_file_said : Option Text → TargetView
+new_file_said (Some out) = ToNewFile out
+new_file_said None = ToNothing
+
+abbrev pub output_by : Verb → Said → Option TargetView
+output_by verbs.Read said = Some (new_file_said (said (codes "out")))
+output_by verbs.Extract said = option_map ToFolder (said (codes "into"))
+output_by verbs.Convert said = option_map ToFile (said (codes "out"))
+output_by verbs.Add said = option_map ToFile (said (codes "out"))
+output_by verbs.Wrap said = option_map ToNewFile (said (codes "out"))
+output_by verbs.Unwrap said = option_map ToNewFile (said (codes "out"))
+output_by verbs.Create said = option_map ToNewFile (said (codes "out"))
+output_by verbs.Optimize said = target_by said
+output_by verbs.Lock said = target_by said
+output_by verbs.Unlock said = target_by said
+output_by verbs.Delete said = target_by said
+output_by verbs.Rename said = target_by said
+output_by verbs.Save said = target_by said
+output_by verbs.Reclaim said = target_by said
+output_by verbs.MakeDirectory said = target_by said
+output_by verb said = Some ToNothing
 
 -- ---- the job
 
-abbrev pub job_of : Option Text → Option AskView → Option JobView
-job_of (Some image) (Some ask) = Some (record { image = image; ask = ask })
-job_of _ _ = None
+-- a job, where each part of it is there
+abbrev pub job_of : Option SourceView → Option ReadingView → Option BesideView → Option AskView → Option TargetView
+    → Option Text → Option JobView
+job_of (Some image) (Some reading) (Some beside) (Some ask) (Some output) certificate = Some (record {
+  input = record { image = image; reading = reading; beside = beside };
+  ask = ask;
+  output = output;
+  certificate = certificate;
+})
+job_of _ _ _ _ _ certificate = None
 
--- where the image is, or what a survey looks at; a volume is made of no image
-abbrev pub place_by : Verb → Said → Option Text
-place_by verbs.Survey said = said (codes "path")
-place_by verbs.Create said = Some []
-place_by verb said = said (codes "image")
-
--- the job of a command: the image, and what is asked of it
-abbrev pub job_by : Verb → Said → Option JobView
-job_by verb said = job_of (place_by verb said) (ask_by verb said)
+-- the job of a command; its certificate goes to a file where one is said
+abbrev pub job_by : FormView → Said → Option JobView
+job_by f said = job_of (source_by f.verb said) (reading_by f.verb f.reading said) (beside_by f.verb f.reading said)
+    (ask_by f.verb said) (output_by f.verb said) (said (codes "cert"))
 
 -- ---- the words that clap finds
 
@@ -570,21 +601,13 @@ abbrev pub takes_auto : Verb → Bool → Bool
 takes_auto verbs.Create auto = not auto
 takes_auto verb auto = true
 
--- the job of words, where the images have these ways
-abbrev pub job_with : Ways → Words → Option JobView
-job_with ways w = if takes_auto w.form.verb w.is_auto then job_by w.form.verb (settled ways w) else None
+-- the job of words; what they leave to the images stands in it as such
+abbrev pub words_job : Words → Option JobView
+words_job w = if takes_auto w.form.verb w.is_auto then job_by w.form (said w) else None
 
--- nothing is left to the images
-abbrev pub is_closed : LeftOpen → Bool
-is_closed left = not left.file_system && (not (is_some left.order) && not (is_some left.other_order))
-
--- what is put in the place of what is left to the images until they are known
-abbrev pub unsettled : Ways
-unsettled = record { file_system = file_systems.Dos; order = orders.Dos; other_order = orders.Dos }
-
--- the job of words that leave nothing to the images
-abbrev pub closed_job : Words → Option JobView
-closed_job w = if is_closed (left_open w) then job_with unsettled w else None
+-- a job that leaves nothing to the images
+abbrev pub settled_alone : JobView → Option JobView
+settled_alone job = if is_settled job.input then Some job else None
 
 -- ---- what a plain list says under each name: the value of its use, or its positional word
 
@@ -597,4 +620,4 @@ line_said f positionals uses = positional_said (positional_names f) positionals 
 
 -- the job of a plain list
 abbrev pub line_job : FormView → List Text → List Use → Option JobView
-line_job f positionals uses = job_by f.verb (line_said f positionals uses)
+line_job f positionals uses = job_by f (line_said f positionals uses)

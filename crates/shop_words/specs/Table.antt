@@ -453,7 +453,7 @@ abbrev pub mkdir_form : FormView
 mkdir_form = record {
   name = codes "mkdir";
   verb = verbs.MakeDirectory;
-  reading = readings.Order left.UnlessInPlace;
+  reading = readings.Prodos left.UnlessInPlace;
   parameters = image ∷ name_of_file ∷ only_prodos ∷ order ∷ out_file ∷ in_place ∷ date ∷ reserve ∷ [];
 }
 

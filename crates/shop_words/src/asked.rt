@@ -4,31 +4,22 @@ ghost use Rattle.std.specs.Str.{bytes_eq};
 ghost use Rattle.clap.specs.Matches.{found_of};
 ghost use Rattle.clap.specs.Simple.{subcommand_rows_of};
 ghost use Rattle.clap.specs.Walk.{first_of, rows_of};
+ghost use Rattle.shop_jobs.specs.Input.{is_settled};
 ghost use Rattle.shop_jobs.specs.Job.{job_view};
 ghost use Rattle.shop_words.specs.Asked.{asked_list, asked_view, found_asked};
 ghost use Rattle.shop_words.specs.Given.{words_of};
 ghost use Rattle.shop_words.specs.Gives.{Gives};
-ghost use Rattle.shop_words.specs.Job.{form_of, is_closed, is_counted, is_flagged, job_with, line_job};
+ghost use Rattle.shop_words.specs.Job.{form_of, is_counted, is_flagged, line_job, words_job};
 ghost use Rattle.shop_words.specs.Plain.{IsLine, IsPlain, Use};
 ghost use Rattle.shop_words.specs.Table.{FormView, Text, form_view};
-ghost use Rattle.shop_words.specs.Ways.{left_open};
 
 use crate::asking::job_in;
 use crate::given::{Given, said};
 use crate::misfit::Misfit;
 use crate::table::{Form, all_forms};
-use crate::ways::{LeftOpen, Ways};
-use a2_device::Order;
 use clap::ArgMatches;
-use shop_jobs::{FileSystem, Job};
+use shop_jobs::Job;
 use std::alloc::Global;
-
-/// What stands in the place of what words leave to the images, until these are known.
-pub const UNSETTLED: Ways = Ways {
-    file_system: FileSystem::Dos,
-    order: Order::Dos,
-    other_order: Order::Dos,
-};
 
 /// What a list of words asks for.
 #[derive(Drop)]
@@ -93,16 +84,14 @@ pub fn asked_in<'a>(mut above: ArgMatches<'a>) -> Option<Asked<'a>>
 }
 
 impl<'a> Asked<'a> {
-    // The words, with ways of the images.
-    fn given(&self, ways: Ways) -> Given<'_, 'a>
-        ensures words { words_of result ≡ (asked_view self.now).words }
-        ensures ways { result.ways ≡ ways }
+    // The words.
+    fn given(&self) -> Given<'_, 'a>
+        ensures { words_of result ≡ (asked_view self.now).words }
     {
         Given {
             form: self.form,
             is_auto: self.is_auto,
             matches: &self.matches,
-            ways,
         }
     }
 
@@ -127,32 +116,27 @@ impl<'a> Asked<'a> {
         self.is_explained
     }
 
-    /// What the words leave to the images. A plain list leaves nothing to them.
-    pub fn left_open(&self) -> LeftOpen
-        ensures open { result ≡ left_open (asked_view self.now).words }
-        ensures plain { (words : List Text) → IsPlain words → asked_list words ≡ Some (asked_view self.now)
-            → is_closed result ≡ true }
-    {
-        self.given(UNSETTLED).left_open()
-    }
-
-    /// The job that the words ask for, where the images have these ways. That of a plain list is what its form says of
-    /// its words, whatever the ways are.
+    /// The job that the words ask for; what they leave to the images stands in it as such. That of a plain list leaves
+    /// nothing to them, and is what its form says of its words.
     ///
     /// # Errors
     /// Why the words are no job, or want of memory.
-    pub fn job(&self, alloc: Global, ways: Ways) -> Result<Job, Misfit>
-        ensures job { Gives job_view (job_with ways (asked_view self.now).words) result }
+    pub fn job(&self, alloc: Global) -> Result<Job, Misfit>
+        ensures job { Gives job_view (words_job (asked_view self.now).words) result }
 
         // a plain list has a job, where there is memory
         ensures plain { (words : List Text) → IsPlain words → asked_list words ≡ Some (asked_view self.now)
             → IfErr result (λ misfit. misfit ≡ Misfit.Memory) }
+
+        // its job leaves nothing to the images
+        ensures settled { (words : List Text) → IsPlain words → asked_list words ≡ Some (asked_view self.now)
+            → IfOk result (λ job. is_settled (job_view job).input ≡ true) }
 
         // and its job is what its form says of its words
         ensures line { (words : List Text) → (f : FormView) → (positionals : List Text) → (uses : List Use)
             → IsLine words f positionals uses → asked_list words ≡ Some (asked_view self.now)
             → IfOk result (λ job. line_job f positionals uses ≡ Some (job_view job)) }
     {
-        job_in(alloc, &self.given(ways))
+        job_in(alloc, &self.given())
     }
 }

@@ -1,24 +1,20 @@
-//! What is asked by the commands that change a volume or a file of it.
-ghost use Rattle.std.specs.Prelude.{option_map, Some};
-ghost use Rattle.shop_jobs.specs.Job.{ask_view, change_view, edit_view};
+//! The changes that are made by the commands that change a volume or a file of it.
+ghost use Rattle.std.specs.Prelude.{option_map};
+ghost use Rattle.shop_jobs.specs.Job.{change_view, edit_view};
 ghost use Rattle.shop_words.specs.Given.{said_of};
 ghost use Rattle.shop_words.specs.Gives.{Gives};
 ghost use Rattle.shop_words.specs.Job.{
-  ask_by,
-  change_by,
-  change_on,
   directory_made_by,
   edit_by,
   limit_named,
   optimize_by,
-  prodos_by,
+  rename_by,
 };
-ghost use Rattle.shop_words.specs.declared.table.Verb.TheVariants as verbs;
 
 use crate::given::Given;
 use crate::misfit::Misfit;
 use crate::reading::number;
-use shop_jobs::{Ask, Change, Edit, FileSystem, VolumeOptions};
+use shop_jobs::{Change, Edit};
 use std::alloc::Global;
 
 // After how many writes to stop, where that is said.
@@ -31,95 +27,39 @@ fn limit_named(word: Option<&str>) -> Result<Option<u64>, Misfit>
     }
 }
 
-// What is asked by a command that changes a volume so.
-fn change_on(
-    alloc: Global,
-    given: &Given<'_, '_>,
-    volume: VolumeOptions,
-    change: Change,
-) -> Result<Ask, Misfit>
-    ensures { Gives ask_view (change_on (Some volume) (Some (change_view change)) (said_of given.now)) result }
-{
-    let target = given.target(alloc)?;
-    Ok(Ask::Change {
-        volume,
-        reserve: given.text(alloc, "reserve")?,
-        change,
-        target,
-    })
-}
-
-/// The same of the volume that the words name by its file system.
-pub fn change_in(alloc: Global, given: &Given<'_, '_>, change: Change) -> Result<Ask, Misfit>
-    ensures { Gives ask_view (change_by (Some (change_view change)) (said_of given.now)) result }
-{
-    let volume = given.volume()?;
-    change_on(alloc, given, volume, change)
-}
-
-// The change that is made by `optimize`.
-fn optimization_in(alloc: Global, given: &Given<'_, '_>) -> Result<Change, Misfit>
+/// The change that is made by `optimize`.
+pub fn optimize_in(given: &Given<'_, '_>) -> Result<Change, Misfit>
     ensures { Gives change_view (optimize_by (said_of given.now)) result }
 {
     let stop_after = limit_named(given.said("stop-after"))?;
     Ok(Change::Optimize {
         reclaim: given.has("reclaim"),
         stop_after,
-        cert: given.text(alloc, "cert")?,
     })
 }
 
-pub fn optimize_in(alloc: Global, given: &Given<'_, '_>) -> Result<Ask, Misfit>
-    ensures { Gives ask_view (ask_by verbs.Optimize (said_of given.now)) result }
-{
-    let change = optimization_in(alloc, given)?;
-    change_in(alloc, given, change)
-}
-
-/// What is asked by a command that changes a file so.
-pub fn edit_in(alloc: Global, given: &Given<'_, '_>, edit: Edit) -> Result<Ask, Misfit>
-    ensures { Gives ask_view (change_by (edit_by (edit_view edit) (said_of given.now)) (said_of given.now)) result }
+/// The change that is made by a command that changes a file so.
+pub fn edit_in(alloc: Global, given: &Given<'_, '_>, edit: Edit) -> Result<Change, Misfit>
+    ensures { Gives change_view (edit_by (edit_view edit) (said_of given.now)) result }
 {
     let name = given.name(alloc)?;
-    change_in(alloc, given, Change::Edit { name, edit })
+    Ok(Change::Edit { name, edit })
 }
 
-pub fn rename_in(alloc: Global, given: &Given<'_, '_>) -> Result<Ask, Misfit>
-    ensures { Gives ask_view (ask_by verbs.Rename (said_of given.now)) result }
+/// The change that is made by `rename`.
+pub fn rename_in(alloc: Global, given: &Given<'_, '_>) -> Result<Change, Misfit>
+    ensures { Gives change_view (rename_by (said_of given.now)) result }
 {
     let new = given.needed_text(alloc, "new")?;
     edit_in(alloc, given, Edit::Rename { new })
 }
 
-// The ProDOS volume that the image is read as.
-fn prodos_in(given: &Given<'_, '_>) -> Result<VolumeOptions, Misfit>
-    ensures { Gives (λ v. v) (prodos_by (said_of given.now)) result }
-{
-    match given.file_system_word() {
-        None | Some("prodos") | Some("auto") => {}
-        Some(_) => return Err(Misfit::Value { name: "fs" }),
-    }
-    Ok(VolumeOptions {
-        file_system: FileSystem::Prodos,
-        order: given.order()?,
-        data_disk: false,
-    })
-}
-
-// The directory that is made.
-fn directory_in(alloc: Global, given: &Given<'_, '_>) -> Result<Change, Misfit>
+/// The change that is made by `mkdir`.
+pub fn mkdir_in(alloc: Global, given: &Given<'_, '_>) -> Result<Change, Misfit>
     ensures { Gives change_view (directory_made_by (said_of given.now)) result }
 {
     Ok(Change::MakeDirectory {
         path: given.needed_text(alloc, "name")?,
         date: given.text(alloc, "date")?,
     })
-}
-
-pub fn mkdir_in(alloc: Global, given: &Given<'_, '_>) -> Result<Ask, Misfit>
-    ensures { Gives ask_view (ask_by verbs.MakeDirectory (said_of given.now)) result }
-{
-    let volume = prodos_in(given)?;
-    let change = directory_in(alloc, given)?;
-    change_on(alloc, given, volume, change)
 }

@@ -1,23 +1,21 @@
 //! What is asked by the commands that make an image or a container of another, and by those that look at files whatever
 //! they are.
 ghost use Rattle.std.specs.Prelude.{◌≡◌, option_map};
-ghost use Rattle.shop_jobs.specs.Job.{ask_view, wrapping_view};
+ghost use Rattle.shop_jobs.specs.Job.{wrapping_view};
 ghost use Rattle.shop_words.specs.Given.{said_of};
 ghost use Rattle.shop_words.specs.Gives.{Gives};
 ghost use Rattle.shop_words.specs.Job.{
-  ask_by,
   comment_said,
   survey_form_said,
   told_volume,
   volume_number,
   wrapping_by,
 };
-ghost use Rattle.shop_words.specs.declared.table.Verb.TheVariants as verbs;
 
-use crate::given::{Given, order};
+use crate::given::Given;
 use crate::misfit::Misfit;
 use crate::reading::number;
-use shop_jobs::{Ask, SurveyForm, WrapOptions};
+use shop_jobs::{SurveyForm, WrapOptions};
 use std::alloc::Global;
 
 /// The volume number where `--volume` is left out.
@@ -34,20 +32,6 @@ pub fn volume_number(word: Option<&str>) -> Result<u8, Misfit>
         Some(digits) => Ok(number("volume", digits, 255)? as u8),
         None => Ok(STANDARD_VOLUME),
     }
-}
-
-pub fn convert_in(alloc: Global, given: &Given<'_, '_>) -> Result<Ask, Misfit>
-    ensures { Gives ask_view (ask_by verbs.Convert (said_of given.now)) result }
-{
-    let from = given.order()?;
-    let to = order("to", given.needed("to")?)?;
-    let volume = volume_number(given.said("volume"))?;
-    Ok(Ask::Convert {
-        order: from,
-        to,
-        out: given.needed_text(alloc, "out")?,
-        volume,
-    })
 }
 
 // The volume number that a container tells, where one is said.
@@ -71,41 +55,21 @@ fn comment_said<'a>(word: Option<&'a str>) -> Result<&'a str, Misfit>
     }
 }
 
-// How an image is put into a container.
-fn wrap_options_in(alloc: Global, given: &Given<'_, '_>) -> Result<WrapOptions, Misfit>
+/// How an image is put into a container.
+pub fn wrap_in(alloc: Global, given: &Given<'_, '_>) -> Result<WrapOptions, Misfit>
     ensures { Gives wrapping_view (wrapping_by (said_of given.now)) result }
 {
-    let order = given.order()?;
     let volume = told_volume(given.said("volume"))?;
     let comment = comment_said(given.said("comment"))?;
     Ok(WrapOptions {
-        order,
         volume,
         comment: comment.to_string(alloc)?,
         protect: given.has("protect"),
     })
 }
 
-pub fn wrap_in(alloc: Global, given: &Given<'_, '_>) -> Result<Ask, Misfit>
-    ensures { Gives ask_view (ask_by verbs.Wrap (said_of given.now)) result }
-{
-    let options = wrap_options_in(alloc, given)?;
-    Ok(Ask::Wrap {
-        options,
-        out: given.needed_text(alloc, "out")?,
-    })
-}
-
-pub fn unwrap_in(alloc: Global, given: &Given<'_, '_>) -> Result<Ask, Misfit>
-    ensures { Gives ask_view (ask_by verbs.Unwrap (said_of given.now)) result }
-{
-    Ok(Ask::Unwrap {
-        out: given.needed_text(alloc, "out")?,
-    })
-}
-
-// The form of a survey, lines where nothing is said.
-fn survey_form_said(word: Option<&str>) -> Result<SurveyForm, Misfit>
+/// The form of a survey, lines where nothing is said.
+pub fn survey_form_said(word: Option<&str>) -> Result<SurveyForm, Misfit>
     ensures { Gives (λ f. f) (survey_form_said (option_map (λ s. s.now) word.entry)) result }
 {
     match word {
@@ -113,11 +77,4 @@ fn survey_form_said(word: Option<&str>) -> Result<SurveyForm, Misfit>
         Some("json") => Ok(SurveyForm::Json),
         Some(_) => Err(Misfit::Value { name: "format" }),
     }
-}
-
-pub fn survey_in(given: &Given<'_, '_>) -> Result<Ask, Misfit>
-    ensures { Gives ask_view (ask_by verbs.Survey (said_of given.now)) result }
-{
-    let form = survey_form_said(given.said("format"))?;
-    Ok(Ask::Survey { form })
 }

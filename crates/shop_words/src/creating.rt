@@ -1,13 +1,16 @@
-//! What is asked by `create`.
-ghost use Rattle.std.specs.Prelude.{◌≡◌, option_map};
-ghost use Rattle.shop_jobs.specs.Job.{ask_view, creation_view, new_volume_view};
-ghost use Rattle.shop_words.specs.Given.{said_of};
+//! How a volume is made by `create`.
+ghost use Rattle.std.specs.Prelude.{◌≡◌, codes, option_and_then, option_map};
+ghost use Rattle.shop_jobs.specs.Input.{beside_view};
+ghost use Rattle.shop_jobs.specs.Job.{creation_view, new_volume_view};
+ghost use Rattle.shop_words.specs.Given.{said_of, words_of};
 ghost use Rattle.shop_words.specs.Gives.{Gives};
 ghost use Rattle.shop_words.specs.Job.{
-  ask_by,
+  beside_by,
   blocks_said,
   boot_said,
   creation_by,
+  file_system_named,
+  new_order_by,
   new_volume_of,
   new_volume_words,
   order_said,
@@ -16,11 +19,11 @@ ghost use Rattle.shop_words.specs.Job.{
 ghost use Rattle.shop_words.specs.declared.table.Verb.TheVariants as verbs;
 
 use crate::converting::volume_number;
-use crate::given::{Given, order};
+use crate::given::{Given, file_system, order};
 use crate::misfit::Misfit;
-use crate::reading::{number_named, text_of};
+use crate::reading::number_named;
 use a2_device::Order;
-use shop_jobs::{Ask, CreateOptions, FileSystem, NewVolume};
+use shop_jobs::{Beside, CreateOptions, FileSystem, NewVolume, OrderSaid, Source};
 use std::alloc::Global;
 
 /// The fewest blocks of a ProDOS volume, the most, and those of a disk.
@@ -113,29 +116,49 @@ fn volume_in(
     }
 }
 
-// How a new volume is made.
-fn create_options_in(alloc: Global, given: &Given<'_, '_>) -> Result<CreateOptions, Misfit>
+// The file system of a new volume.
+fn file_system_in(given: &Given<'_, '_>) -> Result<FileSystem, Misfit>
+    ensures { Gives (λ f. f) (option_and_then file_system_named (said_of given.now (codes "fs"))) result }
+{
+    match given.file_system_said() {
+        Some(word) => file_system(word),
+        None => Err(Misfit::Missing { name: "fs" }),
+    }
+}
+
+// The order of its image.
+fn order_in(given: &Given<'_, '_>) -> Result<Order, Misfit>
+    ensures { Gives (λ o. o) (new_order_by (said_of given.now)) result }
+{
+    let file_system = file_system_in(given)?;
+    order_said(file_system, given.order_said())
+}
+
+/// The image whose system is copied to a new volume, where one is said.
+pub fn system_in(alloc: Global, given: &Given<'_, '_>) -> Result<Beside, Misfit>
+    ensures { Gives beside_view (beside_by verbs.Create (words_of given.now).form.reading (said_of given.now)) result }
+{
+    let Some(boot) = boot_said(given.has("data-disk"), given.said("boot"))? else {
+        return Ok(Beside::Nothing);
+    };
+    let order = order_in(given)?;
+    Ok(Beside::Image {
+        source: Source::File(boot.to_string(alloc)?),
+        order: OrderSaid::Is(order),
+    })
+}
+
+/// How a new volume is made.
+pub fn create_in(alloc: Global, given: &Given<'_, '_>) -> Result<CreateOptions, Misfit>
     ensures { Gives creation_view (creation_by (said_of given.now)) result }
 {
-    let file_system = given.file_system()?;
-    let order = order_said(file_system, given.order_word())?;
+    let file_system = file_system_in(given)?;
+    let order = order_said(file_system, given.order_said())?;
     let number = volume_number(given.said("volume"))?;
     let volume = volume_in(alloc, given, file_system)?;
     Ok(CreateOptions {
         volume,
         order,
         number,
-    })
-}
-
-pub fn create_in(alloc: Global, given: &Given<'_, '_>) -> Result<Ask, Misfit>
-    ensures { Gives ask_view (ask_by verbs.Create (said_of given.now)) result }
-{
-    let boot = boot_said(given.has("data-disk"), given.said("boot"))?;
-    let options = create_options_in(alloc, given)?;
-    Ok(Ask::Create {
-        options,
-        boot: text_of(alloc, boot)?,
-        out: given.needed_text(alloc, "out")?,
     })
 }

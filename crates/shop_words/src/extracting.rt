@@ -1,22 +1,21 @@
-//! What is asked by `extract` and `add`.
-ghost use Rattle.std.specs.Prelude.{◌≡◌, option_map};
-ghost use Rattle.shop_jobs.specs.Job.{addition_view, ask_view};
+//! How the files of a volume go into a folder by `extract`, and those of a folder to a volume by `add`.
+ghost use Rattle.std.specs.Prelude.{◌≡◌, codes, option_map};
+ghost use Rattle.shop_jobs.specs.Job.{addition_view};
 ghost use Rattle.shop_words.specs.Given.{said_of};
 ghost use Rattle.shop_words.specs.Gives.{Gives};
 ghost use Rattle.shop_words.specs.Job.{
   addition_by,
-  ask_by,
-  directory_by,
+  directory_said,
   extraction_by,
+  is_dos_said,
   naming_said,
 };
-ghost use Rattle.shop_words.specs.declared.table.Verb.TheVariants as verbs;
 
 use crate::given::Given;
 use crate::misfit::Misfit;
 use crate::reading::{most_bytes, text_of};
 use host_folders::Naming;
-use shop_jobs::{AddOptions, Ask, ExtractOptions, FileSystem};
+use shop_jobs::{AddOptions, ExtractOptions};
 use std::alloc::Global;
 
 // How files are named, with their types where nothing is said.
@@ -30,8 +29,8 @@ fn naming_said(word: Option<&str>) -> Result<Naming, Misfit>
     }
 }
 
-// How the files of a volume are put into a folder.
-fn extract_options_in(given: &Given<'_, '_>) -> Result<ExtractOptions, Misfit>
+/// How the files of a volume are put into a folder.
+pub fn extract_in(given: &Given<'_, '_>) -> Result<ExtractOptions, Misfit>
     ensures { Gives (λ o. o) (extraction_by (said_of given.now)) result }
 {
     let naming = naming_said(given.said("names"))?;
@@ -43,50 +42,24 @@ fn extract_options_in(given: &Given<'_, '_>) -> Result<ExtractOptions, Misfit>
     })
 }
 
-pub fn extract_in(alloc: Global, given: &Given<'_, '_>) -> Result<Ask, Misfit>
-    ensures { Gives ask_view (ask_by verbs.Extract (said_of given.now)) result }
-{
-    let volume = given.volume()?;
-    let options = extract_options_in(given)?;
-    Ok(Ask::Extract {
-        volume,
-        options,
-        into: given.needed_text(alloc, "into")?,
-    })
-}
-
 // The directory of the volume under which the paths of the files begin, where one is said; a DOS 3.3 disk has none.
 fn directory_in<'a>(given: &Given<'_, 'a>) -> Result<Option<&'a str>, Misfit>
-    ensures { Gives (λ d. option_map (λ s. s.now) d) (directory_by (said_of given.now)) result }
+    ensures { Gives (λ d. option_map (λ s. s.now) d)
+        (directory_said (is_dos_said (said_of given.now (codes "fs"))) (said_of given.now (codes "into"))) result }
 {
-    let into = given.said("into");
-    match (given.file_system()?, into) {
-        (FileSystem::Dos, Some(_)) => Err(Misfit::OfProdos { name: "into" }),
+    match (given.file_system_said(), given.said("into")) {
+        (Some("dos"), Some(_)) => Err(Misfit::OfProdos { name: "into" }),
         (_, into) => Ok(into),
     }
 }
 
-// How the files of a folder are added.
-fn add_options_in(alloc: Global, given: &Given<'_, '_>) -> Result<AddOptions, Misfit>
+/// How the files of a folder are added.
+pub fn add_in(alloc: Global, given: &Given<'_, '_>) -> Result<AddOptions, Misfit>
     ensures { Gives addition_view (addition_by (said_of given.now)) result }
 {
     let into = directory_in(given)?;
     Ok(AddOptions {
-        from: given.needed_text(alloc, "from")?,
         into: text_of(alloc, into)?,
         date: given.text(alloc, "date")?,
-    })
-}
-
-pub fn add_in(alloc: Global, given: &Given<'_, '_>) -> Result<Ask, Misfit>
-    ensures { Gives ask_view (ask_by verbs.Add (said_of given.now)) result }
-{
-    let volume = given.volume()?;
-    let options = add_options_in(alloc, given)?;
-    Ok(Ask::Add {
-        volume,
-        reserve: given.text(alloc, "reserve")?,
-        options,
-        out: given.needed_text(alloc, "out")?,
     })
 }

@@ -1,28 +1,19 @@
-//! The words of a command with the ways of its images, as clap's matches have them: what they say under each name.
-ghost use Rattle.std.specs.Prelude.{
-  ◌≡◌,
-  codes,
-  IfErr,
-  IfOk,
-  option_and_then,
-  option_map,
-  string_bytes,
-};
+//! The words of a command as clap's matches have them: what they say under each name.
+ghost use Rattle.std.specs.Prelude.{◌≡◌, IfErr, IfOk, option_map, string_bytes};
 ghost use Rattle.clap.specs.Matches.{found_of};
 ghost use Rattle.clap.specs.Walk.{first_of, rows_of};
-ghost use Rattle.shop_words.specs.Gives.{Gives};
-ghost use Rattle.shop_words.specs.Job.{file_system_named, name_by, order_named, other_order, target_by, volume_by};
-ghost use Rattle.shop_jobs.specs.Job.{file_name_view, target_view};
-ghost use Rattle.shop_words.specs.Ways.{is_on};
+ghost use Rattle.shop_jobs.specs.Job.{file_name_view};
 ghost use Rattle.shop_words.specs.Given.{said_of, words_of};
+ghost use Rattle.shop_words.specs.Gives.{Gives};
+ghost use Rattle.shop_words.specs.Job.{file_system_named, name_by, order_named};
+ghost use Rattle.shop_words.specs.Ways.{is_on};
 
 use crate::hexadecimal::bytes_named;
 use crate::misfit::Misfit;
 use crate::table::Form;
-use crate::ways::Ways;
 use a2_device::Order;
 use clap::ArgMatches;
-use shop_jobs::{FileName, FileSystem, Target, VolumeOptions};
+use shop_jobs::{FileName, FileSystem};
 use std::alloc::Global;
 
 /// What clap's matches have under a parameter's name.
@@ -32,14 +23,13 @@ pub fn said<'a>(matches: &ArgMatches<'a>, name: &str) -> Option<&'a str>
     matches.get_str(name)
 }
 
-/// The words of a command, and the ways in which its images are read.
+/// The words of a command.
 #[derive(Clone, Copy)]
 pub struct Given<'m, 'a> {
     pub form: &'static Form,
     /// Whether they say `--auto`.
     pub is_auto: bool,
     pub matches: &'m ArgMatches<'a>,
-    pub ways: Ways,
 }
 
 impl<'a> Given<'_, 'a> {
@@ -91,50 +81,6 @@ impl<'a> Given<'_, 'a> {
         }
     }
 
-    /// The file system of the image.
-    pub fn file_system(&self) -> Result<FileSystem, Misfit>
-        ensures { Gives (λ f. f) (option_and_then file_system_named (said_of self.now (codes "fs"))) result }
-    {
-        match self.file_system_word() {
-            Some("dos") => Ok(FileSystem::Dos),
-            Some("prodos") => Ok(FileSystem::Prodos),
-            Some(_) => Err(Misfit::Value { name: "fs" }),
-            None => Err(Misfit::Missing { name: "fs" }),
-        }
-    }
-
-    /// The order of the image.
-    pub fn order(&self) -> Result<Order, Misfit>
-        ensures { Gives (λ o. o) (option_and_then order_named (said_of self.now (codes "order"))) result }
-    {
-        match self.order_word() {
-            Some(word) => order("order", word),
-            None => Err(Misfit::Missing { name: "order" }),
-        }
-    }
-
-    /// The order of the other image, that of the image where none is said.
-    pub fn other_order(&self) -> Result<Order, Misfit>
-        ensures { Gives (λ o. o)
-            (other_order (said_of self.now (codes "other-order")) (said_of self.now (codes "order"))) result }
-    {
-        match self.other_order_word() {
-            Some(word) => order("other-order", word),
-            None => self.order(),
-        }
-    }
-
-    /// What the image is read as.
-    pub fn volume(&self) -> Result<VolumeOptions, Misfit>
-        ensures { Gives (λ v. v) (volume_by (said_of self.now)) result }
-    {
-        Ok(VolumeOptions {
-            file_system: self.file_system()?,
-            order: self.order()?,
-            data_disk: self.has("data-disk"),
-        })
-    }
-
     /// How the words name a file.
     pub fn name(&self, alloc: Global) -> Result<FileName, Misfit>
         ensures { Gives file_name_view (name_by (said_of self.now)) result }
@@ -148,17 +94,16 @@ impl<'a> Given<'_, 'a> {
             None => Err(Misfit::NoStoredName),
         }
     }
+}
 
-    /// Where the image goes.
-    pub fn target(&self, alloc: Global) -> Result<Target, Misfit>
-        ensures { Gives target_view (target_by (said_of self.now)) result }
-    {
-        match (self.said("out"), self.has("in-place")) {
-            (Some(file), false) => Ok(Target::File(file.to_string(alloc)?)),
-            (None, true) => Ok(Target::InPlace),
-            (Some(_), true) => Err(Misfit::TwoTargets),
-            (None, false) => Err(Misfit::NoTarget),
-        }
+/// The file system that a word names.
+pub fn file_system(word: &str) -> Result<FileSystem, Misfit>
+    ensures { Gives (λ f. f) (file_system_named word.now) result }
+{
+    match word {
+        "dos" => Ok(FileSystem::Dos),
+        "prodos" => Ok(FileSystem::Prodos),
+        _ => Err(Misfit::Value { name: "fs" }),
     }
 }
 

@@ -1,40 +1,27 @@
 //! What is asked by the commands that only read a volume.
-ghost use Rattle.std.specs.Prelude.{◌≡◌, codes, None, option_map, Some};
-ghost use Rattle.shop_jobs.specs.Job.{ask_view, look_view};
-ghost use Rattle.shop_words.specs.Given.{said_of, words_of};
+ghost use Rattle.std.specs.Prelude.{◌≡◌, option_map, Some};
+ghost use Rattle.shop_jobs.specs.Job.{look_view};
+ghost use Rattle.shop_words.specs.Given.{said_of};
 ghost use Rattle.shop_words.specs.Gives.{Gives};
 ghost use Rattle.shop_words.specs.Job.{
-  ask_by,
+  check_by,
   compare_by,
   form_for as form_taken,
   form_said,
   list_by,
-  look_by,
-  options_by,
-  other_named as names_other,
+  plan_by,
   read_by,
   read_form_named,
   read_form_said,
+  verify_by,
 };
-ghost use Rattle.shop_words.specs.declared.table.Verb.TheVariants as verbs;
 
 use crate::given::Given;
 use crate::misfit::Misfit;
 use crate::reading::most_bytes;
 use file_forms::FileForm;
-use shop_jobs::{Ask, CompareOptions, ListForm, ListOptions, Look, ReadForm};
+use shop_jobs::{CompareOptions, ListForm, ListOptions, Look, ReadForm};
 use std::alloc::Global;
-
-/// What is asked by a command that looks for this, and reserves no places.
-pub fn listing_in(given: &Given<'_, '_>, look: Look) -> Result<Ask, Misfit>
-    ensures { Gives ask_view (look_by (Some (look_view look)) None (said_of given.now)) result }
-{
-    Ok(Ask::Look {
-        volume: given.volume()?,
-        reserve: None,
-        look,
-    })
-}
 
 // The form of a list, the names where none is said.
 fn form_said(word: Option<&str>) -> Result<ListForm, Misfit>
@@ -58,8 +45,8 @@ fn form_for(places: bool, form: ListForm) -> Result<ListForm, Misfit>
     }
 }
 
-// How the entries of a volume are told.
-fn list_options_in(given: &Given<'_, '_>) -> Result<Look, Misfit>
+/// The look that is made by `list`.
+pub fn list_in(given: &Given<'_, '_>) -> Result<Look, Misfit>
     ensures { Gives look_view (list_by (said_of given.now)) result }
 {
     let places = given.has("places");
@@ -74,75 +61,24 @@ fn list_options_in(given: &Given<'_, '_>) -> Result<Look, Misfit>
     }))
 }
 
-pub fn list_in(given: &Given<'_, '_>) -> Result<Ask, Misfit>
-    ensures { Gives ask_view (ask_by verbs.List (said_of given.now)) result }
-{
-    let look = list_options_in(given)?;
-    listing_in(given, look)
-}
-
-/// What is asked by a command that looks for this, and may reserve places.
-pub fn look_in(alloc: Global, given: &Given<'_, '_>, look: Look) -> Result<Ask, Misfit>
-    ensures { Gives ask_view (look_by (Some (look_view look)) (said_of given.now (codes "reserve")) (said_of given.now))
-        result }
-{
-    Ok(Ask::Look {
-        volume: given.volume()?,
-        reserve: given.text(alloc, "reserve")?,
-        look,
-    })
-}
-
-// The path of the other image of a comparison; not both are standard input.
-fn other_named<'a>(given: &Given<'_, 'a>) -> Result<&'a str, Misfit>
-    ensures { Gives (λ s. s.now) (names_other (said_of given.now (codes "image")) (said_of given.now (codes "other")))
-        result }
-{
-    let image = given.needed("image")?;
-    let other = given.needed("other")?;
-    if image == "-" && other == "-" {
-        return Err(Misfit::TwoInputs);
-    }
-    Ok(other)
-}
-
-// How another image is compared with the image.
-fn compare_options_in(given: &Given<'_, '_>) -> Result<CompareOptions, Misfit>
-    ensures { Gives (λ o. o) (options_by (said_of given.now)) result }
-{
-    let other_order = given.other_order()?;
-    let most = most_bytes(given.said("most"))?;
-    Ok(CompareOptions {
-        other_order,
-        all: given.has("all"),
-        most,
-    })
-}
-
-// The other image that words name, and how it is compared.
-fn comparison_in(alloc: Global, given: &Given<'_, '_>) -> Result<Look, Misfit>
+/// The look that is made by `compare`.
+pub fn compare_in(given: &Given<'_, '_>) -> Result<Look, Misfit>
     ensures { Gives look_view (compare_by (said_of given.now)) result }
 {
-    let other = other_named(given)?;
-    let options = compare_options_in(given)?;
-    Ok(Look::Compare {
-        other: other.to_string(alloc)?,
-        options,
-    })
+    let most = most_bytes(given.said("most"))?;
+    Ok(Look::Compare(CompareOptions {
+        all: given.has("all"),
+        most,
+    }))
 }
 
-pub fn compare_in(alloc: Global, given: &Given<'_, '_>) -> Result<Ask, Misfit>
-    ensures { Gives ask_view (ask_by verbs.Compare (said_of given.now)) result }
+/// The look that is made by `check`.
+pub fn check_in(given: &Given<'_, '_>) -> Look
+    ensures { look_view result ≡ check_by (said_of given.now) }
 {
-    let look = comparison_in(alloc, given)?;
-    listing_in(given, look)
-}
-
-pub fn check_in(alloc: Global, given: &Given<'_, '_>) -> Result<Ask, Misfit>
-    ensures { Gives ask_view (ask_by verbs.Check (said_of given.now)) result }
-{
-    let bodies = given.has("bodies");
-    look_in(alloc, given, Look::Check { bodies })
+    Look::Check {
+        bodies: given.has("bodies"),
+    }
 }
 
 // The form of a file that a word names.
@@ -174,8 +110,8 @@ fn read_form_said(whole: bool, word: Option<&str>) -> Result<ReadForm, Misfit>
     }
 }
 
-// The file that is read, and where its bytes go.
-fn reading_in(alloc: Global, given: &Given<'_, '_>) -> Result<Look, Misfit>
+/// The look that is made by `read`.
+pub fn read_in(alloc: Global, given: &Given<'_, '_>) -> Result<Look, Misfit>
     ensures { Gives look_view (read_by (said_of given.now)) result }
 {
     let form = read_form_said(given.has("whole"), given.said("as"))?;
@@ -183,29 +119,25 @@ fn reading_in(alloc: Global, given: &Given<'_, '_>) -> Result<Look, Misfit>
     Ok(Look::Read {
         name,
         form,
-        out: given.text(alloc, "out")?,
+        to_file: given.said("out").is_some(),
     })
 }
 
-pub fn read_in(alloc: Global, given: &Given<'_, '_>) -> Result<Ask, Misfit>
-    ensures { Gives ask_view (ask_by verbs.Read (said_of given.now)) result }
+/// The look that is made by `plan`.
+pub fn plan_in(given: &Given<'_, '_>) -> Look
+    ensures { look_view result ≡ plan_by (said_of given.now) }
 {
-    let look = reading_in(alloc, given)?;
-    listing_in(given, look)
+    Look::Plan {
+        reclaim: given.has("reclaim"),
+        words: given.has("words"),
+    }
 }
 
-pub fn plan_in(alloc: Global, given: &Given<'_, '_>) -> Result<Ask, Misfit>
-    ensures { Gives ask_view (ask_by verbs.Plan (said_of given.now)) result }
+/// The look that is made by `verify`.
+pub fn verify_in(given: &Given<'_, '_>) -> Look
+    ensures { look_view result ≡ verify_by (said_of given.now) }
 {
-    let reclaim = given.has("reclaim");
-    let words = given.has("words");
-    look_in(alloc, given, Look::Plan { reclaim, words })
-}
-
-pub fn verify_in(alloc: Global, given: &Given<'_, '_>) -> Result<Ask, Misfit>
-    ensures { Gives ask_view (ask_by verbs.Verify (said_of given.now)) result }
-{
-    let from = given.needed_text(alloc, "from")?;
-    let reclaim = given.has("reclaim");
-    look_in(alloc, given, Look::Verify { from, reclaim })
+    Look::Verify {
+        reclaim: given.has("reclaim"),
+    }
 }

@@ -1,29 +1,24 @@
-//! What is asked by `save`.
-ghost use Rattle.std.specs.Prelude.{◌≡◌, IfErr, IfOk, option_map, Some};
-ghost use Rattle.shop_jobs.specs.Job.{ask_view, attributes_view, change_view};
-ghost use Rattle.shop_words.specs.Given.{said_of, words_of};
+//! The change that is made by `save`.
+ghost use Rattle.std.specs.Prelude.{◌≡◌, IfErr, IfOk, option_map};
+ghost use Rattle.shop_jobs.specs.Job.{attributes_view, change_view};
+ghost use Rattle.shop_words.specs.Given.{said_of};
 ghost use Rattle.shop_words.specs.Gives.{Gives};
 ghost use Rattle.shop_words.specs.Job.{
-  ask_by,
   attributes_by,
   aux_named,
-  given_form_by,
-  given_form_named,
-  given_form_said,
   high_said,
   is_loadable,
   save_by,
-  usual_high,
+  save_form_by,
+  save_form_named,
+  save_form_said,
 };
-ghost use Rattle.shop_words.specs.declared.table.Verb.TheVariants as verbs;
 
-use crate::changing::change_in;
 use crate::given::Given;
 use crate::misfit::Misfit;
 use crate::reading::address_named;
 use apple_text::HighBit;
-use file_forms::GivenForm;
-use shop_jobs::{Ask, Change, FileSystem, SaveAttributes};
+use shop_jobs::{Change, SaveAttributes, SaveForm};
 use std::alloc::Global;
 
 /// Where a program in Applesoft BASIC is loaded.
@@ -42,76 +37,73 @@ fn aux_named(word: Option<&str>) -> Result<Option<u16>, Misfit>
     }
 }
 
-// The highest bit of the bytes of a text where none is said.
-fn usual_high(file_system: FileSystem) -> HighBit
-    ensures { result ≡ usual_high file_system }
-{
-    match file_system {
-        FileSystem::Dos => HighBit::On,
-        FileSystem::Prodos => HighBit::Off,
-    }
-}
-
-// The highest bit of the bytes of a text.
-fn high_said(file_system: FileSystem, word: Option<&str>) -> Result<HighBit, Misfit>
-    ensures { Gives (λ h. h) (high_said file_system (option_map (λ s. s.now) word.entry)) result }
+// The highest bit of the bytes of a text, where one is said.
+fn high_said(word: Option<&str>) -> Result<Option<HighBit>, Misfit>
+    ensures { Gives (λ h. h) (high_said (option_map (λ s. s.now) word.entry)) result }
 {
     match word {
-        None => Ok(usual_high(file_system)),
-        Some("on") => Ok(HighBit::On),
-        Some("off") => Ok(HighBit::Off),
+        None => Ok(None),
+        Some("on") => Ok(Some(HighBit::On)),
+        Some("off") => Ok(Some(HighBit::Off)),
         Some(_) => Err(Misfit::Value { name: "high" }),
     }
 }
 
 // The form that a word names, with the highest bit that is said of a text.
-fn given_form_named(
-    word: &str,
-    high: Option<&str>,
-    file_system: FileSystem,
-) -> Result<Option<GivenForm>, Misfit>
-    ensures { Gives (λ f. f) (given_form_named word.now (option_map (λ s. s.now) high.entry) file_system) result }
+fn save_form_named(word: &str, high: Option<&str>) -> Result<Option<SaveForm>, Misfit>
+    ensures { Gives (λ f. f) (save_form_named word.now (option_map (λ s. s.now) high.entry)) result }
 {
     match (word, high) {
-        ("text", high) => Ok(Some(GivenForm::Text(high_said(file_system, high)?))),
-        ("applesoft", None) => Ok(Some(GivenForm::Applesoft)),
-        ("single", None) => Ok(Some(GivenForm::Single)),
+        ("text", high) => Ok(Some(SaveForm::Text {
+            high: high_said(high)?,
+        })),
+        ("applesoft", None) => Ok(Some(SaveForm::Applesoft)),
+        ("single", None) => Ok(Some(SaveForm::Single)),
         ("applesoft" | "single", Some(_)) => Err(Misfit::HighWithoutText),
         _ => Err(Misfit::Value { name: "as" }),
     }
 }
 
 // The form in which a new file is given; `None` is its bytes.
-fn given_form_said(
-    word: Option<&str>,
-    high: Option<&str>,
-    file_system: FileSystem,
-) -> Result<Option<GivenForm>, Misfit>
-    ensures { Gives (λ f. f) (given_form_said (option_map (λ s. s.now) word.entry)
-        (option_map (λ s. s.now) high.entry) file_system) result }
+fn save_form_said(word: Option<&str>, high: Option<&str>) -> Result<Option<SaveForm>, Misfit>
+    ensures { Gives (λ f. f)
+        (save_form_said (option_map (λ s. s.now) word.entry) (option_map (λ s. s.now) high.entry)) result }
 {
     match (word, high) {
-        (Some(word), high) => given_form_named(word, high, file_system),
+        (Some(word), high) => save_form_named(word, high),
         (None, None) => Ok(None),
         (None, Some(_)) => Err(Misfit::HighWithoutText),
     }
 }
 
-// The same as the words say it.
-fn given_form_in(given: &Given<'_, '_>) -> Result<Option<GivenForm>, Misfit>
-    ensures { Gives (λ f. f) (given_form_by (said_of given.now)) result }
-{
-    let file_system = given.file_system()?;
-    given_form_said(given.said("as"), given.said("high"), file_system)
-}
-
 // Whether a file that is given so may have this auxiliary type: a program is made for one place.
-fn is_loadable(form: Option<GivenForm>, aux: Option<u16>) -> bool
+fn is_loadable(form: Option<SaveForm>, aux: Option<u16>) -> bool
     ensures { result ≡ is_loadable form aux }
 {
     match (form, aux) {
-        (Some(GivenForm::Applesoft), Some(aux)) => aux == PROGRAM_START,
+        (Some(SaveForm::Applesoft), Some(aux)) => aux == PROGRAM_START,
         _ => true,
+    }
+}
+
+// The form in which a new file with this auxiliary type is given.
+fn save_form_in(given: &Given<'_, '_>, aux: Option<u16>) -> Result<Option<SaveForm>, Misfit>
+    ensures { Gives (λ f. f) (save_form_by aux (said_of given.now)) result }
+{
+    let form = save_form_said(given.said("as"), given.said("high"))?;
+    if !is_loadable(form, aux) {
+        return Err(Misfit::LoadedElsewhere);
+    }
+    Ok(form)
+}
+
+// What is told of words whose form of a new file is wrong so: what is wrong with the file system, where that is too.
+fn form_misfit(given: &Given<'_, '_>, misfit: Misfit) -> Misfit
+    ensures { misfit ≡ Misfit.Memory → result ≡ Misfit.Memory }
+{
+    match (misfit, given.file_system()) {
+        (Misfit::Memory, _) | (_, Ok(_)) => misfit,
+        (_, Err(first)) => first,
     }
 }
 
@@ -132,27 +124,19 @@ fn attributes_in(
     })
 }
 
-// The change that is made by `save`.
-fn saving_in(alloc: Global, given: &Given<'_, '_>) -> Result<Change, Misfit>
+/// The change that is made by `save`.
+pub fn save_in(alloc: Global, given: &Given<'_, '_>) -> Result<Change, Misfit>
     ensures { Gives change_view (save_by (said_of given.now)) result }
 {
     let aux = aux_named(given.said("aux"))?;
-    let form = given_form_in(given)?;
-    if !is_loadable(form, aux) {
-        return Err(Misfit::LoadedElsewhere);
-    }
+    let form = match save_form_in(given, aux) {
+        Ok(form) => form,
+        Err(misfit) => return Err(form_misfit(given, misfit)),
+    };
     Ok(Change::Save {
         name: given.needed_text(alloc, "name")?,
         attributes: attributes_in(alloc, given, aux)?,
         form,
-        from: given.needed_text(alloc, "from")?,
         replace: given.has("replace"),
     })
-}
-
-pub fn save_in(alloc: Global, given: &Given<'_, '_>) -> Result<Ask, Misfit>
-    ensures { Gives ask_view (ask_by verbs.Save (said_of given.now)) result }
-{
-    let change = saving_in(alloc, given)?;
-    change_in(alloc, given, change)
 }

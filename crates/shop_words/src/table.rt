@@ -104,6 +104,8 @@ pub enum Reading {
     Nothing,
     /// The file system and the order.
     Volume(LeftOut),
+    /// The order alone, of a volume that must be one of ProDOS.
+    Prodos(LeftOut),
     /// The order alone.
     Order(LeftOut),
     /// The order alone, of an image that stands in no container.
@@ -789,7 +791,7 @@ static FORMS: [Form; 24] = [
     Form {
         name: "mkdir",
         verb: Verb::MakeDirectory,
-        reading: Reading::Order(LeftOut::UnlessInPlace),
+        reading: Reading::Prodos(LeftOut::UnlessInPlace),
         parameters: &[
             IMAGE,
             NEW_DIRECTORY,

@@ -2,8 +2,8 @@
 use crate::commands::answer::words_of;
 use a2_device::Order;
 use shop_help::{WordsFault, misfit_fault, parse_words, read_fault};
-use shop_jobs::{Ask, FileSystem, Job, image_order, volume_of};
-use shop_words::{LeftOpen, StandIn, Ways, asks_explain, read_words};
+use shop_jobs::{Beside, FileSystem, ImageReading, Job, OrderSaid, VolumeReading, Ways};
+use shop_words::{asks_explain, read_words};
 use std::alloc::Global;
 use std::process::Abort;
 use std::test::Fail;
@@ -15,28 +15,11 @@ const FOUND: Ways = Ways {
     other_order: Order::Prodos,
 };
 
-fn is_auto(left: Option<StandIn>) -> bool {
-    matches!(left, Some(StandIn::Auto))
-}
-
-fn is_container(left: Option<StandIn>) -> bool {
-    matches!(left, Some(StandIn::Container))
-}
-
-/// What the words of a line leave to the images.
-fn left_by(alloc: Global, line: &str) -> Result<LeftOpen, WordsFault> {
+/// The job of a line.
+fn job_of(alloc: Global, line: &str) -> Result<Job, WordsFault> {
     let words = words_of(alloc, line)?;
     match read_words(alloc, words.as_slice()) {
-        Ok(asked) => Ok(asked.left_open()),
-        Err(unread) => Err(read_fault(alloc, words.as_slice(), &unread)),
-    }
-}
-
-/// The job of a line, where the images are read in these ways.
-fn job_of(alloc: Global, line: &str, ways: Ways) -> Result<Job, WordsFault> {
-    let words = words_of(alloc, line)?;
-    match read_words(alloc, words.as_slice()) {
-        Ok(asked) => match asked.job(alloc, ways) {
+        Ok(asked) => match asked.job(alloc) {
             Ok(job) => Ok(job),
             Err(misfit) => Err(misfit_fault(alloc, &asked, misfit)),
         },
@@ -44,12 +27,42 @@ fn job_of(alloc: Global, line: &str, ways: Ways) -> Result<Job, WordsFault> {
     }
 }
 
-/// The words leave both to the image, or nothing.
-fn leaves(rt: &impl Abort, alloc: Global, line: &str, both: bool) -> Result<(), WordsFault> {
-    let left = left_by(alloc, line)?;
-    assert!(rt; left.file_system == both, "for {line}");
-    assert!(rt; is_auto(left.order) == both, "for {line}");
-    assert!(rt; left.is_none() != both, "for {line}");
+/// A volume that is no data disk, and has no places reserved.
+fn volume(file_system: Option<FileSystem>, order: OrderSaid) -> ImageReading {
+    ImageReading::Volume(VolumeReading {
+        file_system,
+        order,
+        data_disk: false,
+        reserve: None,
+    })
+}
+
+/// The words of a line say so of the image.
+fn says(
+    rt: &impl Abort,
+    alloc: Global,
+    line: &str,
+    reading: ImageReading,
+) -> Result<(), WordsFault> {
+    let job = job_of(alloc, line)?;
+    assert!(rt; job.input.reading == reading, "for {line}");
+    Ok(())
+}
+
+/// The words of a line say so of the orders of two images.
+fn says_of_both(
+    rt: &impl Abort,
+    alloc: Global,
+    line: &str,
+    order: OrderSaid,
+    other: OrderSaid,
+) -> Result<(), WordsFault> {
+    let job = job_of(alloc, line)?;
+    assert!(rt; job.input.reading.order() == Some(order), "for {line}");
+    match &job.input.beside {
+        Beside::Image { order, .. } => assert!(rt; *order == other, "for {line}"),
+        _ => assert!(rt; false, "for {line}"),
+    }
     Ok(())
 }
 
@@ -66,67 +79,109 @@ fn what_is_left_out_is_found(rt: HostRuntime) -> Result<(), Fail> {
         "read a NAME --fs auto --order auto",
         "read a NAME --fs=auto --order=auto",
     ] {
-        leaves(&rt, rt.alloc(), line, true)?;
+        let found = volume(None, OrderSaid::ByReading);
+        says(&rt, rt.alloc(), line, found)?;
     }
     for line in [
         "catalog a --fs dos --order dos",
         "catalog a --fs dos --order dos --auto",
         "reclaim a --in-place --fs dos --order dos",
-        "identify a --auto",
-        "survey a",
-        "create --fs dos --out b",
     ] {
-        leaves(&rt, rt.alloc(), line, false)?;
+        let said = volume(Some(FileSystem::Dos), OrderSaid::Is(Order::Dos));
+        says(&rt, rt.alloc(), line, said)?;
+    }
+    for line in ["identify a --auto", "survey a", "create --fs dos --out b"] {
+        says(&rt, rt.alloc(), line, ImageReading::Bytes)?;
     }
     Ok(())
 }
 
 #[test]
 fn one_of_both_may_be_said(rt: HostRuntime) -> Result<(), Fail> {
-    let left = left_by(rt.alloc(), "check a --fs dos --auto")?;
-    assert!(rt; !left.file_system && is_auto(left.order));
-    let left = left_by(rt.alloc(), "check a --order nibble --fs auto")?;
-    assert!(rt; left.file_system && left.order.is_none());
-    let left = left_by(rt.alloc(), "check a --fs dos --order 2img")?;
-    assert!(rt; !left.file_system && is_container(left.order));
+    let dos = Some(FileSystem::Dos);
+    let reading = volume(dos, OrderSaid::ByReading);
+    says(&rt, rt.alloc(), "check a --fs dos --auto", reading)?;
+    let reading = volume(None, OrderSaid::Is(Order::Nibble));
+    says(&rt, rt.alloc(), "check a --order nibble --fs auto", reading)?;
+    let reading = volume(dos, OrderSaid::ByContainer);
+    says(&rt, rt.alloc(), "check a --fs dos --order 2img", reading)?;
     Ok(())
 }
 
 #[test]
 fn the_other_image_follows_the_one(rt: HostRuntime) -> Result<(), Fail> {
-    let left = left_by(rt.alloc(), "compare a b")?;
-    assert!(rt; is_auto(left.order) && is_auto(left.other_order));
-    let left = left_by(rt.alloc(), "compare a b --order 2img")?;
-    assert!(rt; is_container(left.order) && is_container(left.other_order));
-    let left = left_by(rt.alloc(), "compare a b --order dos")?;
-    assert!(rt; left.order.is_none() && left.other_order.is_none());
-    let left = left_by(rt.alloc(), "compare a b --order dos --other-order auto")?;
-    assert!(rt; left.order.is_none() && is_auto(left.other_order));
+    let dos = OrderSaid::Is(Order::Dos);
+    for (line, order, other) in [
+        ("compare a b", OrderSaid::ByReading, OrderSaid::ByReading),
+        (
+            "compare a b --order 2img",
+            OrderSaid::ByContainer,
+            OrderSaid::ByContainer,
+        ),
+        ("compare a b --order dos", dos, dos),
+        (
+            "compare a b --order dos --other-order auto",
+            dos,
+            OrderSaid::ByReading,
+        ),
+    ] {
+        says_of_both(&rt, rt.alloc(), line, order, other)?;
+    }
     Ok(())
 }
 
 #[test]
 fn a_directory_is_of_prodos(rt: HostRuntime) -> Result<(), Fail> {
-    let left = left_by(rt.alloc(), "add a --from b --out c --into SUB")?;
-    assert!(rt; !left.file_system && is_auto(left.order));
-    let left = left_by(rt.alloc(), "mkdir a SUB --out c")?;
-    assert!(rt; !left.file_system && is_auto(left.order));
-    let left = left_by(rt.alloc(), "convert a --to dos --out c --auto")?;
-    assert!(rt; !left.file_system && is_auto(left.order));
+    for line in ["add a --from b --out c --into SUB", "mkdir a SUB --out c"] {
+        let prodos = volume(Some(FileSystem::Prodos), OrderSaid::ByReading);
+        says(&rt, rt.alloc(), line, prodos)?;
+    }
+    let line = "convert a --to dos --out c --auto";
+    let sectors = ImageReading::Sectors(OrderSaid::ByReading);
+    says(&rt, rt.alloc(), line, sectors)?;
+    Ok(())
+}
+
+/// What is left to the image by the words of a line is settled so by ways that are found.
+fn settles(
+    rt: &impl Abort,
+    alloc: Global,
+    line: &str,
+    reading: ImageReading,
+) -> Result<(), WordsFault> {
+    let mut job = job_of(alloc, line)?;
+    assert!(rt; !job.input.is_settled(), "for {line}");
+    job.input.settle(FOUND);
+    assert!(rt; job.input.is_settled(), "for {line}");
+    assert!(rt; job.input.reading == reading, "for {line}");
     Ok(())
 }
 
 #[test]
 fn the_job_has_what_the_image_has(rt: HostRuntime) -> Result<(), Fail> {
-    let job = job_of(rt.alloc(), "catalog a --auto", FOUND)?;
-    assert!(rt; image_order(&job) == Some(Order::Nibble));
+    let nibble = OrderSaid::Is(Order::Nibble);
+    let prodos = volume(Some(FileSystem::Prodos), nibble);
+    settles(&rt, rt.alloc(), "catalog a --auto", prodos)?;
+    let dos = volume(Some(FileSystem::Dos), nibble);
+    settles(&rt, rt.alloc(), "catalog a --fs dos --auto", dos)?;
+    let sectors = ImageReading::Sectors(nibble);
+    settles(&rt, rt.alloc(), "wrap a --out b", sectors)?;
+    Ok(())
+}
+
+#[test]
+fn the_other_image_has_an_order_of_its_own(rt: HostRuntime) -> Result<(), Fail> {
+    let mut job = job_of(rt.alloc(), "compare a b")?;
+    job.input.settle(FOUND);
     assert!(rt;
-        matches!(volume_of(&job), Some(volume) if volume.file_system == FileSystem::Prodos)
+        matches!(
+            &job.input.beside,
+            Beside::Image {
+                order: OrderSaid::Is(Order::Prodos),
+                ..
+            }
+        )
     );
-    let job = job_of(rt.alloc(), "catalog a --fs dos --auto", FOUND)?;
-    assert!(rt; matches!(volume_of(&job), Some(volume) if volume.file_system == FileSystem::Dos));
-    let job = job_of(rt.alloc(), "wrap a --out b", FOUND)?;
-    assert!(rt; matches!(&job.ask, Ask::Wrap { options, .. } if options.order == Order::Nibble));
     Ok(())
 }
 

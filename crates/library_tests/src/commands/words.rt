@@ -2,8 +2,11 @@
 use crate::commands::answer::words_of;
 use a2_device::Order;
 use shop_help::{WordsFault, parse_words};
-use shop_jobs::{Ask, FileSystem, Job, ListForm, ListOptions, Look, VolumeOptions};
-use std::alloc::Global;
+use shop_jobs::{
+    Ask, Beside, FileSystem, ImageReading, Input, Job, ListForm, ListOptions, Look, OrderSaid,
+    Source, Target, VolumeAsk, VolumeReading,
+};
+use std::alloc::{AllocError, Global};
 use std::process::Abort;
 use std::test::Fail;
 
@@ -24,17 +27,47 @@ fn parse(alloc: Global, line: &str) -> Result<Job, WordsFault> {
     parse_words(alloc, words_of(alloc, line)?.as_slice())
 }
 
-/// The words of a line ask this of an image.
+/// The words of a line are those of this job.
+fn is_job(rt: &impl Abort, alloc: Global, line: &str, job: Job) -> Result<(), WordsFault> {
+    assert!(rt; parse(alloc, line)? == job, "for {line}");
+    Ok(())
+}
+
+/// The words of a line ask this of what is read, for this target, and no certificate is written.
 fn asks(
     rt: &impl Abort,
     alloc: Global,
     line: &str,
-    image: &str,
+    input: Input,
     ask: Ask,
+    output: Target,
 ) -> Result<(), WordsFault> {
-    let image = image.to_string(alloc)?;
-    assert!(rt; parse(alloc, line)? == Job { image, ask }, "for {line}");
-    Ok(())
+    let job = Job {
+        input,
+        ask,
+        output,
+        certificate: None,
+    };
+    is_job(rt, alloc, line, job)
+}
+
+/// The image in a file, and nothing beside it.
+fn image_at(alloc: Global, path: &str, reading: ImageReading) -> Result<Input, AllocError> {
+    Ok(Input {
+        image: Source::File(path.to_string(alloc)?),
+        reading,
+        beside: Beside::Nothing,
+    })
+}
+
+/// A volume of this file system in this order, of which nothing more is said.
+fn volume(file_system: FileSystem, order: Order) -> VolumeReading {
+    VolumeReading {
+        file_system: Some(file_system),
+        order: OrderSaid::Is(order),
+        data_disk: false,
+        reserve: None,
+    }
 }
 
 /// The words of a line are refused, with a text that contains both.
@@ -68,26 +101,37 @@ fn lists(
     rt: &impl Abort,
     alloc: Global,
     line: &str,
-    image: &str,
+    image: Source,
     order: Order,
     data_disk: bool,
 ) -> Result<(), WordsFault> {
-    let volume = VolumeOptions {
-        file_system: FileSystem::Dos,
-        order,
-        data_disk,
+    let mut dos = volume(FileSystem::Dos, order);
+    dos.data_disk = data_disk;
+    let input = Input {
+        image,
+        reading: ImageReading::Volume(dos),
+        beside: Beside::Nothing,
     };
-    let listing = Ask::Look {
-        volume,
-        reserve: None,
-        look: Look::Catalog,
-    };
-    asks(rt, alloc, line, image, listing)
+    let listing = Ask::Volume(VolumeAsk::Look(Look::Catalog));
+    asks(rt, alloc, line, input, listing, Target::Nothing)
+}
+
+/// The same of the image in a.dsk.
+fn lists_file(
+    rt: &impl Abort,
+    alloc: Global,
+    line: &str,
+    order: Order,
+    data_disk: bool,
+) -> Result<(), WordsFault> {
+    let image = Source::File("a.dsk".to_string(alloc)?);
+    lists(rt, alloc, line, image, order, data_disk)
 }
 
 #[test]
 fn no_words_list_standard_input(rt: HostRuntime) -> Result<(), Fail> {
-    lists(&rt, rt.alloc(), "", "-", Order::Dos, false)?;
+    let input = Source::StandardInput;
+    lists(&rt, rt.alloc(), "", input, Order::Dos, false)?;
     Ok(())
 }
 
@@ -97,7 +141,8 @@ fn standard_input_may_be_named(rt: HostRuntime) -> Result<(), Fail> {
         "catalog - --fs dos --order dos",
         "catalog --fs dos --order dos -",
     ] {
-        lists(&rt, rt.alloc(), line, "-", Order::Dos, false)?;
+        let input = Source::StandardInput;
+        lists(&rt, rt.alloc(), line, input, Order::Dos, false)?;
     }
     Ok(())
 }
@@ -109,7 +154,7 @@ fn options_stand_in_any_order(rt: HostRuntime) -> Result<(), Fail> {
         ("catalog a.dsk --fs dos --data-disk --order dos", true),
         ("catalog --fs=dos --order=dos a.dsk", false),
     ] {
-        lists(&rt, rt.alloc(), line, "a.dsk", Order::Dos, data_disk)?;
+        lists_file(&rt, rt.alloc(), line, Order::Dos, data_disk)?;
     }
     Ok(())
 }
@@ -121,29 +166,24 @@ fn an_image_may_be_in_each_order(rt: HostRuntime) -> Result<(), Fail> {
         ("catalog a.dsk --fs dos --order prodos", Order::Prodos),
         ("catalog a.dsk --fs dos --order nibble", Order::Nibble),
     ] {
-        lists(&rt, rt.alloc(), line, "a.dsk", order, false)?;
+        lists_file(&rt, rt.alloc(), line, order, false)?;
     }
     Ok(())
 }
 
 #[test]
 fn a_list_names_an_image(rt: HostRuntime) -> Result<(), Fail> {
-    let names = Ask::Look {
-        volume: VolumeOptions {
-            file_system: FileSystem::Prodos,
-            order: Order::Dos,
-            data_disk: false,
-        },
-        reserve: None,
-        look: Look::Entries(ListOptions {
-            form: ListForm::Names,
-            digests: false,
-            places: false,
-            most: 1 << 30,
-        }),
-    };
+    let names = Look::Entries(ListOptions {
+        form: ListForm::Names,
+        digests: false,
+        places: false,
+        most: 1 << 30,
+    });
+    let reading = ImageReading::Volume(volume(FileSystem::Prodos, Order::Dos));
+    let input = image_at(rt.alloc(), "a.dsk", reading)?;
+    let ask = Ask::Volume(VolumeAsk::Look(names));
     let line = "list a.dsk --order dos --fs prodos";
-    asks(&rt, rt.alloc(), line, "a.dsk", names)?;
+    asks(&rt, rt.alloc(), line, input, ask, Target::Nothing)?;
     refuses(
         &rt,
         rt.alloc(),
@@ -163,16 +203,11 @@ fn checks(
     reserve: Option<String>,
     bodies: bool,
 ) -> Result<(), WordsFault> {
-    let check = Ask::Look {
-        volume: VolumeOptions {
-            file_system: FileSystem::Dos,
-            order: Order::Prodos,
-            data_disk: false,
-        },
-        reserve,
-        look: Look::Check { bodies },
-    };
-    asks(rt, alloc, line, "a.dsk", check)
+    let mut dos = volume(FileSystem::Dos, Order::Prodos);
+    dos.reserve = reserve;
+    let input = image_at(alloc, "a.dsk", ImageReading::Volume(dos))?;
+    let check = Ask::Volume(VolumeAsk::Look(Look::Check { bodies }));
+    asks(rt, alloc, line, input, check, Target::Nothing)
 }
 
 #[test]

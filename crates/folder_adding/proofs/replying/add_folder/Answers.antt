@@ -5,7 +5,7 @@ use Rattle.folder_adding.specs.Plan.{plan_view}
 use Rattle.folder_adding.specs.Replying.{folder_view}
 use Rattle.folder_adding.proofs.replying.add_folder.Goals as goal
 use Rattle.shop_changes.specs.EditRules.{changed_in}
-use Rattle.shop_jobs.specs.declared.job.FileSystem.{FileSystem}
+use Rattle.shop_jobs.specs.declared.input.FileSystem.{FileSystem}
 
 pub returns-in-Dos : goal.returns-in-Dos
 returns-in-Dos g c = record {

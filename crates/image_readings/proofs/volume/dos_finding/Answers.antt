@@ -1,4 +1,4 @@
-use Rattle.shop_jobs.specs.declared.job.FileSystem.TheVariants.{Dos}
+use Rattle.shop_jobs.specs.declared.input.FileSystem.TheVariants.{Dos}
 use Rattle.shop_replies.specs.Volume.{device_of}
 use Rattle.image_readings.proofs.Lent.{found_lent, stops_lent}
 use Rattle.image_readings.proofs.Stopped.{told_if}

@@ -1,5 +1,5 @@
 use Rattle.std.proofs.Common.{length, sym, subst}
-use Rattle.shop_jobs.specs.declared.job.FileSystem.{FileSystem}
+use Rattle.shop_jobs.specs.declared.input.FileSystem.{FileSystem}
 use Rattle.shop_replies.specs.Volume.{TakesBytes, device_of}
 use Rattle.image_readings.specs.Readings.{IsToldOf}
 use Rattle.image_readings.proofs.Taken.{reads_bytes, takes_disk}

@@ -1,8 +1,10 @@
 // The words of files that are added.
-use super::{asks, refuses};
+use super::{asks, image_at, refuses, volume};
 use a2_device::Order;
 use shop_help::WordsFault;
-use shop_jobs::{AddOptions, Ask, FileSystem, VolumeOptions};
+use shop_jobs::{
+    AddOptions, Ask, Beside, FileSystem, ImageReading, Target, VolumeAsk, VolumeReading,
+};
 use std::alloc::{AllocError, Global};
 use std::process::Abort;
 use std::test::Fail;
@@ -22,46 +24,38 @@ fn adds(
     rt: &impl Abort,
     alloc: Global,
     line: &str,
-    volume: VolumeOptions,
+    volume: VolumeReading,
     into: Option<&str>,
     date: Option<&str>,
-    reserve: Option<&str>,
 ) -> Result<(), WordsFault> {
-    let ask = Ask::Add {
-        volume,
-        reserve: text(alloc, reserve)?,
-        options: AddOptions {
-            from: "files".to_string(alloc)?,
-            into: text(alloc, into)?,
-            date: text(alloc, date)?,
-        },
-        out: "new".to_string(alloc)?,
+    let mut input = image_at(alloc, "a.po", ImageReading::Volume(volume))?;
+    input.beside = Beside::Folder("files".to_string(alloc)?);
+    let options = AddOptions {
+        into: text(alloc, into)?,
+        date: text(alloc, date)?,
     };
-    asks(rt, alloc, line, "a.po", ask)
+    let ask = Ask::Volume(VolumeAsk::Add(options));
+    let output = Target::File("new".to_string(alloc)?);
+    asks(rt, alloc, line, input, ask, output)
 }
 
 #[test]
 fn files_are_added_by_their_words(rt: HostRuntime) -> Result<(), Fail> {
     let alloc = rt.alloc();
-    let plain = VolumeOptions {
-        file_system: FileSystem::Prodos,
-        order: Order::Prodos,
-        data_disk: false,
-    };
+    let plain = volume(FileSystem::Prodos, Order::Prodos);
     let line = "add a.po --fs prodos --order prodos --from files --out new";
-    adds(&rt, alloc, line, plain, None, None, None)?;
+    adds(&rt, alloc, line, plain, None, None)?;
+    let mut reserving = volume(FileSystem::Prodos, Order::Prodos);
+    reserving.reserve = Some("7,280".to_string(alloc)?);
     let line =
         "add --into SUB/INNER --date 1986-05-01T12:30 a.po --reserve 7,280 --out new --from files \
         --order prodos --fs prodos";
     let (into, date) = (Some("SUB/INNER"), Some("1986-05-01T12:30"));
-    adds(&rt, alloc, line, plain, into, date, Some("7,280"))?;
-    let disk = VolumeOptions {
-        file_system: FileSystem::Dos,
-        order: Order::Nibble,
-        data_disk: true,
-    };
+    adds(&rt, alloc, line, reserving, into, date)?;
+    let mut disk = volume(FileSystem::Dos, Order::Nibble);
+    disk.data_disk = true;
     let line = "add a.po --data-disk --fs dos --order nibble --from files --out new";
-    adds(&rt, alloc, line, disk, None, None, None)?;
+    adds(&rt, alloc, line, disk, None, None)?;
     Ok(())
 }
 

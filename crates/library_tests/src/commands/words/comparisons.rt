@@ -1,35 +1,36 @@
 // The words of a comparison, and of a list that tells places.
-use super::{asks, refuses};
+use super::{asks, image_at, refuses, volume};
 use a2_device::Order;
 use shop_help::WordsFault;
-use shop_jobs::{Ask, CompareOptions, FileSystem, ListForm, ListOptions, Look, VolumeOptions};
-use std::alloc::Global;
+use shop_jobs::{
+    Ask, Beside, CompareOptions, FileSystem, ImageReading, Input, ListForm, ListOptions, Look,
+    OrderSaid, Source, Target, VolumeAsk,
+};
+use std::alloc::{AllocError, Global};
 use std::process::Abort;
 use std::test::Fail;
 
-/// What is asked by a look at the DOS volume of an image in DOS order.
-fn looks_for(look: Look) -> Ask {
-    Ask::Look {
-        volume: VolumeOptions {
-            file_system: FileSystem::Dos,
-            order: Order::Dos,
-            data_disk: false,
-        },
-        reserve: None,
-        look,
-    }
+/// The DOS volume of a.dsk, in DOS order.
+fn dos_volume(alloc: Global) -> Result<Input, AllocError> {
+    let reading = ImageReading::Volume(volume(FileSystem::Dos, Order::Dos));
+    image_at(alloc, "a.dsk", reading)
 }
 
-/// The words of a line compare a.dsk with b.dsk so.
+/// The words of a line compare a.dsk with b.dsk, in this order, so.
 fn compares(
     rt: &impl Abort,
     alloc: Global,
     line: &str,
+    other_order: Order,
     options: CompareOptions,
 ) -> Result<(), WordsFault> {
-    let other = "b.dsk".to_string(alloc)?;
-    let look = Look::Compare { other, options };
-    asks(rt, alloc, line, "a.dsk", looks_for(look))
+    let mut input = dos_volume(alloc)?;
+    input.beside = Beside::Image {
+        source: Source::File("b.dsk".to_string(alloc)?),
+        order: OrderSaid::Is(other_order),
+    };
+    let ask = Ask::Volume(VolumeAsk::Look(Look::Compare(options)));
+    asks(rt, alloc, line, input, ask, Target::Nothing)
 }
 
 #[test]
@@ -54,12 +55,8 @@ fn a_comparison_names_two_images(rt: HostRuntime) -> Result<(), Fail> {
             7,
         ),
     ] {
-        let options = CompareOptions {
-            other_order,
-            all,
-            most,
-        };
-        compares(&rt, rt.alloc(), line, options)?;
+        let options = CompareOptions { all, most };
+        compares(&rt, rt.alloc(), line, other_order, options)?;
     }
     Ok(())
 }
@@ -87,7 +84,9 @@ fn places_are_told_in_json_alone(rt: HostRuntime) -> Result<(), Fail> {
         most: 1 << 30,
     });
     let line = "list a.dsk --places --fs dos --order dos --digests --format json";
-    asks(&rt, rt.alloc(), line, "a.dsk", looks_for(places))?;
+    let ask = Ask::Volume(VolumeAsk::Look(places));
+    let input = dos_volume(rt.alloc())?;
+    asks(&rt, rt.alloc(), line, input, ask, Target::Nothing)?;
     for format in ["", " --format names", " --format csv"] {
         let line = format!(in rt.alloc(); "list a.dsk --fs dos --order dos --places{format}")?;
         refuses(&rt, rt.alloc(), line.as_str(), "--places", "a2shop list");

@@ -1,8 +1,8 @@
 // The words of conversions.
-use super::{asks, refuses};
+use super::{asks, image_at, refuses};
 use a2_device::Order;
 use shop_help::WordsFault;
-use shop_jobs::Ask;
+use shop_jobs::{Ask, ImageReading, OrderSaid, Target};
 use std::alloc::{AllocError, Global};
 use std::process::Abort;
 use std::test::Fail;
@@ -16,14 +16,15 @@ fn conversion(alloc: Global, more: &str) -> Result<String, AllocError> {
 
 /// The words of a conversion and these are those of one with this volume number.
 fn converts(rt: &impl Abort, alloc: Global, more: &str, volume: u8) -> Result<(), WordsFault> {
+    let reading = ImageReading::Sectors(OrderSaid::Is(Order::Dos));
+    let input = image_at(alloc, "a.dsk", reading)?;
     let convert = Ask::Convert {
-        order: Order::Dos,
         to: Order::Nibble,
-        out: "b.nib".to_string(alloc)?,
         volume,
     };
+    let output = Target::File("b.nib".to_string(alloc)?);
     let line = conversion(alloc, more)?;
-    asks(rt, alloc, line.as_str(), "a.dsk", convert)
+    asks(rt, alloc, line.as_str(), input, convert, output)
 }
 
 /// The words of a conversion and these are refused, with a text that contains this and the usage.

@@ -1,28 +1,32 @@
 // The words of new volumes, and of lost places that are marked free.
-use super::{asks, refuses};
+use super::{asks, image_at, refuses, volume};
 use a2_device::Order;
 use shop_help::WordsFault;
-use shop_jobs::{Ask, Change, CreateOptions, FileSystem, NewVolume, Target, VolumeOptions};
+use shop_jobs::{
+    Ask, Beside, Change, CreateOptions, FileSystem, ImageReading, Input, NewVolume, OrderSaid,
+    Source, Target, VolumeAsk,
+};
 use std::alloc::Global;
 use std::process::Abort;
 use std::test::Fail;
 
 const CREATE_USAGE: &str = "Usage: a2shop create ";
 
-/// The words of a line make this volume, for new.
+/// The words of a line make this volume, with what stands beside it, for new.
 fn creates(
     rt: &impl Abort,
     alloc: Global,
     line: &str,
     options: CreateOptions,
-    boot: Option<&str>,
+    beside: Beside,
 ) -> Result<(), WordsFault> {
-    let boot = match boot {
-        Some(path) => Some(path.to_string(alloc)?),
-        None => None,
+    let input = Input {
+        image: Source::Nothing,
+        reading: ImageReading::Bytes,
+        beside,
     };
-    let out = "new".to_string(alloc)?;
-    asks(rt, alloc, line, "", Ask::Create { options, boot, out })
+    let output = Target::NewFile("new".to_string(alloc)?);
+    asks(rt, alloc, line, input, Ask::Create(options), output)
 }
 
 #[test]
@@ -32,21 +36,26 @@ fn a_disk_is_made_by_its_words(rt: HostRuntime) -> Result<(), Fail> {
         order: Order::Dos,
         number: 254,
     };
-    creates(&rt, rt.alloc(), "create --fs dos --out new", plain, None)?;
+    let line = "create --fs dos --out new";
+    creates(&rt, rt.alloc(), line, plain, Beside::Nothing)?;
     let told = CreateOptions {
         volume: NewVolume::Dos { data_disk: true },
         order: Order::Nibble,
         number: 7,
     };
     let line = "create --volume 7 --data-disk --out new --fs dos --order nibble";
-    creates(&rt, rt.alloc(), line, told, None)?;
+    creates(&rt, rt.alloc(), line, told, Beside::Nothing)?;
     let started = CreateOptions {
         volume: NewVolume::Dos { data_disk: false },
         order: Order::Prodos,
         number: 254,
     };
+    let system = Beside::Image {
+        source: Source::File("system.po".to_string(rt.alloc())?),
+        order: OrderSaid::Is(Order::Prodos),
+    };
     let line = "create --boot system.po --fs dos --order prodos --out new";
-    creates(&rt, rt.alloc(), line, started, Some("system.po"))?;
+    creates(&rt, rt.alloc(), line, started, system)?;
     Ok(())
 }
 
@@ -61,7 +70,8 @@ fn a_prodos_volume_is_made_by_its_words(rt: HostRuntime) -> Result<(), Fail> {
         order: Order::Prodos,
         number: 254,
     };
-    creates(&rt, rt.alloc(), "create --fs prodos --out new", plain, None)?;
+    let line = "create --fs prodos --out new";
+    creates(&rt, rt.alloc(), line, plain, Beside::Nothing)?;
     let told = CreateOptions {
         volume: NewVolume::Prodos {
             blocks: 65_535,
@@ -72,7 +82,7 @@ fn a_prodos_volume_is_made_by_its_words(rt: HostRuntime) -> Result<(), Fail> {
         number: 254,
     };
     let line = "create --fs prodos --out new --blocks 65535 --name A --date 1986-05-01T12:30";
-    creates(&rt, rt.alloc(), line, told, None)?;
+    creates(&rt, rt.alloc(), line, told, Beside::Nothing)?;
     Ok(())
 }
 
@@ -100,22 +110,20 @@ fn words_that_no_volume_has_are_refused(rt: HostRuntime) {
     }
 }
 
+/// The words of a line mark the lost places of the DOS volume in a.dsk free, for this target.
+fn reclaims(rt: &impl Abort, alloc: Global, line: &str, target: Target) -> Result<(), WordsFault> {
+    let reading = ImageReading::Volume(volume(FileSystem::Dos, Order::Dos));
+    let input = image_at(alloc, "a.dsk", reading)?;
+    let ask = Ask::Volume(VolumeAsk::Change(Change::Reclaim));
+    asks(rt, alloc, line, input, ask, target)
+}
+
 #[test]
 fn lost_places_are_marked_free_by_their_words(rt: HostRuntime) -> Result<(), Fail> {
-    let reclaims = |target| Ask::Change {
-        volume: VolumeOptions {
-            file_system: FileSystem::Dos,
-            order: Order::Dos,
-            data_disk: false,
-        },
-        reserve: None,
-        change: Change::Reclaim,
-        target,
-    };
     let line = "reclaim a.dsk --fs dos --order dos --out b.dsk";
     let file = Target::File("b.dsk".to_string(rt.alloc())?);
-    asks(&rt, rt.alloc(), line, "a.dsk", reclaims(file))?;
+    reclaims(&rt, rt.alloc(), line, file)?;
     let line = "reclaim a.dsk --fs dos --order dos --in-place";
-    asks(&rt, rt.alloc(), line, "a.dsk", reclaims(Target::InPlace))?;
+    reclaims(&rt, rt.alloc(), line, Target::InPlace)?;
     Ok(())
 }

@@ -1,8 +1,8 @@
 // The words of directories that are made.
-use super::{asks, helps, refuses};
+use super::{asks, helps, image_at, refuses, volume};
 use a2_device::Order;
 use shop_help::WordsFault;
-use shop_jobs::{Ask, Change, FileSystem, Target, VolumeOptions};
+use shop_jobs::{Ask, Change, FileSystem, ImageReading, Target, VolumeAsk};
 use std::alloc::Global;
 use std::process::Abort;
 use std::test::Fail;
@@ -19,20 +19,15 @@ fn makes(
     reserve: Option<String>,
     target: Target,
 ) -> Result<(), WordsFault> {
-    let ask = Ask::Change {
-        volume: VolumeOptions {
-            file_system: FileSystem::Prodos,
-            order,
-            data_disk: false,
-        },
-        reserve,
-        change: Change::MakeDirectory {
-            path: "LETTERS/JUNE".to_string(alloc)?,
-            date,
-        },
-        target,
+    let mut prodos = volume(FileSystem::Prodos, order);
+    prodos.reserve = reserve;
+    let input = image_at(alloc, "a.po", ImageReading::Volume(prodos))?;
+    let directory = Change::MakeDirectory {
+        path: "LETTERS/JUNE".to_string(alloc)?,
+        date,
     };
-    asks(rt, alloc, line, "a.po", ask)
+    let ask = Ask::Volume(VolumeAsk::Change(directory));
+    asks(rt, alloc, line, input, ask, target)
 }
 
 #[test]

@@ -1,8 +1,8 @@
 // The words of an extraction.
-use super::{asks, refuses};
+use super::{asks, image_at, refuses, volume};
 use a2_device::Order;
 use host_folders::Naming;
-use shop_jobs::{Ask, ExtractOptions, FileSystem, VolumeOptions};
+use shop_jobs::{Ask, ExtractOptions, FileSystem, ImageReading, Target, VolumeAsk};
 use std::test::Fail;
 
 #[test]
@@ -44,20 +44,17 @@ fn an_extraction_names_a_folder(rt: HostRuntime) -> Result<(), Fail> {
             true,
         ),
     ] {
-        let ask = Ask::Extract {
-            volume: VolumeOptions {
-                file_system: FileSystem::Dos,
-                order: Order::Dos,
-                data_disk,
-            },
-            options: ExtractOptions {
-                naming,
-                texts,
-                most,
-            },
-            into: "out".to_string(rt.alloc())?,
+        let mut dos = volume(FileSystem::Dos, Order::Dos);
+        dos.data_disk = data_disk;
+        let input = image_at(rt.alloc(), "a.dsk", ImageReading::Volume(dos))?;
+        let options = ExtractOptions {
+            naming,
+            texts,
+            most,
         };
-        asks(&rt, rt.alloc(), line, "a.dsk", ask)?;
+        let ask = Ask::Volume(VolumeAsk::Extract(options));
+        let folder = Target::Folder("out".to_string(rt.alloc())?);
+        asks(&rt, rt.alloc(), line, input, ask, folder)?;
     }
     Ok(())
 }

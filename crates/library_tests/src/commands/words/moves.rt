@@ -1,58 +1,50 @@
 // The words of plans, optimizations and verifications.
-use super::asks;
+use super::{asks, image_at, is_job, volume};
 use a2_device::Order;
 use shop_help::WordsFault;
-use shop_jobs::{Ask, Change, FileSystem, Look, Target, VolumeOptions};
-use std::alloc::Global;
+use shop_jobs::{
+    Ask, Beside, Change, FileSystem, ImageReading, Input, Job, Look, Target, VolumeAsk,
+};
+use std::alloc::{AllocError, Global};
 use std::process::Abort;
 use std::test::Fail;
 
-const PRODOS: VolumeOptions = VolumeOptions {
-    file_system: FileSystem::Prodos,
-    order: Order::Prodos,
-    data_disk: false,
-};
-
-/// What is looked for in a volume of ProDOS, with these places reserved.
-fn look_at(reserve: Option<String>, look: Look) -> Ask {
-    Ask::Look {
-        volume: PRODOS,
-        reserve,
-        look,
-    }
+/// The ProDOS volume of a.po, with these places reserved.
+fn prodos(alloc: Global, reserve: Option<String>) -> Result<Input, AllocError> {
+    let mut prodos = volume(FileSystem::Prodos, Order::Prodos);
+    prodos.reserve = reserve;
+    image_at(alloc, "a.po", ImageReading::Volume(prodos))
 }
 
-/// A change of a volume of ProDOS.
-fn change(change: Change, target: Target) -> Ask {
-    Ask::Change {
-        volume: PRODOS,
-        reserve: None,
-        change,
-        target,
-    }
+/// What is asked by a plan.
+fn plan(reclaim: bool, words: bool) -> Ask {
+    Ask::Volume(VolumeAsk::Look(Look::Plan { reclaim, words }))
+}
+
+/// What is asked by an optimization.
+fn optimization(reclaim: bool, stop_after: Option<u64>) -> Ask {
+    let optimize = Change::Optimize {
+        reclaim,
+        stop_after,
+    };
+    Ask::Volume(VolumeAsk::Change(optimize))
 }
 
 #[test]
 fn a_plan_may_reclaim_and_reserve(rt: HostRuntime) -> Result<(), Fail> {
     let alloc = rt.alloc();
-    let plan = Look::Plan {
-        reclaim: true,
-        words: false,
-    };
-    let ask = look_at(Some("7,280".to_string(alloc)?), plan);
+    let input = prodos(alloc, Some("7,280".to_string(alloc)?))?;
     let line = "plan a.po --fs prodos --order prodos --reclaim --reserve 7,280";
-    asks(&rt, alloc, line, "a.po", ask)?;
+    asks(&rt, alloc, line, input, plan(true, false), Target::Nothing)?;
     Ok(())
 }
 
 #[test]
 fn a_plan_may_be_told_in_words(rt: HostRuntime) -> Result<(), Fail> {
-    let plan = Look::Plan {
-        reclaim: false,
-        words: true,
-    };
+    let alloc = rt.alloc();
+    let input = prodos(alloc, None)?;
     let line = "plan a.po --words --fs prodos --order prodos";
-    asks(&rt, rt.alloc(), line, "a.po", look_at(None, plan))?;
+    asks(&rt, alloc, line, input, plan(false, true), Target::Nothing)?;
     Ok(())
 }
 
@@ -63,14 +55,11 @@ fn optimizes(
     more: &str,
     stop_after: Option<u64>,
 ) -> Result<(), WordsFault> {
-    let optimize = Change::Optimize {
-        reclaim: true,
-        stop_after,
-        cert: None,
-    };
-    let ask = change(optimize, Target::File("b.po".to_string(alloc)?));
+    let input = prodos(alloc, None)?;
+    let ask = optimization(true, stop_after);
+    let output = Target::File("b.po".to_string(alloc)?);
     let line = format!(in alloc; "optimize a.po --fs prodos --order prodos --reclaim {more}")?;
-    asks(rt, alloc, line.as_str(), "a.po", ask)
+    asks(rt, alloc, line.as_str(), input, ask, output)
 }
 
 #[test]
@@ -91,43 +80,34 @@ fn an_optimization_may_have_a_limit_of_writes(rt: HostRuntime) -> Result<(), Fai
 #[test]
 fn an_optimization_may_write_its_certificate(rt: HostRuntime) -> Result<(), Fail> {
     let alloc = rt.alloc();
-    let optimize = Change::Optimize {
-        reclaim: false,
-        stop_after: None,
-        cert: Some("a.cert".to_string(alloc)?),
+    let job = Job {
+        input: prodos(alloc, None)?,
+        ask: optimization(false, None),
+        output: Target::File("b.po".to_string(alloc)?),
+        certificate: Some("a.cert".to_string(alloc)?),
     };
-    let ask = change(optimize, Target::File("b.po".to_string(alloc)?));
     let line = "optimize a.po --fs prodos --order prodos --cert a.cert --out b.po";
-    asks(&rt, alloc, line, "a.po", ask)?;
+    is_job(&rt, alloc, line, job)?;
     Ok(())
 }
 
 #[test]
 fn an_optimization_may_be_done_in_place(rt: HostRuntime) -> Result<(), Fail> {
-    let optimize = Change::Optimize {
-        reclaim: false,
-        stop_after: None,
-        cert: None,
-    };
+    let alloc = rt.alloc();
+    let input = prodos(alloc, None)?;
+    let ask = optimization(false, None);
     let line = "optimize a.po --in-place --fs prodos --order prodos";
-    asks(
-        &rt,
-        rt.alloc(),
-        line,
-        "a.po",
-        change(optimize, Target::InPlace),
-    )?;
+    asks(&rt, alloc, line, input, ask, Target::InPlace)?;
     Ok(())
 }
 
 #[test]
 fn a_verification_reads_a_certificate(rt: HostRuntime) -> Result<(), Fail> {
     let alloc = rt.alloc();
-    let verify = Look::Verify {
-        from: "a.cert".to_string(alloc)?,
-        reclaim: true,
-    };
+    let mut input = prodos(alloc, None)?;
+    input.beside = Beside::File("a.cert".to_string(alloc)?);
+    let verify = Ask::Volume(VolumeAsk::Look(Look::Verify { reclaim: true }));
     let line = "verify a.po --fs prodos --order prodos --reclaim --from a.cert";
-    asks(&rt, alloc, line, "a.po", look_at(None, verify))?;
+    asks(&rt, alloc, line, input, verify, Target::Nothing)?;
     Ok(())
 }

@@ -1,31 +1,27 @@
 // The words of reads.
-use super::{asks, refuses};
+use super::{asks, image_at, refuses, volume};
 use a2_device::Order;
 use file_forms::FileForm;
 use shop_help::WordsFault;
-use shop_jobs::{Ask, FileName, FileSystem, Look, ReadForm, VolumeOptions};
+use shop_jobs::{Ask, FileName, FileSystem, ImageReading, Look, ReadForm, Target, VolumeAsk};
 use std::alloc::{AllocError, Global};
 use std::process::Abort;
 use std::test::Fail;
 
-/// The words of a line ask to look at the DOS volume of a.dsk, in nibble order.
+/// The words of a line ask to look at the DOS volume of a.dsk, in nibble order, and what is read goes there.
 fn looks(
     rt: &impl Abort,
     alloc: Global,
     line: &str,
     data_disk: bool,
     look: Look,
+    output: Target,
 ) -> Result<(), WordsFault> {
-    let read = Ask::Look {
-        volume: VolumeOptions {
-            file_system: FileSystem::Dos,
-            order: Order::Nibble,
-            data_disk,
-        },
-        reserve: None,
-        look,
-    };
-    asks(rt, alloc, line, "a.dsk", read)
+    let mut dos = volume(FileSystem::Dos, Order::Nibble);
+    dos.data_disk = data_disk;
+    let input = image_at(alloc, "a.dsk", ImageReading::Volume(dos))?;
+    let read = Ask::Volume(VolumeAsk::Look(look));
+    asks(rt, alloc, line, input, read, output)
 }
 
 /// The words of a line are those of a read of a file; its two flags are both given or none is.
@@ -44,9 +40,9 @@ fn reads(
     let look = Look::Read {
         name,
         form,
-        out: None,
+        to_file: false,
     };
-    looks(rt, alloc, line, flags, look)
+    looks(rt, alloc, line, flags, look, Target::Nothing)
 }
 
 /// The path HELLO.
@@ -94,9 +90,10 @@ fn a_read_may_name_a_form(rt: HostRuntime) -> Result<(), Fail> {
         let look = Look::Read {
             name: hello(rt.alloc())?,
             form,
-            out: None,
+            to_file: false,
         };
-        looks(&rt, rt.alloc(), line.as_str(), false, look)?;
+        let told = Target::Nothing;
+        looks(&rt, rt.alloc(), line.as_str(), false, look, told)?;
     }
     Ok(())
 }
@@ -106,10 +103,11 @@ fn a_read_may_name_a_new_file(rt: HostRuntime) -> Result<(), Fail> {
     let look = Look::Read {
         name: hello(rt.alloc())?,
         form: ReadForm::Body,
-        out: Some("b.bin".to_string(rt.alloc())?),
+        to_file: true,
     };
+    let file = Target::NewFile("b.bin".to_string(rt.alloc())?);
     let line = "read a.dsk HELLO --out b.bin --fs dos --order nibble";
-    looks(&rt, rt.alloc(), line, false, look)?;
+    looks(&rt, rt.alloc(), line, false, look, file)?;
     Ok(())
 }
 

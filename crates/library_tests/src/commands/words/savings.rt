@@ -1,10 +1,11 @@
 // The words of savings.
-use super::{asks, refuses};
+use super::{asks, image_at, refuses, volume};
 use a2_device::Order;
 use apple_text::HighBit;
-use file_forms::GivenForm;
 use shop_help::WordsFault;
-use shop_jobs::{Ask, Change, FileSystem, SaveAttributes, Target, VolumeOptions};
+use shop_jobs::{
+    Ask, Beside, Change, FileSystem, ImageReading, SaveAttributes, SaveForm, Target, VolumeAsk,
+};
 use std::alloc::Global;
 use std::process::Abort;
 use std::test::Fail;
@@ -17,7 +18,7 @@ fn saves_over(
     words: &str,
     file_system: FileSystem,
     aux: Option<u16>,
-    form: Option<GivenForm>,
+    form: Option<SaveForm>,
     replace: bool,
 ) -> Result<(), WordsFault> {
     let line = format!(in alloc; "save a.dsk NOTE --order dos --from b --out c.dsk {words}")?;
@@ -29,20 +30,14 @@ fn saves_over(
             date: None,
         },
         form,
-        from: "b".to_string(alloc)?,
         replace,
     };
-    let save = Ask::Change {
-        volume: VolumeOptions {
-            file_system,
-            order: Order::Dos,
-            data_disk: false,
-        },
-        reserve: None,
-        change,
-        target: Target::File("c.dsk".to_string(alloc)?),
-    };
-    asks(rt, alloc, line.as_str(), "a.dsk", save)
+    let reading = ImageReading::Volume(volume(file_system, Order::Dos));
+    let mut input = image_at(alloc, "a.dsk", reading)?;
+    input.beside = Beside::File("b".to_string(alloc)?);
+    let save = Ask::Volume(VolumeAsk::Change(change));
+    let output = Target::File("c.dsk".to_string(alloc)?);
+    asks(rt, alloc, line.as_str(), input, save, output)
 }
 
 /// The same of a new file.
@@ -52,7 +47,7 @@ fn saves(
     words: &str,
     file_system: FileSystem,
     aux: Option<u16>,
-    form: Option<GivenForm>,
+    form: Option<SaveForm>,
 ) -> Result<(), WordsFault> {
     saves_over(rt, alloc, words, file_system, aux, form, false)
 }
@@ -72,24 +67,25 @@ fn a_saving_replaces_a_file_by_a_word(rt: HostRuntime) -> Result<(), Fail> {
     Ok(())
 }
 
+/// A text with this highest bit.
+fn text(high: Option<HighBit>) -> Option<SaveForm> {
+    Some(SaveForm::Text { high })
+}
+
 #[test]
 fn a_saving_names_a_form(rt: HostRuntime) -> Result<(), Fail> {
     let dos = FileSystem::Dos;
-    let high = GivenForm::Text(HighBit::On);
-    let low = GivenForm::Text(HighBit::Off);
+    let high = text(Some(HighBit::On));
+    let low = text(Some(HighBit::Off));
     for (words, file_system, form) in [
         ("--fs dos", dos, None),
-        ("--fs dos --as text", dos, Some(high)),
-        ("--fs dos --as text --high on", dos, Some(high)),
-        ("--high off --fs dos --as text", dos, Some(low)),
-        ("--fs prodos --as text", FileSystem::Prodos, Some(low)),
-        (
-            "--fs prodos --as text --high on",
-            FileSystem::Prodos,
-            Some(high),
-        ),
-        ("--fs dos --as applesoft", dos, Some(GivenForm::Applesoft)),
-        ("--fs dos --as single", dos, Some(GivenForm::Single)),
+        ("--fs dos --as text", dos, text(None)),
+        ("--fs dos --as text --high on", dos, high),
+        ("--high off --fs dos --as text", dos, low),
+        ("--fs prodos --as text", FileSystem::Prodos, text(None)),
+        ("--fs prodos --as text --high on", FileSystem::Prodos, high),
+        ("--fs dos --as applesoft", dos, Some(SaveForm::Applesoft)),
+        ("--fs dos --as single", dos, Some(SaveForm::Single)),
     ] {
         saves(&rt, rt.alloc(), words, file_system, None, form)?;
     }
@@ -112,7 +108,7 @@ fn an_aux_type_is_a_number_of_either_kind(rt: HostRuntime) -> Result<(), Fail> {
         let aux = Some(aux);
         saves(&rt, rt.alloc(), words.as_str(), FileSystem::Dos, aux, None)?;
     }
-    let program = Some(GivenForm::Applesoft);
+    let program = Some(SaveForm::Applesoft);
     let words = "--fs dos --aux 0x801 --as applesoft";
     saves(&rt, rt.alloc(), words, FileSystem::Dos, Some(2049), program)?;
     Ok(())

@@ -4,7 +4,7 @@ use Rattle.dos_format.specs.Dos.{DosRules}
 use Rattle.shop_changes.specs.EditRules.{changed_in}
 use Rattle.shop_changes.specs.SaidFile.{said_view}
 use Rattle.shop_changes.specs.ReplaceReply.{IsReplaced}
-use Rattle.shop_jobs.specs.declared.job.FileSystem.TheVariants.{Dos}
+use Rattle.shop_jobs.specs.declared.input.FileSystem.TheVariants.{Dos}
 use Rattle.shop_changes.proofs.replacing_in_image.replace_dos.Goals as goal
 
 pub returns : goal.returns

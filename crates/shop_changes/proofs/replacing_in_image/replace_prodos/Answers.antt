@@ -4,7 +4,7 @@ use Rattle.a2_media.specs.ImageDevice.{image_state}
 use Rattle.shop_changes.specs.EditRules.{changed_in}
 use Rattle.shop_changes.specs.SaidFile.{said_view}
 use Rattle.shop_changes.specs.ReplaceReply.{IsReplaced}
-use Rattle.shop_jobs.specs.declared.job.FileSystem.TheVariants.{Prodos}
+use Rattle.shop_jobs.specs.declared.input.FileSystem.TheVariants.{Prodos}
 use Rattle.shop_changes.proofs.replacing_in_image.replace_prodos.Goals as goal
 
 pub returns : goal.returns

@@ -38,7 +38,7 @@ returns-in-Ok-clause-out g c =
       job_view c.in-Ok.job,
       c.in-Ok.ensures.job,
       made.0,
-      subst (λ (told : Option (List ℕ)). HandsOutFor (job_view c.in-Ok.job).ask c.run_job.result told (g.T.Write.contents c.run_job.new.text)) (ap g.T.Write.contents c.in-Ok.ensures.untold) made.1,
+      subst (λ (told : Option (List ℕ)). HandsOutFor (job_view c.in-Ok.job) c.run_job.result told (g.T.Write.contents c.run_job.new.text)) (ap g.T.Write.contents c.in-Ok.ensures.untold) made.1,
     )) c.run_job.ensures.out
 
 pub returns-in-Ok-clause-extra : goal.returns-in-Ok-clause-extra

@@ -1,36 +1,29 @@
-use Rattle.std.proofs.Common.{Bool, List, ℕ, inr, subst, sym}
-use Rattle.std.specs.Prelude.{Option, option_map}
-use Rattle.shop_jobs.specs.Job.{ask_view, change_view, creation_view}
+use Rattle.std.proofs.Common.{List, ℕ, subst, sym}
+use Rattle.std.specs.Prelude.{Option}
+use Rattle.shop_jobs.specs.Input.{input_view}
+use Rattle.shop_jobs.specs.Job.{Wrap, ask_view, creation_view, wrapping_view}
 use Rattle.shop_jobs.specs.declared.job.Ask.{Ask}
-use Rattle.shop_changes.specs.EditRules.{changed_by}
-use Rattle.shop_changes.specs.Work.{work_view}
-use Rattle.shop_changes.specs.ChangeReply.{IsChangeReply}
-use Rattle.shop_volumes.specs.VolumeReply.{IsVolumeReply}
-use Rattle.shop_commands.specs.Answer.{AsksFor, IsReplyToBytes}
+use Rattle.shop_commands.specs.Answer.{IsToldOfAsk}
 use Rattle.shop_commands.specs.CreateReply.{IsCreateReply}
 use Rattle.shop_commands.proofs.job.reply_to.Goals as goal
 
-pub returns-in-Ok : goal.returns-in-Ok
-returns-in-Ok c =
-    let volume = c.in-Change.volume in
-    let work = work_view c.in-Ok.work in
-    let reply = c.image_change.result in
-    subst (λ (ask : Ask). IsReplyToBytes (ask_view ask) c.args.image.items c.args.extra.items reply) (sym c.in-Change.is)
-    (inr (
-      work,
-      subst (λ (extra : List ℕ). AsksFor volume (change_view c.in-Change.change) extra work) c.as_slice-in-Change.ensures.value c.in-Ok.ensures.work,
-      subst (λ (said : Option (List ℕ)). IsVolumeReply volume said c.args.image.items (λ (reserved : List Bool). IsChangeReply work (changed_by volume reserved)) reply)
-          c.as_deref-in-Ok.ensures.value c.image_change.ensures,
-    ))
-
 pub returns-in-Identify : goal.returns-in-Identify
 returns-in-Identify c =
-    subst (λ (ask : Ask). IsReplyToBytes (ask_view ask) c.args.image.items c.args.extra.items c.identify_reply.result) (sym c.in-Identify.is) c.identify_reply.ensures
+    subst (λ (ask : Ask). IsToldOfAsk (ask_view ask) (input_view c.args.job.now.input) c.args.image.items c.args.extra.items c.identify_reply.result) (sym c.in-Identify.is)
+    c.identify_reply.ensures
+
+pub returns-in-Convert : goal.returns-in-Convert
+returns-in-Convert c =
+    subst (λ (ask : Ask). IsToldOfAsk (ask_view ask) (input_view c.args.job.now.input) c.args.image.items c.args.extra.items c.converted_reply.result) (sym c.in-Convert.is)
+    c.converted_reply.ensures
+
+pub returns-in-Wrap : goal.returns-in-Wrap
+returns-in-Wrap c =
+    subst (λ (ask : Ask). IsToldOfAsk (ask_view ask) (input_view c.args.job.now.input) c.args.image.items c.args.extra.items c.wrapped_reply.result) (sym c.in-Wrap.is)
+    (subst (λ (bytes : List ℕ). IsToldOfAsk (Wrap (wrapping_view c.in-Wrap.options)) (input_view c.args.job.now.input) bytes c.args.extra.items c.wrapped_reply.result) c.as_slice.ensures.value
+    c.wrapped_reply.ensures)
 
 pub returns-in-Create : goal.returns-in-Create
 returns-in-Create c =
-    let reply = c.create_reply.result in
-    let words = creation_view c.in-Create.options in
-    subst (λ (ask : Ask). IsReplyToBytes (ask_view ask) c.args.image.items c.args.extra.items reply) (sym c.in-Create.is)
-    (subst (λ (path : Option (List ℕ)). IsCreateReply words (option_map (λ path. c.args.extra.items) path) reply) c.as_deref.ensures.value
-    (subst (λ (boot : Option (List ℕ)). IsCreateReply words boot reply) c.bytes_named.ensures c.create_reply.ensures))
+    subst (λ (ask : Ask). IsToldOfAsk (ask_view ask) (input_view c.args.job.now.input) c.args.image.items c.args.extra.items c.create_reply.result) (sym c.in-Create.is)
+    (subst (λ (boot : Option (List ℕ)). IsCreateReply (creation_view c.in-Create.options) boot c.create_reply.result) c.boot_of.ensures c.create_reply.ensures)

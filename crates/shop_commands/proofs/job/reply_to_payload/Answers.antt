@@ -1,31 +1,50 @@
-use Rattle.std.proofs.Common.{◌≡◌, Global, List, ℕ, String, refl}
-use Rattle.std.specs.Prelude.{Option}
-use Rattle.shop_jobs.specs.Job.{ask_view}
-use Rattle.shop_jobs.specs.declared.job.Ask.{Ask}
-use Rattle.shop_jobs.specs.declared.job.Ask.TheVariants as asks
-use Rattle.shop_jobs.specs.declared.job.Change.{Change}
-use Rattle.shop_jobs.specs.declared.job.Target.{Target}
-use Rattle.shop_jobs.specs.declared.job.VolumeOptions.{VolumeOptions}
+use Rattle.std.proofs.Common.{refl}
+use Rattle.shop_jobs.specs.Job.{AddTo, AskView, ChangeOf, Convert, Create, ExtractFrom, Identify, LookAt, OfTheVolume, Survey, Unwrap, Wrap, ask_view}
+use Rattle.shop_replies.specs.ContainerReply.{IsInShell}
 use Rattle.shop_replies.specs.declared.reply.Reply.{Reply}
-use Rattle.shop_commands.specs.Answer.{IsReplyToBytes, IsReplyToPayload, Parts, parts_of}
+use Rattle.shop_commands.specs.Answer.{ChangesVolume, IsHandedOut, Parts, parts_of}
 use Rattle.shop_commands.proofs.job.reply_to_payload.Goals as goal
 
 -- what is told of a job that is no change is handed out as it is
-handed : (ask : Ask) (parts : Parts) (extra : List ℕ) (reply : Reply)
-    → ((volume : VolumeOptions) (reserve : Option (String Global)) (change : Change) (target : Target) → ask ≡ asks.Change volume reserve change target → ⊥)
-    → IsReplyToBytes (ask_view ask) parts.payload extra reply → IsReplyToPayload (ask_view ask) parts extra reply
-handed asks.Identify parts extra reply other is = (reply, is, refl)
-handed (asks.Survey form) parts extra reply other is = (reply, is, refl)
-handed (asks.Convert order to out volume) parts extra reply other is = (reply, is, refl)
-handed (asks.Wrap options out) parts extra reply other is = (reply, is, refl)
-handed (asks.Unwrap out) parts extra reply other is = (reply, is, refl)
-handed (asks.Create options boot out) parts extra reply other is = (reply, is, refl)
-handed (asks.Look volume reserve look) parts extra reply other is = (reply, is, refl)
-handed (asks.Extract volume options into) parts extra reply other is = (reply, is, refl)
-handed (asks.Add volume reserve options out) parts extra reply other is = (reply, is, refl)
-handed (asks.Change volume reserve change target) parts extra reply other is = absurd (other volume reserve change target refl)
+handed : (ask : AskView) (parts : Parts) (told : Reply) → ¬ ChangesVolume ask → IsHandedOut ask parts told told
+handed Identify parts told other = refl
+handed (Survey form) parts told other = refl
+handed (Convert to volume) parts told other = refl
+handed (Wrap words) parts told other = refl
+handed Unwrap parts told other = refl
+handed (Create words) parts told other = refl
+handed (OfTheVolume (LookAt look)) parts told other = refl
+handed (OfTheVolume (ExtractFrom options)) parts told other = refl
+handed (OfTheVolume (AddTo words)) parts told other = refl
+handed (OfTheVolume (ChangeOf change)) parts told other = absurd (other tt)
 
-pub returns-in_default : goal.returns-in_default
-returns-in_default c = handed c.args.job.now.ask
-    (parts_of c.args.shell.now.front.items c.args.payload.items c.args.shell.now.back.items) c.args.extra.items
-    c.reply_to-reply.result c.in_default.not-Change c.reply_to-reply.ensures
+-- and what a change makes stands in the shell
+shelled : (ask : AskView) (parts : Parts) (told reply : Reply) → ChangesVolume ask → IsInShell parts.front parts.back told reply → IsHandedOut ask parts told reply
+shelled Identify parts told reply changes is = absurd changes
+shelled (Survey form) parts told reply changes is = absurd changes
+shelled (Convert to volume) parts told reply changes is = absurd changes
+shelled (Wrap words) parts told reply changes is = absurd changes
+shelled Unwrap parts told reply changes is = absurd changes
+shelled (Create words) parts told reply changes is = absurd changes
+shelled (OfTheVolume (LookAt look)) parts told reply changes is = absurd changes
+shelled (OfTheVolume (ExtractFrom options)) parts told reply changes is = absurd changes
+shelled (OfTheVolume (AddTo words)) parts told reply changes is = absurd changes
+shelled (OfTheVolume (ChangeOf change)) parts told reply changes is = is
+
+pub returns-then-changes_volume : goal.returns-then-changes_volume
+returns-then-changes_volume c =
+    let parts = parts_of c.args.shell.now.front.items c.args.payload.items c.args.shell.now.back.items in (
+      c.reply_to-reply.result,
+      c.reply_to-reply.ensures,
+      shelled (ask_view c.args.job.now.ask) parts c.reply_to-reply.result c.in_shell.result
+          (c.changes_volume.ensures.0 c.if-changes_volume.true) c.in_shell.ensures,
+    )
+
+pub returns-else-changes_volume : goal.returns-else-changes_volume
+returns-else-changes_volume c =
+    let parts = parts_of c.args.shell.now.front.items c.args.payload.items c.args.shell.now.back.items in (
+      c.reply_to-reply.result,
+      c.reply_to-reply.ensures,
+      handed (ask_view c.args.job.now.ask) parts c.reply_to-reply.result
+          (λ changes. absurd (let never = c.changes_volume.ensures.1 changes in cc)),
+    )

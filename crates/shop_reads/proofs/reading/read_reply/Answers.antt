@@ -1,5 +1,5 @@
 use Rattle.std.proofs.Common.{◌∙◌, ap, subst, sym}
-use Rattle.std.specs.Prelude.{Err, option_map}
+use Rattle.std.specs.Prelude.{Err}
 use Rattle.file_formats.specs.FileNames.{name_view}
 use Rattle.shop_replies.specs.declared.reply.Reply.{Reply}
 use Rattle.shop_reads.specs.ReadReply.{IsRead}
@@ -11,8 +11,7 @@ returns-in-Err-clause-told g c = λ honest lack.
     let place = g.F.ShownFormat.form c.args.format.now in
     let files = g.F.FileFormat.files c.args.format.now in
     let format = g.F.Format.meaning c.args.format.now in
-    let out = option_map (λ s. s.now) c.args.out in
-    subst (λ (reply : Reply). IsRead (name_view c.args.name) c.args.form out place files format (g.D.Device.state c.args.device.now) reply)
+    subst (λ (reply : Reply). IsRead (name_view c.args.name) c.args.form c.args.to_file place files format (g.D.Device.state c.args.device.now) reply)
     (sym c.refusal_reply.ensures)
-    (not_read files format (g.D.Device.state c.args.device.now) (name_view c.args.name) c.args.form out place c.in-Err.error (λ is. c.in-Err.ensures.check honest (ap Err is))
+    (not_read files format (g.D.Device.state c.args.device.now) (name_view c.args.name) c.args.form c.args.to_file place c.in-Err.error (λ is. c.in-Err.ensures.check honest (ap Err is))
     (λ is. c.in-Err.ensures.not_found honest (ap Err is)) (λ is. lack (c.refusal_reply.ensures ∙ is)))

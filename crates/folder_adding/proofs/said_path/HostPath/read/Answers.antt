@@ -2,7 +2,7 @@ use Rattle.std.proofs.Common.{ℕ, List, sym, subst}
 use Rattle.std.specs.Prelude.{IfOk, MatchOption}
 use Rattle.folder_adding.specs.HostPaths.{SaidPath, SaysPath}
 use Rattle.folder_adding.specs.Weighing.{said_view}
-use Rattle.shop_jobs.specs.declared.job.FileSystem.{FileSystem}
+use Rattle.shop_jobs.specs.declared.input.FileSystem.{FileSystem}
 use Rattle.folder_adding.proofs.said_path.HostPath.read.Goals as goal
 
 pub returns-in-Dos : goal.returns-in-Dos
