@@ -14,6 +14,10 @@ pub struct FileFailure;
 pub trait PositionedFile {
     ghost state: { Self → FileState };
 
+    /// How many bytes it has, which no call changes.
+    fn size(&self) -> u64
+        ensures { result ≡ (state self.now).size };
+
     /// Copies the bytes from a position on into `bytes`.
     ///
     /// # Errors

@@ -31,6 +31,13 @@ impl<A: Allocator> MemoryFile<A> {
     }
 
     /// The bytes as they are now.
+    pub fn as_bytes(&self) -> &[u8]
+        ensures { result.now ≡ (⟦<MemoryFile<A> as PositionedFile>⟧.state self.now).bytes }
+    {
+        self.bytes.as_slice()
+    }
+
+    /// The bytes as they are now.
     pub fn into_bytes(self) -> Vec<u8, A>
         ensures { result.items ≡ (⟦<MemoryFile<A> as PositionedFile>⟧.state self).bytes }
     {
@@ -44,6 +51,10 @@ impl<A: Allocator> PositionedFile for MemoryFile<A> {
         { size = length f.bytes.items; honest = true; bytes = f.bytes.items; standing = f.standing } };
 
     ghost whole = { λ f _. Prim.search rules };
+
+    fn size(&self) -> u64 {
+        self.bytes.len() as u64
+    }
 
     fn read_whole(&mut self, position: u64, bytes: &mut [u8]) -> Result<(), FileFailure> {
         let from = position as usize;

@@ -1,20 +1,16 @@
-// Opening a file of the system in place of an image.
+// Opening a file in place of an image.
 ghost use Rattle.std.specs.Prelude.{◌≡◌, ◌≢◌, ◌↔◌, ◌*◌, ◌+◌, ◌≤◌, IfErr, IfOk, IsErrOf, IsTrue};
 ghost use Rattle.a2_media.specs.ImageDevice.{unit_bytes};
 ghost use Rattle.a2_device.specs.Order.{IsImageLength};
-ghost use Rattle.a2_media.specs.declared.opening.FileError.TheVariants.{Io};
-ghost use Rattle.a2_media.specs.System.{IsDeviceOf, IsInPlace};
+ghost use Rattle.a2_media.specs.System.{IsDeviceOf, IsInPlace, IsInside, part_state};
 ghost use Rattle.a2_media.specs.Window.{image_extent};
 
 use crate::UnitKind;
 use crate::file::PositionedFile;
 use crate::file_units::FileDevice;
-use crate::system::SystemFile;
 use crate::window::{Extent, Window};
 use a2_device::{BLOCK_BYTES, Device, IMAGE_BYTES, Order};
 use a2_image::SECTOR_BYTES;
-use std::fs::File;
-use std::io;
 use thiserror::Error;
 
 /// The fewest and the most blocks of an image in ProDOS order.
@@ -28,20 +24,13 @@ pub enum FileError {
     /// The units of an image in this order don't stand in its file as they are.
     #[error("the units of the image do not stand in its file as they are")]
     InPlace,
-    /// It is no regular file, or a call of the system failed.
+    /// The part in which the image stands is not inside the file; of a file of the system also that it is no regular
+    /// one, or a call of the system failed.
     #[error("the file can't be opened")]
     Io,
     /// No image in this order has so many bytes.
     #[error("no image has this length")]
     Length,
-}
-
-impl From<io::Error> for FileError {
-    ghost from_gives = { λ _ error. error ≡ Io };
-
-    fn from(_: io::Error) -> FileError {
-        FileError::Io
-    }
 }
 
 /// Whether the units of an image in this order stand in its file as they are.
@@ -77,7 +66,7 @@ fn places_in(order: Order, kind: UnitKind, bytes: u64) -> Result<u32, FileError>
 fn extent_in(said: Option<Extent>, bytes: u64) -> Result<Extent, FileError>
     ensures inside { IfOk result (λ extent. extent.start + extent.size ≤ bytes) }
     ensures taken { IfOk result (λ extent. extent ≡ image_extent said bytes) }
-    ensures refused { IfErr result (λ error. error ≡ FileError.Io) }
+    ensures refused { IfErr result (λ error. (error ≡ FileError.Io) × ¬ IsInside said bytes) }
 {
     match said {
         None => Ok(Extent {
@@ -89,54 +78,34 @@ fn extent_in(said: Option<Extent>, bytes: u64) -> Result<Extent, FileError>
     }
 }
 
-// The device of an open file, or of a part of it.
-fn device_of(
-    file: File,
-    part: Option<Extent>,
-    order: Order,
-    kind: UnitKind,
-) -> Result<FileDevice<Window<SystemFile>>, FileError>
-    requires in_place { IsInPlace order kind }
-    ensures opened { IfOk result (λ device.
-        IsDeviceOf order kind (⟦<FileDevice<Window<SystemFile>> as Device>⟧.state device)) }
-    ensures window { IfOk result (λ device.
-        device.file.extent ≡ image_extent part (⟦<SystemFile as PositionedFile>⟧.state device.file.file).size) }
-    ensures refused { IfErr result (λ error. error ≢ FileError.InPlace) }
-{
-    let found = file.metadata()?;
-    if !found.is_file() {
-        return Err(FileError::Io);
-    }
-    let bytes = found.len();
-    let extent = extent_in(part, bytes)?;
-    let places = places_in(order, kind, extent.size)?;
-    let window = Window::new(SystemFile::new(file, bytes), extent);
-    Ok(FileDevice::new(window, kind, places))
-}
-
-impl FileDevice<Window<SystemFile>> {
-    /// The units of an image's open file, or of the part of a file in which an image stands: the sectors of an image in
-    /// DOS order, or the blocks of one in ProDOS order. The device has a second handle of the file, which shares its
-    /// lock. Takes no memory.
+impl<F: PositionedFile + Drop> FileDevice<Window<F>> {
+    /// The units of an image's file, or of the part of a file in which an image stands: the sectors of an image in DOS
+    /// order, or the blocks of one in ProDOS order. Nothing was written into the file yet. Takes no memory.
     ///
     /// # Errors
-    /// Of several the first in this order: `InPlace` for other units; `Io` where it is no regular file, a call of the
-    /// system fails, or the part is not inside the file; `Length` where no image in this order has its length.
+    /// Of several the first in this order: `InPlace` for other units; `Io` where the part is not inside the file;
+    /// `Length` where no image in this order has its length.
     pub fn of_image(
-        file: &File,
+        file: F,
         part: Option<Extent>,
         order: Order,
         kind: UnitKind,
-    ) -> Result<FileDevice<Window<SystemFile>>, FileError>
-        ensures opened { IfOk result (λ device.
-            IsDeviceOf order kind (⟦<FileDevice<Window<SystemFile>> as Device>⟧.state device)) }
-        ensures window { IfOk result (λ device.
-            device.file.extent ≡ image_extent part (⟦<SystemFile as PositionedFile>⟧.state device.file.file).size) }
+    ) -> Result<FileDevice<Window<F>>, FileError>
+        requires none { (F.state file).standing ≡ 0 }
+        ensures opened { IfOk result (λ device. IsDeviceOf order kind (part_state part (F.state file))
+            (⟦<FileDevice<Window<F>> as Device>⟧.state device)) }
+        ensures window { IfOk result (λ device. (device.file.extent ≡ image_extent part (F.state file).size)
+            × (device.file.file ≡ file)) }
         ensures in_place { IsErrOf result FileError.InPlace ↔ (¬ IsInPlace order kind) }
+        ensures outside { IsErrOf result FileError.Io → ¬ IsInside part (F.state file).size }
+        ensures length { IsErrOf result FileError.Length
+            → ¬ IsImageLength order (image_extent part (F.state file).size).size }
     {
         if !is_in_place(order, kind) {
             return Err(FileError::InPlace);
         }
-        device_of(file.try_clone()?, part, order, kind)
+        let extent = extent_in(part, file.size())?;
+        let places = places_in(order, kind, extent.size)?;
+        Ok(FileDevice::new(Window::new(file, extent), kind, places))
     }
 }

@@ -1,10 +1,11 @@
 // A file of the system.
 ghost use Rattle.a2_media.specs.System.{system_file};
-ghost use Rattle.std.specs.Prelude.{◌≡◌};
+ghost use Rattle.std.specs.Prelude.{◌≡◌, IfOk};
 ghost use Rattle.std.proofs.Common.{rules};
 
 use crate::file::{FileFailure, PositionedFile};
 use std::fs::File;
+use std::io::{self, ErrorKind};
 use std::os::unix::fs::FileExt;
 
 /// An open file of the system. No contract can say what it gives, so its state says nothing of its bytes: what is
@@ -16,11 +17,21 @@ pub struct SystemFile {
 }
 
 impl SystemFile {
-    /// A file that has so many bytes.
-    pub(crate) fn new(file: File, size: u64) -> SystemFile
-        ensures { ⟦<SystemFile as PositionedFile>⟧.state result ≡ system_file size }
+    /// A second handle of an open file, which shares its lock, and the bytes that the file has now.
+    ///
+    /// # Errors
+    /// `InvalidInput` where it is no regular file, or what the system answers.
+    pub fn of(file: &File) -> io::Result<SystemFile>
+        ensures { IfOk result (λ f. ⟦<SystemFile as PositionedFile>⟧.state f ≡ system_file f.size) }
     {
-        SystemFile { file, size }
+        let found = file.metadata()?;
+        if !found.is_file() {
+            return Err(io::Error::from(ErrorKind::InvalidInput));
+        }
+        Ok(SystemFile {
+            file: file.try_clone()?,
+            size: found.len(),
+        })
     }
 
     /// Puts what was written onto the disk.
@@ -36,6 +47,10 @@ impl PositionedFile for SystemFile {
     ghost state = { λ f. system_file f.size };
 
     ghost whole = { λ f h. Prim.search rules };
+
+    fn size(&self) -> u64 {
+        self.size
+    }
 
     fn read_whole(&mut self, position: u64, bytes: &mut [u8]) -> Result<(), FileFailure> {
         match self.file.read_exact_at(bytes, position) {

@@ -58,6 +58,10 @@ impl<F: PositionedFile> PositionedFile for Window<F> {
 
     ghost whole = { λ w h. whole_window w.extent.start w.extent.size (F.state w.file) (F.whole w.file h) w.inside };
 
+    fn size(&self) -> u64 {
+        self.extent.size
+    }
+
     fn read_whole(&mut self, position: u64, bytes: &mut [u8]) -> Result<(), FileFailure>
         requires inside { position + length bytes.old ≤ self.old.extent.size }
 

@@ -1,10 +1,9 @@
 -- What stands in a part of a file, and around it.
-use Rattle.std.proofs.Common.{◌≡◌, ◌∙◌, ℕ, ◌+◌, ◌-◌, ◌≤◌, List, [], length, arith, rules, sym, ap, refl, subst, length-take, length-drop, take, take_all, drop, ⊎_elim}
+use Rattle.std.proofs.Common.{◌≡◌, ◌∙◌, ℕ, ◌+◌, ◌-◌, ◌≤◌, List, length, arith, rules, sym, ap, refl, subst, length-take, length-drop, take, drop, ⊎_elim}
 use Rattle.std.specs.Prelude.{◌⊎◌, Err, Ok, OnErr, OnOk, Result, slice_range}
-use Rattle.std.proofs.lemmas.List.{drop_all, same_lists, places}
+use Rattle.std.proofs.lemmas.List.{same_lists, places}
 use Rattle.a2_image.specs.Lending.{written}
 use Rattle.a2_media.specs.File.{FileState, after_write}
-use Rattle.a2_media.specs.System.{system_file}
 use Rattle.a2_media.specs.declared.file.FileFailure.{FileFailure}
 use Rattle.a2_media.specs.Window.{IsSameAround, window_state}
 
@@ -66,9 +65,3 @@ around_either (Ok done) start size position content file new whole inside room w
     written_around start size position content file new whole inside room written
 around_either (Err failure) start size position content file new whole inside room written failed =
     ⊎_elim (nothing_around start size file new) (written_around start size position content file new whole inside room) failed
-
--- a part of a file of the system: nothing is known of its bytes
-pub system_window : (start size bytes : ℕ) → window_state start size (system_file bytes) ≡ system_file size
-system_window start size bytes =
-    ap (λ (known : List ℕ). record (system_file size) { bytes = known })
-    (ap (λ (known : List ℕ). take (start + size - start) known) (drop_all start [] (omega arith)) ∙ take_all (start + size - start) [] (omega arith))
