@@ -74,7 +74,7 @@ fn with_entry<A: Allocator>(mut block: Vec<u8, A>, slot: u32, file: &NewFile) ->
 ///
 /// # Errors
 /// `Device` where a read fails; `Memory`.
-pub(crate) fn entry_writes<D: Device, A: Allocator + Copy>(
+pub(crate) fn directory_entry_writes<D: Device, A: Allocator + Copy>(
     alloc: A,
     device: &mut D,
     placed: &PlacedDirectory<'_>,

@@ -25,7 +25,7 @@ fn slot_or_refusal(target: Target) -> Result<Slot, EditError>
 }
 
 /// The first free slot of the directory to which a path leads.
-pub(crate) fn free_slot<D: Device, F: SavableFormat, A: Allocator + Copy>(
+pub(crate) fn free_directory_slot<D: Device, F: SavableFormat, A: Allocator + Copy>(
     alloc: A,
     device: &mut D,
     format: &F,

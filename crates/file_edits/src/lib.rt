@@ -20,7 +20,7 @@
 //! A directory is made on a ProDOS volume (`making`). It has one block, at the first free place, with its header and no
 //! entry (`specs/NewDirectory.antt`). Its entry gets the first free slot of the directory to which its path leads,
 //! which counts one file more. The block is written first, then the unit of the map in which its place is marked used,
-//! then the entry: all are made ready (`making_ready`) before the first is written. What these writes leave is told by
+//! then the entry: all are made ready (`preparing`) before the first is written. What these writes leave is told by
 //! `specs/Made.antt`. The block is one of the system's from then on, so the available places are one fewer, and the
 //! tree of the volume's directories has a leaf more (`specs/Leaf.antt`, `specs/WithDirectory.antt`); the list of the
 //! files is that of before. Laws say so of the entry alone (`directory_laws`). Whoever makes directories on a volume of
@@ -47,7 +47,6 @@ mod free_block;
 mod given;
 mod locking;
 mod making;
-mod making_ready;
 mod naming;
 mod new_block;
 mod places;

@@ -21,7 +21,7 @@ ghost use Rattle.file_edits.specs.Made.{
   HasNoPlace,
 };
 
-use crate::making_ready::prepare;
+use crate::preparing::prepare_directory;
 use crate::{Acceptance, accepted_volume};
 use a2_device::Device;
 use edit_formats::{EditError, Prepared, write_all};
@@ -55,7 +55,7 @@ fn checked_writes<D: Device, B: Allocator + Copy, A: Allocator + Copy>(
 {
     match accepted_volume(alloc, device, format, acceptance) {
         Err(error) => Err(error),
-        Ok(volume) => prepare(alloc, device, format, &volume, path, date),
+        Ok(volume) => prepare_directory(alloc, device, format, &volume, path, date),
     }
 }
 

@@ -1,43 +1,43 @@
-// The writes that save a new file, made ready before the first of them.
-ghost use Rattle.std.specs.Prelude.{
-  ◌≡◌,
-  ◌≢◌,
-  ◌<◌,
-  ◌*◌,
-  ◌++◌,
-  ℕ,
-  false,
-  true,
-  length,
-  map,
-  All,
-  Err,
-  IfErr,
-  IfOk,
-  IsTrue,
-};
+// The writes that save a new file or make a directory, made ready before the first of them.
+ghost use Rattle.std.specs.Prelude.{◌≡◌, ◌≢◌, ◌<◌, ◌*◌, ◌++◌, ℕ, [], false, length, map, true};
+ghost use Rattle.std.specs.Prelude.{All, Err, IfErr, IfOk, IsTrue};
 ghost use Rattle.a2_device.specs.Device.{OnlyReads};
 ghost use Rattle.vol_format.specs.Accepted.{IsAccepted};
 ghost use Rattle.vol_format.specs.Fits.{Fits};
-ghost use Rattle.edit_formats.specs.Prepared.{write_of};
+ghost use Rattle.pro_format.specs.Pro.{pro_meaning};
+ghost use Rattle.edit_formats.specs.Prepared.{write_of, AreOfSize, GoBelow};
 ghost use Rattle.edit_formats.specs.Refusal.{told_device, IsPrepareRefusal};
 ghost use Rattle.edit_formats.specs.declared.target.Target.TheVariants.{At};
 ghost use Rattle.edit_formats.specs.Saves.{IsSlotWithin};
+ghost use Rattle.edit_formats.specs.ProNames.{is_pro_name};
+ghost use Rattle.edit_formats.specs.ProSaves.{last_name, IsProTarget};
 ghost use Rattle.file_edits.specs.Fitting.{AreWritesFor};
 ghost use Rattle.file_edits.specs.Given.{HasUnitsOf};
 ghost use Rattle.file_edits.specs.Placing.{placed_extent, read_volume, HasFirstPlaces, HasPlacedWrites};
 ghost use Rattle.file_edits.specs.Saved.{IsSaveRefusal};
 ghost use Rattle.file_edits.specs.Saving.{saving_of, AreWritesOf, IsToldOf};
 ghost use Rattle.file_edits.specs.Slots.{IsEnterable};
+ghost use Rattle.file_edits.specs.Places.{free_places};
+ghost use Rattle.file_edits.specs.Making.{making, making_writes, placing_writes};
+ghost use Rattle.file_edits.specs.DirectorySlots.{IsPlaceRefusal};
+ghost use Rattle.file_edits.specs.Made.{IsMaking, IsMakingRefusal, IsTold};
+ghost use Rattle.file_edits.specs.Preparing.{read_directory, IsPlacedWithin};
 
+use crate::block_marking::marked_writes;
 use crate::building::part_writes;
+use crate::directory_entering::{PlacedDirectory, directory_entry_writes};
+use crate::directory_slots::free_directory_slot;
+use crate::free_block::first_place;
 use crate::given::NewFile;
+use crate::new_block::directory_block;
 use crate::places::first_places;
-use crate::slots::free_slot;
+use crate::slots::free_file_slot;
 use a2_device::Device;
 use edit_formats::{
-    Attributes, EditError, Extent, NewFileError, NewPart, Prepared, SavableFormat, Slot, mark_all,
+    EditError, Extent, NewFileError, NewPart, Prepared, SavableFormat, Slot, mark_all,
 };
+use pro_dir::ProDate;
+use pro_format::{ProVolume, Prodos};
 use std::alloc::{AllocError, Allocator};
 
 // A new file, and where it goes: its entry into a slot, and each of its parts to a place.
@@ -47,6 +47,26 @@ struct PlacedFile<'a> {
     slot: Slot,
     parts: &'a [NewPart],
     places: &'a [u32],
+}
+
+// Writes behind others.
+fn joined<A: Allocator>(
+    mut first: Vec<Prepared<A>, A>,
+    mut then: Vec<Prepared<A>, A>,
+) -> Result<Vec<Prepared<A>, A>, AllocError>
+    ensures items { IfOk result (λ all. all.items ≡ first.items ++ then.items) }
+    ensures few { IfOk result (λ all. length (map write_of all.items) < 18446744073709551616) }
+{
+    first.append(&mut then)?;
+    Ok(first)
+}
+
+// A date has four bytes, as its type says; what a format promises of an entry asks for it.
+fn measure_date(date: &ProDate)
+    ensures { length date.now.0 ≡ 4 }
+{
+    let bytes: &[u8] = &date.0;
+    prove!(bytes.len() == 4);
 }
 
 // The parts of a file that is not too long.
@@ -66,28 +86,8 @@ fn parts_of<F: SavableFormat, A: Allocator>(
     }
 }
 
-// A date has four bytes, as its type says; what a format promises of an entry asks for it.
-fn measure_date(attributes: &Attributes)
-    ensures { length attributes.now.date.0 ≡ 4 }
-{
-    let bytes: &[u8] = &attributes.date.0;
-    prove!(bytes.len() == 4);
-}
-
-// Writes behind others.
-fn joined<A: Allocator>(
-    mut first: Vec<Prepared<A>, A>,
-    mut then: Vec<Prepared<A>, A>,
-) -> Result<Vec<Prepared<A>, A>, AllocError>
-    ensures items { IfOk result (λ all. all.items ≡ first.items ++ then.items) }
-    ensures few { IfOk result (λ all. length (map write_of all.items) < 18446744073709551616) }
-{
-    first.append(&mut then)?;
-    Ok(first)
-}
-
 // The writes of the parts, and behind them those that mark their places used.
-fn placed_writes<D: Device, F: SavableFormat, A: Allocator + Copy>(
+fn placed_file_writes<D: Device, F: SavableFormat, A: Allocator + Copy>(
     alloc: A,
     device: &mut D,
     format: &F,
@@ -119,7 +119,7 @@ fn placed_writes<D: Device, F: SavableFormat, A: Allocator + Copy>(
 }
 
 // The writes that enter a file.
-fn entry_writes<D: Device, F: SavableFormat, A: Allocator + Copy>(
+fn file_entry_writes<D: Device, F: SavableFormat, A: Allocator + Copy>(
     alloc: A,
     device: &mut D,
     format: &F,
@@ -155,7 +155,7 @@ fn entry_writes<D: Device, F: SavableFormat, A: Allocator + Copy>(
 }
 
 // The writes that save a file whose parts have the first free places of the volume.
-fn writes_at<D: Device, F: SavableFormat, A: Allocator + Copy>(
+fn file_writes_at<D: Device, F: SavableFormat, A: Allocator + Copy>(
     alloc: A,
     device: &mut D,
     format: &F,
@@ -182,13 +182,13 @@ fn writes_at<D: Device, F: SavableFormat, A: Allocator + Copy>(
         → IfOk result (λ writes. AreWritesOf (saving_of (F.meaning format.now) (F.saves format.now)
         (D.state device.old).store placed.now.file) (map write_of writes.items)) }
 {
-    let placing = placed_writes(alloc, device, format, volume, placed)?;
-    let entering = entry_writes(alloc, device, format, placed)?;
+    let placing = placed_file_writes(alloc, device, format, volume, placed)?;
+    let entering = file_entry_writes(alloc, device, format, placed)?;
     Ok(joined(placing, entering)?)
 }
 
-// The writes that save a file to an accepted volume.
-pub(crate) fn prepare<D: Device, F: SavableFormat, A: Allocator + Copy>(
+/// The writes that save a file to an accepted volume.
+pub(crate) fn prepare_file<D: Device, F: SavableFormat, A: Allocator + Copy>(
     alloc: A,
     device: &mut D,
     format: &F,
@@ -216,8 +216,8 @@ pub(crate) fn prepare<D: Device, F: SavableFormat, A: Allocator + Copy>(
         → (F.meaning format.now).Describes (D.state device.old).store (F.directory format.now volume.now)
         → result ≢ Err EditError.Check }
 {
-    measure_date(file.attributes);
-    let slot = free_slot(alloc, device, format, file)?;
+    measure_date(&file.attributes.date);
+    let slot = free_file_slot(alloc, device, format, file)?;
     let parts = parts_of(alloc, format, file.stored)?;
     let places = first_places(alloc, format, volume, parts.len())?;
     let placed = PlacedFile {
@@ -226,5 +226,136 @@ pub(crate) fn prepare<D: Device, F: SavableFormat, A: Allocator + Copy>(
         parts: parts.as_slice(),
         places: places.as_slice(),
     };
-    writes_at(alloc, device, format, volume, &placed)
+    file_writes_at(alloc, device, format, volume, &placed)
+}
+
+// The writes of the new block and of the mark of its place.
+fn block_writes<D: Device, B: Allocator + Copy, A: Allocator + Copy>(
+    alloc: A,
+    device: &mut D,
+    format: &Prodos<B>,
+    volume: &ProVolume<B>,
+    placed: &PlacedDirectory<'_>,
+) -> Result<Vec<Prepared<A>, A>, EditError>
+    requires fits { Fits (pro_meaning format.now) (D.state device.old) }
+    requires volume { (read_directory volume.now).places ≡ (D.state device.old).places }
+    requires placed { IsPlacedWithin (D.state device.old).places placed.now }
+
+    ensures device { OnlyReads (told_device result) (D.state device.old) (D.state device.new) }
+    ensures refused { IfErr result IsPrepareRefusal }
+    ensures inside { IfOk result (λ writes. GoBelow (D.state device.old).places writes.items) }
+    ensures sizes { IfOk result (λ writes. AreOfSize (D.state device.old).unit_size writes.items) }
+    ensures made { IsTrue (D.state device.old).honest → IfOk result (λ writes. map write_of writes.items
+        ≡ placing_writes (making format.now (D.state device.old).store placed.now.path.now placed.now.date)
+        (read_directory volume.now) placed.now.slot placed.now.place) }
+{
+    let unit = directory_block(alloc, placed.path, &placed.slot, &placed.date)?;
+    let place = placed.place;
+    marked_writes(alloc, device, format, volume, Prepared { place, unit })
+}
+
+// The writes that make a directory whose slot and whose place are known.
+fn placed_directory_writes<D: Device, B: Allocator + Copy, A: Allocator + Copy>(
+    alloc: A,
+    device: &mut D,
+    format: &Prodos<B>,
+    volume: &ProVolume<B>,
+    placed: &PlacedDirectory<'_>,
+) -> Result<Vec<Prepared<A>, A>, EditError>
+    requires fits { Fits (pro_meaning format.now) (D.state device.old) }
+    requires volume { (read_directory volume.now).places ≡ (D.state device.old).places }
+    requires placed { IsPlacedWithin (D.state device.old).places placed.now }
+
+    ensures device { OnlyReads (told_device result) (D.state device.old) (D.state device.new) }
+    ensures refused { IfErr result IsPrepareRefusal }
+    ensures fit { IfOk result (λ writes. AreWritesFor (D.state device.old) writes.items) }
+    ensures few { IfOk result (λ writes. length (map write_of writes.items) < 18446744073709551616) }
+    ensures made { IsTrue (D.state device.old).honest → IfOk result (λ writes. map write_of writes.items
+        ≡ making_writes (making format.now (D.state device.old).store placed.now.path.now placed.now.date)
+        (read_directory volume.now) placed.now.slot placed.now.place) }
+{
+    let block = block_writes(alloc, device, format, volume, placed)?;
+    let entry = directory_entry_writes(alloc, device, placed)?;
+    Ok(joined(block, entry)?)
+}
+
+// The writes that make a directory whose entry gets a slot: its block gets the first free place.
+fn directory_writes_at<D: Device, B: Allocator + Copy, A: Allocator + Copy>(
+    alloc: A,
+    device: &mut D,
+    format: &Prodos<B>,
+    volume: &ProVolume<B>,
+    path: &[u8],
+    date: ProDate,
+    slot: Slot,
+) -> Result<Vec<Prepared<A>, A>, EditError>
+    requires fits { Fits (pro_meaning format.now) (D.state device.old) }
+    requires volume { (read_directory volume.now).places ≡ (D.state device.old).places }
+    requires slot { IsSlotWithin (pro_meaning format.now) (D.state device.old).places slot }
+    requires name { is_pro_name (last_name path.now) ≡ true }
+
+    // every device
+    ensures device { OnlyReads (told_device result) (D.state device.old) (D.state device.new) }
+    ensures refused { IfErr result IsPlaceRefusal }
+    ensures fit { IfOk result (λ writes. AreWritesFor (D.state device.old) writes.items) }
+
+    // an honest device with an accepted volume, on which the path leads to the slot
+    ensures made { IsTrue (D.state device.old).honest
+        → IsAccepted (pro_meaning format.now) (read_directory volume.now) (D.state device.old).store
+        → IsProTarget (D.state device.old).store path.now (At slot)
+        → IfOk result (λ writes. IsMaking (making format.now (D.state device.old).store path.now date)
+        (map write_of writes.items)) }
+    ensures full { result ≡ Err EditError.VolumeFull → free_places (read_directory volume.now) ≡ [] }
+{
+    measure_date(&date);
+    match first_place(alloc, format, volume) {
+        Err(error) => Err(error),
+        Ok(place) => {
+            let placed = PlacedDirectory {
+                path,
+                date,
+                slot,
+                place,
+            };
+            placed_directory_writes(alloc, device, format, volume, &placed)
+        }
+    }
+}
+
+/// The writes that make a directory on an accepted volume.
+///
+/// # Errors
+/// `NotFound`, `Name`, `Exists`, `DirFull` and `VolumeFull`, each on its cause; `Device` where a read fails; `Memory`.
+pub(crate) fn prepare_directory<D: Device, B: Allocator + Copy, A: Allocator + Copy>(
+    alloc: A,
+    device: &mut D,
+    format: &Prodos<B>,
+    volume: &ProVolume<B>,
+    path: &[u8],
+    date: ProDate,
+) -> Result<Vec<Prepared<A>, A>, EditError>
+    requires fits { Fits (pro_meaning format.now) (D.state device.old) }
+    requires volume { (read_directory volume.now).places ≡ (D.state device.old).places }
+
+    // every device
+    ensures device { OnlyReads (told_device result) (D.state device.old) (D.state device.new) }
+    ensures refused { IfErr result IsMakingRefusal }
+    ensures fit { IfOk result (λ writes. AreWritesFor (D.state device.old) writes.items) }
+
+    // an honest device with an accepted volume
+    ensures made { IsTrue (D.state device.old).honest
+        → IsAccepted (pro_meaning format.now) (read_directory volume.now) (D.state device.old).store
+        → IfOk result (λ writes. IsMaking (making format.now (D.state device.old).store path.now date)
+        (map write_of writes.items)) }
+    ensures told { IsTrue (D.state device.old).honest
+        → IsAccepted (pro_meaning format.now) (read_directory volume.now) (D.state device.old).store
+        → IfErr result (IsTold (making format.now (D.state device.old).store path.now date)) }
+    ensures described { IsTrue (D.state device.old).honest
+        → (pro_meaning format.now).Describes (D.state device.old).store (read_directory volume.now)
+        → result ≢ Err EditError.Check }
+{
+    match free_directory_slot(alloc, device, format, path) {
+        Err(error) => Err(error),
+        Ok(slot) => directory_writes_at(alloc, device, format, volume, path, date, slot),
+    }
 }

@@ -21,7 +21,7 @@ ghost use Rattle.file_edits.specs.Saved.{
 use crate::acceptance::Acceptance;
 use crate::accepting::accepted_volume;
 use crate::given::NewFile;
-use crate::preparing::prepare;
+use crate::preparing::prepare_file;
 use a2_device::Device;
 use edit_formats::{EditError, SavableFormat, write_all};
 use std::alloc::Allocator;
@@ -48,7 +48,7 @@ fn save_new<D: Device, F: SavableFormat, A: Allocator + Copy>(
         → IsToldOf (saving_of (F.meaning format.now) (F.saves format.now) (D.state device.old).store file.now) result }
 {
     let volume = accepted_volume(alloc, device, format, acceptance)?;
-    let writes = prepare(alloc, device, format, &volume, file)?;
+    let writes = prepare_file(alloc, device, format, &volume, file)?;
     write_all(device, writes.as_slice())
 }
 

@@ -27,7 +27,7 @@ fn slot_or_refusal(target: Target, is_too_long: bool) -> Result<Slot, EditError>
 }
 
 // The first free slot of the directory to which the path of a new file leads.
-pub(crate) fn free_slot<D: Device, F: SavableFormat, A: Allocator + Copy>(
+pub(crate) fn free_file_slot<D: Device, F: SavableFormat, A: Allocator + Copy>(
     alloc: A,
     device: &mut D,
     format: &F,

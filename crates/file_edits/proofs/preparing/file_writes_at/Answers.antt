@@ -9,10 +9,10 @@ use Rattle.edit_formats.proofs.Deletions.{whole_units}
 use Rattle.file_edits.specs.Placing.{placed_extent}
 use Rattle.file_edits.proofs.NewPlaces.{are_named}
 use Rattle.file_edits.proofs.Savings.{made_edit}
-use Rattle.file_edits.proofs.preparing.writes_at.Goals as goal
+use Rattle.file_edits.proofs.preparing.file_writes_at.Goals as goal
 
-pub entry_writes-requires-clause-parts : goal.entry_writes-requires-clause-parts
-entry_writes-requires-clause-parts g c =
+pub file_entry_writes-requires-clause-parts : goal.file_entry_writes-requires-clause-parts
+file_entry_writes-requires-clause-parts g c =
     let file = c.args.placed.now.file in
     let savable = g.met.F.SavableFormat.savable c.args.format.now in
     omega (
@@ -21,8 +21,8 @@ entry_writes-requires-clause-parts g c =
       savable.few file.stored.now (savable.shorter file.attributes.now.eof (length file.stored.now) c.requires.enterable.short),
     )
 
-pub entry_writes-requires-clause-some : goal.entry_writes-requires-clause-some
-entry_writes-requires-clause-some g c =
+pub file_entry_writes-requires-clause-some : goal.file_entry_writes-requires-clause-some
+file_entry_writes-requires-clause-some g c =
     let file = c.args.placed.now.file in
     let savable = g.met.F.SavableFormat.savable c.args.format.now in
     omega (
@@ -32,8 +32,8 @@ entry_writes-requires-clause-some g c =
       savable.some file.stored.now (savable.shorter file.attributes.now.eof (length file.stored.now) c.requires.enterable.short),
     )
 
-pub entry_writes-requires-clause-places : goal.entry_writes-requires-clause-places
-entry_writes-requires-clause-places g c =
+pub file_entry_writes-requires-clause-places : goal.file_entry_writes-requires-clause-places
+file_entry_writes-requires-clause-places g c =
     let format = c.args.format.now in
     let meaning = g.F.Format.meaning format in
     let directory = g.F.Format.directory format c.args.volume.now in (

@@ -7,7 +7,7 @@ use Rattle.edit_formats.specs.declared.counting.FileCount.TheVariants.{More}
 use Rattle.edit_formats.specs.Counting.{counted_writes}
 use Rattle.edit_formats.specs.Prepared.{write_of}
 use Rattle.file_edits.specs.NewDirectory.{new_entry_bytes}
-use Rattle.file_edits.proofs.directory_entering.entry_writes.Goals as goal
+use Rattle.file_edits.proofs.directory_entering.directory_entry_writes.Goals as goal
 
 pub returns-clause-enters : goal.returns-clause-enters
 returns-clause-enters g c = λ honest.

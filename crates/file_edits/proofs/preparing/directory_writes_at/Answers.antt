@@ -5,10 +5,10 @@ use Rattle.file_edits.specs.Making.{making, making_writes}
 use Rattle.file_edits.specs.Made.{IsMaking}
 use Rattle.file_edits.specs.Preparing.{read_directory}
 use Rattle.file_edits.proofs.Refusals.{error_in, few_reads, few_refusal, if_ok_both}
-use Rattle.file_edits.proofs.making_ready.slot_writes.Goals as goal
+use Rattle.file_edits.proofs.preparing.directory_writes_at.Goals as goal
 
-pub placed_writes-requires-clause-placed : goal.placed_writes-requires-clause-placed
-placed_writes-requires-clause-placed g c = record {
+pub placed_directory_writes-requires-clause-placed : goal.placed_directory_writes-requires-clause-placed
+placed_directory_writes-requires-clause-placed g c = record {
   few = c.requires.fits.places.1;
   name = c.requires.name;
   slot = c.requires.slot.place;
@@ -31,7 +31,7 @@ returns-in-Ok-clause-made g c = λ honest accepted target.
     let store = (g.D.Device.state c.args.device.now).store in
     let made = making c.args.format.now store c.args.path.now c.args.date in
     let directory = read_directory c.args.volume.now in
-    if_ok_both c.placed_writes.result
+    if_ok_both c.placed_directory_writes.result
     (λ writes. map write_of writes.items ≡ making_writes made directory c.args.slot c.in-Ok.place)
     (λ writes. length (map write_of writes.items) < 18446744073709551616)
     (λ writes. IsMaking made (map write_of writes.items))
@@ -46,4 +46,4 @@ returns-in-Ok-clause-made g c = λ honest accepted target.
       are = are;
       few = few;
     })
-    (c.placed_writes.ensures.made honest) c.placed_writes.ensures.few
+    (c.placed_directory_writes.ensures.made honest) c.placed_directory_writes.ensures.few

@@ -5,7 +5,7 @@ use Rattle.edit_formats.proofs.Deletions.{if_ok}
 use Rattle.file_edits.specs.Fitting.{AreWritesFor}
 use Rattle.file_edits.proofs.NewPlaces.{are_named, are_inside}
 use Rattle.file_edits.proofs.PlacedWrites.{all_inside, all_sizes}
-use Rattle.file_edits.proofs.preparing.placed_writes.Goals as goal
+use Rattle.file_edits.proofs.preparing.placed_file_writes.Goals as goal
 
 pub part_writes-requires-clause-places : goal.part_writes-requires-clause-places
 part_writes-requires-clause-places g c =

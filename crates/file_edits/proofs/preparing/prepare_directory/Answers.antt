@@ -16,7 +16,7 @@ use Rattle.file_edits.specs.Made.{IsMaking, IsTold}
 use Rattle.file_edits.specs.DirectorySlots.{IsPlaceRefusal}
 use Rattle.file_edits.specs.Preparing.{read_directory}
 use Rattle.file_edits.proofs.Refusals.{error_in, if_err, place_told, slot_told}
-use Rattle.file_edits.proofs.making_ready.prepare.Goals as goal
+use Rattle.file_edits.proofs.preparing.prepare_directory.Goals as goal
 
 pub returns-in-Err-clause-told : goal.returns-in-Err-clause-told
 returns-in-Err-clause-told g c = λ honest accepted.
@@ -30,19 +30,19 @@ returns-in-Err-clause-described g c = λ honest described same.
 
 pub returns-in-Ok-clause-device : goal.returns-in-Ok-clause-device
 returns-in-Ok-clause-device g c =
-    then_reads (told_device c.slot_writes.result) (g.D.Device.state c.args.device.now) (g.D.Device.state c.free_slot.new.device) (g.D.Device.state c.slot_writes.new.device)
-    c.in-Ok.ensures.device c.slot_writes.ensures.device
+    then_reads (told_device c.directory_writes_at.result) (g.D.Device.state c.args.device.now) (g.D.Device.state c.free_directory_slot.new.device) (g.D.Device.state c.directory_writes_at.new.device)
+    c.in-Ok.ensures.device c.directory_writes_at.ensures.device
 
 pub returns-in-Ok-clause-fit : goal.returns-in-Ok-clause-fit
 returns-in-Ok-clause-fit g c =
     let old = g.D.Device.state c.args.device.now in
-    let mid = g.D.Device.state c.free_slot.new.device in
-    if_ok c.slot_writes.result (λ writes. AreWritesFor mid writes.items) (λ writes. AreWritesFor old writes.items)
+    let mid = g.D.Device.state c.free_directory_slot.new.device in
+    if_ok c.directory_writes_at.result (λ writes. AreWritesFor mid writes.items) (λ writes. AreWritesFor old writes.items)
     (λ writes fit. record {
       inside = subst (λ k. All (λ (write : Prepared g.row.A.Denot). write.place < k) writes.items) c.in-Ok.ensures.device.same.places fit.inside;
       sizes = subst (λ k. All (λ (write : Prepared g.row.A.Denot). length write.unit.items ≡ k) writes.items) c.in-Ok.ensures.device.same.unit_size fit.sizes;
     })
-    c.slot_writes.ensures.fit
+    c.directory_writes_at.ensures.fit
 
 pub returns-in-Ok-clause-made : goal.returns-in-Ok-clause-made
 returns-in-Ok-clause-made g c = λ honest accepted.
@@ -50,14 +50,14 @@ returns-in-Ok-clause-made g c = λ honest accepted.
     let directory = read_directory c.args.volume.now in
     subst
     (λ (d : DeviceState). IsTrue d.honest → IsAccepted (pro_meaning format) directory d.store → IsProTarget d.store c.args.path.now (At c.in-Ok.slot)
-    → IfOk c.slot_writes.result (λ writes. IsMaking (making format d.store c.args.path.now c.args.date) (map write_of writes.items)))
-    (c.in-Ok.ensures.device.kept honest refl) c.slot_writes.ensures.made honest accepted (c.in-Ok.ensures.told directory honest accepted.described)
+    → IfOk c.directory_writes_at.result (λ writes. IsMaking (making format d.store c.args.path.now c.args.date) (map write_of writes.items)))
+    (c.in-Ok.ensures.device.kept honest refl) c.directory_writes_at.ensures.made honest accepted (c.in-Ok.ensures.told directory honest accepted.described)
 
 pub returns-in-Ok-clause-told : goal.returns-in-Ok-clause-told
 returns-in-Ok-clause-told g c = λ honest accepted.
     let directory = read_directory c.args.volume.now in
     let made = making c.args.format.now (g.D.Device.state c.args.device.now).store c.args.path.now c.args.date in
-    if_err c.slot_writes.result IsPlaceRefusal (IsTold made)
+    if_err c.directory_writes_at.result IsPlaceRefusal (IsTold made)
     (λ error is refused. place_told made directory accepted c.in-Ok.slot (c.in-Ok.ensures.told directory honest accepted.described) error refused
-    (λ full. c.slot_writes.ensures.full (is ∙ ap Err full)))
-    c.slot_writes.ensures.refused
+    (λ full. c.directory_writes_at.ensures.full (is ∙ ap Err full)))
+    c.directory_writes_at.ensures.refused
