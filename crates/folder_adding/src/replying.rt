@@ -18,11 +18,10 @@ ghost use Rattle.folder_adding.specs.HostEntries.{entry_view};
 ghost use Rattle.folder_adding.specs.Items.{batch_view};
 ghost use Rattle.folder_adding.specs.Plan.{plan_view};
 ghost use Rattle.folder_adding.specs.Replying.{adding_view, folder_view, tells_device};
-ghost use Rattle.shop_changes.specs.EditRules.{changed_by, changed_in, edit_rules};
+ghost use Rattle.shop_changes.specs.EditRules.{changed_by, edit_rules};
 ghost use Rattle.shop_changes.specs.ReplaceReply.{IsOpened};
 ghost use Rattle.shop_jobs.specs.Input.{reading_view};
 ghost use Rattle.shop_jobs.specs.Job.{addition_view};
-ghost use Rattle.shop_jobs.specs.declared.input.FileSystem.TheVariants.{Dos as OfDos, Prodos as OfProdos};
 ghost use Rattle.shop_replies.specs.Reply.{failed, refused};
 ghost use Rattle.shop_replies.specs.Volume.{HasUnitsOf};
 ghost use Rattle.shop_replies.specs.declared.refusal.Failure.TheVariants as failures;
@@ -42,16 +41,14 @@ use crate::telling::added_text;
 use a2_device::Device;
 use a2_media::ImageDevice;
 use disk_container::Shell;
-use dos_format::Dos33;
 use edit_formats::SavableFormat;
 use file_edits::{Acceptance, DirectoryFormat};
 use pro_dates::date;
 use pro_dir::ProDate;
-use pro_format::Prodos;
 use shop_changes::image_bytes;
 use shop_jobs::{AddOptions, FileSystem, ImageReading, VolumeOptions};
 use shop_replies::{Failure, Refusal, Reply};
-use shop_volumes::volume_in;
+use shop_volumes::{VolumeFormat, format_of, volume_in};
 use std::alloc::Global;
 use vol_check::{CheckError, check};
 use vol_layout::Reserved;
@@ -231,45 +228,28 @@ fn add_plan<F: DirectoryFormat, H: HostFiles>(
     }
 }
 
-// The same of a DOS 3.3 volume, or want of memory for its format.
-fn add_to_dos<H: HostFiles>(
+// The same of the volume as it is read, or want of memory for its format.
+fn add_planned<H: HostFiles>(
     alloc: Global,
     device: ImageDevice,
-    data_disk: bool,
+    volume: VolumeOptions,
     reserved: Reserved,
     folder: &Folder<'_>,
     plan: &Plan,
     files: &mut H,
 ) -> Reply
-    requires units { HasUnitsOf OfDos (⟦<ImageDevice as Device>⟧.state device) }
+    requires units { HasUnitsOf volume.file_system (⟦<ImageDevice as Device>⟧.state device) }
     requires opened { IsOpened folder.now.file_system (⟦<ImageDevice as Device>⟧.state device) }
     ensures told { IsPlanReply H.may_fail (adding_view folder.now (plan_view plan.now))
-        (H.holds files.old) (changed_in OfDos data_disk reserved) (⟦<ImageDevice as Device>⟧.state device) result }
+        (H.holds files.old) (changed_by volume reserved) (⟦<ImageDevice as Device>⟧.state device) result }
 {
-    let Ok(format) = Dos33::new(alloc, data_disk, reserved) else {
+    let Ok(format) = format_of(alloc, volume, reserved) else {
         return Reply::failed(Failure::Memory);
     };
-    add_plan(alloc, device, &format, folder, plan, files)
-}
-
-// The same of a ProDOS volume.
-fn add_to_prodos<H: HostFiles>(
-    alloc: Global,
-    device: ImageDevice,
-    data_disk: bool,
-    reserved: Reserved,
-    folder: &Folder<'_>,
-    plan: &Plan,
-    files: &mut H,
-) -> Reply
-    requires units { HasUnitsOf OfProdos (⟦<ImageDevice as Device>⟧.state device) }
-    requires opened { IsOpened folder.now.file_system (⟦<ImageDevice as Device>⟧.state device) }
-    ensures told { IsPlanReply H.may_fail (adding_view folder.now (plan_view plan.now))
-        (H.holds files.old) (changed_in OfProdos data_disk reserved) (⟦<ImageDevice as Device>⟧.state device)
-        result }
-{
-    let format = Prodos::new(alloc, reserved);
-    add_plan(alloc, device, &format, folder, plan, files)
+    match &format {
+        VolumeFormat::Dos(dos) => add_plan(alloc, device, dos, folder, plan, files),
+        VolumeFormat::Prodos(prodos) => add_plan(alloc, device, prodos, folder, plan, files),
+    }
 }
 
 // Adds the files of a folder to the volume under a device, where each of its entries says what is to be done with it.
@@ -288,26 +268,7 @@ fn add_folder<H: HostFiles>(
         (H.holds files.old) (changed_by volume reserved) (⟦<ImageDevice as Device>⟧.state device) result }
 {
     match plan(alloc, folder.file_system, folder.into, folder.entries) {
-        Ok(plan) => match volume.file_system {
-            FileSystem::Dos => add_to_dos(
-                alloc,
-                device,
-                volume.data_disk,
-                reserved,
-                folder,
-                &plan,
-                files,
-            ),
-            FileSystem::Prodos => add_to_prodos(
-                alloc,
-                device,
-                volume.data_disk,
-                reserved,
-                folder,
-                &plan,
-                files,
-            ),
-        },
+        Ok(plan) => add_planned(alloc, device, volume, reserved, folder, &plan, files),
         Err(PlanError::Refused { entry, refusal }) => {
             reply_at(
                 alloc,

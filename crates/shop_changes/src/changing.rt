@@ -1,9 +1,8 @@
 // Work that changes the volume of a device where it stands.
-ghost use Rattle.std.specs.Prelude.{◌≡◌, ◌⊎◌, ◌<◌, false, option_map};
-ghost use Rattle.shop_jobs.specs.declared.input.FileSystem.TheVariants.{Dos as OfDos, Prodos as OfProdos};
+ghost use Rattle.std.specs.Prelude.{◌⊎◌, ◌<◌, option_map};
 ghost use Rattle.shop_replies.specs.Volume.{HasUnitsOf};
 ghost use Rattle.shop_changes.specs.Changing.{IsChangeOutcome, IsWorkOutcome, KeepsDevice, LacksMemory};
-ghost use Rattle.shop_changes.specs.EditRules.{changed_by, changed_in, edit_rules};
+ghost use Rattle.shop_changes.specs.EditRules.{changed_by, edit_rules};
 ghost use Rattle.shop_changes.specs.Work.{work_view};
 ghost use Rattle.vol_format.specs.Fits.{Fits};
 
@@ -15,12 +14,10 @@ use crate::reclaiming::reclaim_in_place;
 use crate::said_file::save_said;
 use crate::work::Work;
 use a2_device::Device;
-use dos_format::Dos33;
 use file_edits::{Acceptance, DirectoryFormat};
-use pro_format::Prodos;
-use shop_jobs::{FileSystem, VolumeOptions};
+use shop_jobs::VolumeOptions;
 use shop_replies::{Failure, Refusal, Reply, form_of};
-use shop_volumes::{reserve_reply, reserved_by};
+use shop_volumes::{VolumeFormat, format_of, reserve_reply, reserved_by};
 use std::alloc::Global;
 use vol_layout::Reserved;
 
@@ -69,40 +66,6 @@ fn change_by<D: Device, F: DirectoryFormat>(
     }
 }
 
-// Does work on the DOS 3.3 volume of a device.
-fn change_dos<D: Device>(
-    alloc: Global,
-    work: Work<'_>,
-    device: D,
-    data_disk: bool,
-    reserved: Reserved,
-) -> (Outcome, D)
-    requires { HasUnitsOf OfDos (D.state device) }
-    ensures { LacksMemory (D.state device) (D.state result.1) result.0
-        ⊎ IsWorkOutcome (work_view work.entry) (changed_in OfDos data_disk reserved)
-        (D.state device) (D.state result.1) result.0 }
-{
-    let Ok(format) = Dos33::new(alloc, data_disk, reserved) else {
-        return (Outcome::Unfinished(Reply::failed(Failure::Memory)), device);
-    };
-    change_by(alloc, work, device, &format)
-}
-
-// Does work on the ProDOS volume of a device.
-fn change_prodos<D: Device>(
-    alloc: Global,
-    work: Work<'_>,
-    device: D,
-    reserved: Reserved,
-) -> (Outcome, D)
-    requires { HasUnitsOf OfProdos (D.state device) }
-    ensures { IsWorkOutcome (work_view work.entry) (changed_in OfProdos false reserved)
-        (D.state device) (D.state result.1) result.0 }
-{
-    let format = Prodos::new(alloc, reserved);
-    change_by(alloc, work, device, &format)
-}
-
 /// Does work on the volume of a device, where these places are reserved, and hands the device back. All memory is taken
 /// before the first write, and after a failure of the device no call of it is made.
 pub fn change_volume<D: Device>(
@@ -118,9 +81,12 @@ pub fn change_volume<D: Device>(
         (D.state result.1) result.0 }
     ensures kept { KeepsDevice (D.state device) (D.state result.1) result.0 }
 {
-    match options.file_system {
-        FileSystem::Dos => change_dos(alloc, work, device, options.data_disk, reserved),
-        FileSystem::Prodos => change_prodos(alloc, work, device, reserved),
+    let Ok(format) = format_of(alloc, options, reserved) else {
+        return (Outcome::Unfinished(Reply::failed(Failure::Memory)), device);
+    };
+    match &format {
+        VolumeFormat::Dos(dos) => change_by(alloc, work, device, dos),
+        VolumeFormat::Prodos(prodos) => change_by(alloc, work, device, prodos),
     }
 }
 

@@ -1,9 +1,8 @@
 // A file of an image's volume in the place of another one.
-ghost use Rattle.std.specs.Prelude.{◌≡◌, ◌⊎◌, false};
-ghost use Rattle.shop_changes.specs.EditRules.{changed_by, changed_in, edit_rules};
+ghost use Rattle.std.specs.Prelude.{◌≡◌, ◌⊎◌};
+ghost use Rattle.shop_changes.specs.EditRules.{changed_by, edit_rules};
 ghost use Rattle.shop_changes.specs.SaidFile.{said_view};
 ghost use Rattle.shop_changes.specs.ReplaceReply.{HasDisk, IsOpened, IsPlainReplaced, IsReopened, IsReplaced};
-ghost use Rattle.shop_jobs.specs.declared.input.FileSystem.TheVariants.{Dos as OfDos, Prodos as OfProdos};
 ghost use Rattle.shop_replies.specs.Reply.{failed};
 ghost use Rattle.shop_replies.specs.Volume.{HasUnitsOf};
 ghost use Rattle.shop_replies.specs.declared.refusal.Failure.TheVariants.{Memory as OfMemory};
@@ -14,12 +13,11 @@ use crate::given_words::kind_unsaid;
 use crate::{MOST_INPUT, SaidFile, make_way, save_in_place, taken_plain};
 use a2_device::Device;
 use a2_media::ImageDevice;
-use dos_format::Dos33;
 use edit_formats::SavableFormat;
 use file_edits::{Acceptance, DirectoryFormat};
-use pro_format::Prodos;
 use shop_jobs::{FileSystem, VolumeOptions};
 use shop_replies::{Failure, Refusal, Reply, device_of};
+use shop_volumes::{VolumeFormat, format_of};
 use std::alloc::Global;
 use vol_layout::Reserved;
 
@@ -100,45 +98,6 @@ fn replace_said<F: DirectoryFormat>(
     }
 }
 
-// The same on a DOS 3.3 volume, or want of memory for its format.
-fn replace_dos(
-    alloc: Global,
-    device: ImageDevice,
-    data_disk: bool,
-    reserved: Reserved,
-    path: &[u8],
-    said: SaidFile<'_>,
-) -> Reply
-    requires units { HasUnitsOf OfDos (⟦<ImageDevice as Device>⟧.state device) }
-    requires disk { HasDisk OfDos (⟦<ImageDevice as Device>⟧.state device) }
-    requires opened { IsOpened OfDos (⟦<ImageDevice as Device>⟧.state device) }
-    ensures { (result ≡ failed OfMemory) ⊎ IsReplaced path.now (said_view said.entry)
-        (changed_in OfDos data_disk reserved) (⟦<ImageDevice as Device>⟧.state device) result }
-{
-    let Ok(format) = Dos33::new(alloc, data_disk, reserved) else {
-        return Reply::failed(Failure::Memory);
-    };
-    replace_said(alloc, device, &format, FileSystem::Dos, path, said)
-}
-
-// The same on a ProDOS volume.
-fn replace_prodos(
-    alloc: Global,
-    device: ImageDevice,
-    reserved: Reserved,
-    path: &[u8],
-    said: SaidFile<'_>,
-) -> Reply
-    requires units { HasUnitsOf OfProdos (⟦<ImageDevice as Device>⟧.state device) }
-    requires disk { HasDisk OfProdos (⟦<ImageDevice as Device>⟧.state device) }
-    requires opened { IsOpened OfProdos (⟦<ImageDevice as Device>⟧.state device) }
-    ensures { IsReplaced path.now (said_view said.entry) (changed_in OfProdos false reserved)
-        (⟦<ImageDevice as Device>⟧.state device) result }
-{
-    let format = Prodos::new(alloc, reserved);
-    replace_said(alloc, device, &format, FileSystem::Prodos, path, said)
-}
-
 /// What is told of a file that takes the place of another one on the volume of an image, with the image as it then is,
 /// or want of memory for the format.
 pub(crate) fn replace_on_image(
@@ -155,8 +114,12 @@ pub(crate) fn replace_on_image(
     ensures { (result ≡ failed OfMemory) ⊎ IsReplaced path.now (said_view said.entry) (changed_by options reserved)
         (⟦<ImageDevice as Device>⟧.state device) result }
 {
-    match options.file_system {
-        FileSystem::Dos => replace_dos(alloc, device, options.data_disk, reserved, path, said),
-        FileSystem::Prodos => replace_prodos(alloc, device, reserved, path, said),
+    let Ok(format) = format_of(alloc, options, reserved) else {
+        return Reply::failed(Failure::Memory);
+    };
+    let system = options.file_system;
+    match &format {
+        VolumeFormat::Dos(dos) => replace_said(alloc, device, dos, system, path, said),
+        VolumeFormat::Prodos(prodos) => replace_said(alloc, device, prodos, system, path, said),
     }
 }

@@ -1,28 +1,18 @@
--- How the volume of a format is extracted, by the words of a job.
-use Rattle.std.proofs.Common.{◌≡◌, ◌∙◌, ap, sym, Bool, List, []}
-use Rattle.vol_layout.specs.declared.form.PlaceForm.TheVariants.{Sector, Block}
-use Rattle.dos_format.specs.Dos.{dos_meaning}
-use Rattle.pro_format.specs.Pro.{pro_meaning}
-use Rattle.file_formats.specs.DosFiles.{dos_files}
-use Rattle.file_formats.specs.ProFiles.{pro_files}
+-- How a volume is extracted, by the words of a job.
+use Rattle.std.proofs.Common.{◌≡◌, ◌∙◌, ap, Bool, List, []}
+use Rattle.vol_layout.specs.declared.form.PlaceForm.{PlaceForm}
 use Rattle.volume_extract.specs.Extraction.{plan_of}
-use Rattle.volume_extract.specs.Names.{dos_own, pro_own}
 use Rattle.shop_jobs.specs.declared.folders.ExtractOptions.{ExtractOptions}
-use Rattle.shop_jobs.specs.declared.input.FileSystem.{FileSystem}
-use Rattle.shop_jobs.specs.declared.input.FileSystem.TheVariants.{Dos, Prodos}
 use Rattle.shop_jobs.specs.declared.input.VolumeOptions.{VolumeOptions}
-use Rattle.shop_commands.specs.Extracting.{options_of, plan_for, plan_in}
+use Rattle.shop_replies.specs.Volume.{form_of, meaning_of}
+use Rattle.shop_volumes.specs.VolumeFiles.{files_of}
+use Rattle.shop_commands.specs.Extracting.{options_of, own_of, plan_for}
 
-pub dos_plan : (volume : VolumeOptions) (options : ExtractOptions) (data_disk : Bool) (reserved : List Bool) → volume.file_system ≡ Dos
-    → data_disk ≡ volume.data_disk → reserved ≡ []
-    → plan_of Sector (options_of options) dos_files (dos_meaning data_disk reserved) dos_own ≡ plan_for volume options
-dos_plan volume options data_disk reserved dos same none =
-    ap (λ (places : List Bool). plan_of Sector (options_of options) dos_files (dos_meaning data_disk places) dos_own) none
-    ∙ ap (λ (either : Bool). plan_of Sector (options_of options) dos_files (dos_meaning either []) dos_own) same
-    ∙ ap (λ (system : FileSystem). plan_in system volume.data_disk options) (sym dos)
-
-pub pro_plan : (volume : VolumeOptions) (options : ExtractOptions) (reserved : List Bool) → volume.file_system ≡ Prodos → reserved ≡ []
-    → plan_of Block (options_of options) pro_files (pro_meaning reserved) pro_own ≡ plan_for volume options
-pro_plan volume options reserved prodos none =
-    ap (λ (places : List Bool). plan_of Block (options_of options) pro_files (pro_meaning places) pro_own) none
-    ∙ ap (λ (system : FileSystem). plan_in system volume.data_disk options) (sym prodos)
+pub said_plan : (volume : VolumeOptions) (options : ExtractOptions) (form : PlaceForm) (reserved : List Bool)
+    → form ≡ form_of volume.file_system → reserved ≡ []
+    → plan_of form (options_of options) (files_of volume.file_system) (meaning_of volume.file_system volume.data_disk reserved) (own_of volume.file_system)
+    ≡ plan_for volume options
+said_plan volume options form reserved same none =
+    let system = volume.file_system in
+    ap (λ (f : PlaceForm). plan_of f (options_of options) (files_of system) (meaning_of system volume.data_disk reserved) (own_of system)) same
+    ∙ ap (λ (places : List Bool). plan_of (form_of system) (options_of options) (files_of system) (meaning_of system volume.data_disk places) (own_of system)) none

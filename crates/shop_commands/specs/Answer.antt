@@ -13,7 +13,7 @@ use Rattle.shop_changes.specs.GivenWords.{kind_named}
 use Rattle.shop_changes.specs.SaidFile.{SaidView}
 use Rattle.pro_dates.specs.SaidDates.{IsDateOf, NamesDate}
 use Rattle.pro_dir.specs.declared.date.ProDate.{ProDate}
-use Rattle.shop_jobs.specs.Input.{AsBytes, BesideView, FileBeside, FolderBeside, FromFile, ImageBeside, InputView, NothingBeside, Nowhere, ReadingView, SourceView, StandardInput, known_order, order_of, reserve_of, volume_of}
+use Rattle.shop_jobs.specs.Input.{AsBytes, BesideView, FileBeside, FolderBeside, FromFile, ImageBeside, InputView, IsRead, IsReadBeside, NothingBeside, Nowhere, ReadingView, SourceView, StandardInput, known_order, order_of, reserve_of, volume_of}
 use Rattle.shop_jobs.specs.Job.{AddTo, AskView, AttributesView, Catalog, ChangeOf, ChangeView, Compare, Convert, Create, EditOf, ExtractFrom, Identify, JobView, LookAt, LookView, MakeDirectory, OfTheVolume, Optimize, Reclaim, Save, Survey, Unwrap, VolumeAskView, Wrap, is_in_place}
 use Rattle.shop_jobs.specs.declared.changes.SaveForm.{SaveForm}
 use Rattle.shop_jobs.specs.declared.changes.SaveForm.TheVariants as save_forms
@@ -130,30 +130,19 @@ RefusesWords volume change refusal = ⊥
 
 -- ---- what is read
 
--- the job has an image
-abbrev pub HasImage : SourceView → Type 0
-HasImage Nowhere = ⊥
-HasImage StandardInput = Unit {0}
-HasImage (FromFile path) = Unit {0}
-
 -- the bytes of the image; a job that has none has no bytes
 abbrev pub image_bytes : SourceView → List ℕ → List ℕ
 image_bytes Nowhere bytes = []
 image_bytes StandardInput bytes = bytes
 image_bytes (FromFile path) bytes = bytes
 
--- something is read beside the image: a file, or another image
-abbrev pub HasBeside : BesideView → Type 0
-HasBeside NothingBeside = ⊥
-HasBeside (FileBeside path) = Unit {0}
-HasBeside (ImageBeside source order) = Unit {0}
-HasBeside (FolderBeside path) = ⊥
-
--- its bytes, where they are known; where nothing is read there are none
+-- the bytes of what is read beside the image, where they are known; where nothing is read there are none
 abbrev pub beside_bytes : BesideView → Option (List ℕ) → Option (List ℕ)
 beside_bytes NothingBeside extra = Some []
 beside_bytes (FileBeside path) extra = extra
-beside_bytes (ImageBeside source order) extra = extra
+beside_bytes (ImageBeside Nowhere order) extra = Some []
+beside_bytes (ImageBeside StandardInput order) extra = extra
+beside_bytes (ImageBeside (FromFile path) order) extra = extra
 beside_bytes (FolderBeside path) extra = Some []
 
 -- these bytes as a look takes them: those of another image with its order, where that is known
@@ -290,11 +279,11 @@ IsReplyTo job image extra reply =
 
 -- the job reads the image, where it has one
 abbrev pub ReadsImage : JobView → Type 0
-ReadsImage job = HasImage job.input.image × (is_in_place job.output ≡ false)
+ReadsImage job = IsRead job.input.image × (is_in_place job.output ≡ false)
 
 -- the job reads a file or another image beside the image
 abbrev pub ReadsExtra : JobView → Type 0
-ReadsExtra job = HasBeside job.input.beside × (is_in_place job.output ≡ false)
+ReadsExtra job = IsReadBeside job.input.beside × (is_in_place job.output ≡ false)
 
 -- what is asked changes a volume
 abbrev pub ChangesVolume : AskView → Type 0

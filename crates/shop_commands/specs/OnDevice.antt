@@ -39,9 +39,9 @@ IsToldOnDevice look input bytes device reply = WhereKnown (volume_of input.readi
     (IsLookTold look (reserve_of input.reading) (extra_of input.beside bytes) device) reply
 
 -- What a look does to the device, and that nothing failed under it, or is not told so. Where the volume is not known
--- nothing is done to it.
+-- nothing is done to it, and the look is refused.
 abbrev pub ReadsIn : Option VolumeOptions → LookView → Reply → DeviceState → DeviceState → Type 0
-ReadsIn None look reply old new = new ≡ old
+ReadsIn None look reply old new = (new ≡ old) × (reply ≡ refused refusals.Unknown)
 ReadsIn (Some volume) look reply old new = ReadsFor look reply old new
 
 -- A change of this volume, with these bytes of a file beside it: its words are refused, and the device is as it was; or

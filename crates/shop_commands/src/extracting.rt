@@ -1,7 +1,6 @@
 // The job that puts the files of a volume into a folder.
 ghost use Rattle.std.specs.Prelude.{◌≡◌, IfErr, IfOk, IsTrue};
 ghost use Rattle.file_cmds.specs.ReadingOn.{ReadsOn};
-ghost use Rattle.shop_jobs.specs.declared.input.FileSystem.TheVariants.{Dos as OfDos, Prodos as OfProdos};
 ghost use Rattle.shop_replies.specs.Volume.{HasUnitsOf};
 ghost use Rattle.shop_commands.specs.Extracting.{
   IsExtractTold,
@@ -15,11 +14,10 @@ ghost use Rattle.volume_extract.specs.Extraction.{IsExtraction, plan_of};
 
 use crate::telling::tell_extraction;
 use a2_device::Device;
-use dos_format::Dos33;
 use host_folders::{Folder, FolderFailure};
-use pro_format::Prodos;
-use shop_jobs::{ExtractOptions, FileSystem, VolumeOptions};
-use shop_replies::{Failure, Refusal, Reply};
+use shop_jobs::{ExtractOptions, VolumeOptions};
+use shop_replies::{Failure, Refusal, Reply, form_of};
+use shop_volumes::{VolumeFormat, format_of};
 use std::alloc::Global;
 use std::io::Write;
 use vol_layout::{PlaceForm, Reserved};
@@ -85,72 +83,6 @@ fn extract_by<D: Device, F: TreeFormat, O: Folder, T: Write>(
     }
 }
 
-// The same of a DOS 3.3 volume.
-fn extract_dos<D: Device, O: Folder, T: Write>(
-    alloc: Global,
-    device: &mut D,
-    folder: &mut O,
-    volume: VolumeOptions,
-    options: ExtractOptions,
-    text: &mut T,
-) -> Result<u8, NotExtracted>
-    requires dos { volume.file_system ≡ OfDos }
-    requires units { HasUnitsOf OfDos (D.state device.old) }
-    ensures reads { ReadsOn (D.state device.old) (D.state device.new) }
-    ensures same { (O.state folder.new).honest ≡ (O.state folder.old).honest }
-    ensures extracted { IsTrue (D.state device.old).honest → IfOk result (λ status. IsExtraction
-        (plan_for volume options) (D.state device.old) (D.state device.new) (O.state folder.old) (O.state folder.new)
-        (IsExtractTold status (T.contents text.old) (T.contents text.new))) }
-    ensures refused { IsTrue (D.state device.old).honest → IfErr result (IsNotExtractedBy O.state O.may_fail
-        (plan_for volume options) (D.state device.old) (D.state device.new) (O.state folder.old) (O.state folder.new)
-        (T.contents text.old) (T.contents text.new)) }
-{
-    let Ok(format) = Dos33::new(alloc, volume.data_disk, Reserved::none(alloc)) else {
-        return Err(NotExtracted::Refused(Reply::failed(Failure::Memory)));
-    };
-    extract_by(
-        alloc,
-        device,
-        &format,
-        PlaceForm::Sector,
-        folder,
-        options,
-        text,
-    )
-}
-
-// The same of a ProDOS volume.
-fn extract_prodos<D: Device, O: Folder, T: Write>(
-    alloc: Global,
-    device: &mut D,
-    folder: &mut O,
-    volume: VolumeOptions,
-    options: ExtractOptions,
-    text: &mut T,
-) -> Result<u8, NotExtracted>
-    requires prodos { volume.file_system ≡ OfProdos }
-    requires units { HasUnitsOf OfProdos (D.state device.old) }
-    ensures reads { ReadsOn (D.state device.old) (D.state device.new) }
-    ensures same { (O.state folder.new).honest ≡ (O.state folder.old).honest }
-    ensures extracted { IsTrue (D.state device.old).honest → IfOk result (λ status. IsExtraction
-        (plan_for volume options) (D.state device.old) (D.state device.new) (O.state folder.old) (O.state folder.new)
-        (IsExtractTold status (T.contents text.old) (T.contents text.new))) }
-    ensures refused { IsTrue (D.state device.old).honest → IfErr result (IsNotExtractedBy O.state O.may_fail
-        (plan_for volume options) (D.state device.old) (D.state device.new) (O.state folder.old) (O.state folder.new)
-        (T.contents text.old) (T.contents text.new)) }
-{
-    let format = Prodos::new(alloc, Reserved::none(alloc));
-    extract_by(
-        alloc,
-        device,
-        &format,
-        PlaceForm::Block,
-        folder,
-        options,
-        text,
-    )
-}
-
 /// Puts the files of a volume into a folder, on the device that has the volume, and tells of each entry, and how many
 /// there are: once all that can be read is in the folder. The status is 0, or 1 where a file can't be read.
 ///
@@ -175,8 +107,14 @@ pub fn extract_on_device<D: Device, O: Folder, T: Write>(
         (plan_for volume options) (D.state device.old) (D.state device.new) (O.state folder.old) (O.state folder.new)
         (T.contents text.old) (T.contents text.new)) }
 {
-    match volume.file_system {
-        FileSystem::Dos => extract_dos(alloc, device, folder, volume, options, text),
-        FileSystem::Prodos => extract_prodos(alloc, device, folder, volume, options, text),
+    let Ok(format) = format_of(alloc, volume, Reserved::none(alloc)) else {
+        return Err(NotExtracted::Refused(Reply::failed(Failure::Memory)));
+    };
+    let form = form_of(volume.file_system);
+    match &format {
+        VolumeFormat::Dos(dos) => { extract_by(alloc, device, dos, form, folder, options, text) }
+        VolumeFormat::Prodos(prodos) => {
+            extract_by(alloc, device, prodos, form, folder, options, text)
+        }
     }
 }

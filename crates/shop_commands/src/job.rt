@@ -10,7 +10,7 @@ ghost use Rattle.std.specs.Prelude.{
   IfSome,
   IsTrue,
 };
-ghost use Rattle.shop_jobs.specs.Input.{beside_view, input_view, reading_view, source_view};
+ghost use Rattle.shop_jobs.specs.Input.{IsRead, IsReadBeside, beside_view, input_view, reading_view, source_view};
 ghost use Rattle.shop_jobs.specs.Job.{
   ChangeOf,
   LookAt,
@@ -28,8 +28,6 @@ ghost use Rattle.shop_replies.specs.Reading.{IsReadFailure};
 ghost use Rattle.shop_commands.specs.Answer.{
   ChangesVolume,
   HandsOutFor,
-  HasBeside,
-  HasImage,
   IsAnswer,
   IsDosCatalogAnswer,
   IsInPlaceAnswer,
@@ -96,8 +94,8 @@ fn image_for<I: Read>(alloc: Global, job: &Job, image: &mut I) -> Result<Vec<u8>
     ensures read { IfSome (I.remaining image.old) (λ bytes. IfOk result (λ read. read.items
         ≡ take (image_most (ask_view job.now.ask) (reading_view job.now.input.reading) + 1)
         (image_bytes (source_view job.now.input.image) bytes))) }
-    ensures kept { (image.new ≡ image.old) ⊎ HasImage (source_view job.now.input.image) }
-    ensures failed { IfErr result (λ failure. HasImage (source_view job.now.input.image) × IsReadFailure failure) }
+    ensures kept { (image.new ≡ image.old) ⊎ IsRead (source_view job.now.input.image) }
+    ensures failed { IfErr result (λ failure. IsRead (source_view job.now.input.image) × IsReadFailure failure) }
 {
     match &job.input.image {
         Source::Nothing => Ok(Vec::new(alloc)),
@@ -110,12 +108,17 @@ fn extra_for<E: Read>(alloc: Global, job: &Job, extra: &mut E) -> Result<Vec<u8>
     ensures read { IfSome (beside_bytes (beside_view job.now.input.beside) (E.remaining extra.old)) (λ bytes.
         IfOk result (λ read. read.items
         ≡ take (extra_most (ask_view job.now.ask) (beside_view job.now.input.beside) + 1) bytes)) }
-    ensures kept { (extra.new ≡ extra.old) ⊎ HasBeside (beside_view job.now.input.beside) }
-    ensures failed { IfErr result (λ failure. HasBeside (beside_view job.now.input.beside) × IsReadFailure failure) }
+    ensures kept { (extra.new ≡ extra.old) ⊎ IsReadBeside (beside_view job.now.input.beside) }
+    ensures failed { IfErr result (λ failure. IsReadBeside (beside_view job.now.input.beside) × IsReadFailure failure) }
 {
     match &job.input.beside {
+        Beside::Nothing
+        | Beside::Folder(_)
+        | Beside::Image {
+            source: Source::Nothing,
+            ..
+        } => Ok(Vec::new(alloc)),
         Beside::File(_) | Beside::Image { .. } => read_front(alloc, extra, most_extra(job)),
-        Beside::Nothing | Beside::Folder(_) => Ok(Vec::new(alloc)),
     }
 }
 

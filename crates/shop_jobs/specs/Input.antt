@@ -137,6 +137,19 @@ folder_of (FileBeside path) = None
 folder_of (ImageBeside source order) = None
 folder_of (FolderBeside path) = Some path
 
+-- there is something whose bytes are read
+abbrev pub IsRead : SourceView → Type 0
+IsRead Nowhere = ⊥
+IsRead StandardInput = Unit {0}
+IsRead (FromFile path) = Unit {0}
+
+-- the same beside the image: a file or another image; the files of a folder are read one at a time, and are none of it
+abbrev pub IsReadBeside : BesideView → Type 0
+IsReadBeside NothingBeside = ⊥
+IsReadBeside (FileBeside path) = Unit {0}
+IsReadBeside (ImageBeside source order) = IsRead source
+IsReadBeside (FolderBeside path) = ⊥
+
 -- ---- what is left to the images
 
 -- nothing is

@@ -3,10 +3,10 @@
 //! shorter.
 //!
 //! `look_on_device` answers a `Look` by one `Reply` of `shop_replies`; the words may reserve places, and
-//! `look_at_volume` is told them. It makes the format of the file system, DOS 3.3 or ProDOS, and `look_reply` works on
-//! any format whose volumes are told of (`ShownFormat`). `image_look` looks at the volume of an image in memory, which
-//! is on a device like any other. What a look reads beside the volume is an `Extra`: a file, or another image in its
-//! order.
+//! `look_at_volume` is told them. It has the format of the volume made (`format_of` of `shop_volumes`), and
+//! `look_reply` works on any format whose volumes are told of (`ShownFormat`). `image_look` looks at the volume of an
+//! image in memory, which is on a device like any other. What a look reads beside the volume is an `Extra`: a file, or
+//! another image in its order.
 //!
 //! The model: which reply comes, by the state of the device, is a relation for each look (`CatalogReply`,
 //! `EntriesReply`, `ReadReply`, `CheckReply` with `CheckText` and `FaultLines`, `BodiesReply`, `MapReply` with

@@ -1,13 +1,12 @@
 // Looking at the volume of a device.
-ghost use Rattle.std.specs.Prelude.{◌≡◌, ◌≢◌, ◌⊎◌, false, IsTrue, option_map};
+ghost use Rattle.std.specs.Prelude.{◌≡◌, ◌⊎◌, IsTrue, option_map};
 ghost use Rattle.shop_jobs.specs.Job.{look_view};
-ghost use Rattle.shop_jobs.specs.declared.input.FileSystem.TheVariants.{Dos as OfDos, Prodos as OfProdos};
-ghost use Rattle.shop_replies.specs.declared.refusal.Failure.TheVariants.{Device as OfDevice, Memory as OfMemory};
+ghost use Rattle.shop_replies.specs.declared.refusal.Failure.TheVariants.{Memory as OfMemory};
 ghost use Rattle.shop_replies.specs.Reply.{failed};
 ghost use Rattle.shop_replies.specs.Volume.{HasUnitsOf};
 ghost use Rattle.shop_reads.specs.Extra.{extra_view};
 ghost use Rattle.shop_reads.specs.GoingOn.{FailsForLackIn, HasNotFailed, ReadsFor};
-ghost use Rattle.shop_reads.specs.Look.{IsLookReply, shown_by, shown_in};
+ghost use Rattle.shop_reads.specs.Look.{IsLookReply, shown_by};
 ghost use Rattle.shop_volumes.specs.Reserving.{IsDeviceReply};
 ghost use Rattle.vol_format.specs.Fits.{Fits};
 
@@ -24,11 +23,9 @@ use crate::plan_words::plan_words_reply;
 use crate::reading::read_reply;
 use crate::verify::verify_reply;
 use a2_device::Device;
-use dos_format::Dos33;
-use pro_format::Prodos;
-use shop_jobs::{FileSystem, Look, VolumeOptions};
+use shop_jobs::{Look, VolumeOptions};
 use shop_replies::{Failure, Reply, form_of};
-use shop_volumes::{reserve_reply, reserved_by};
+use shop_volumes::{VolumeFormat, format_of, reserve_reply, reserved_by};
 use std::alloc::Global;
 use vol_layout::Reserved;
 
@@ -79,47 +76,6 @@ pub fn look_reply<D: Device, F: ShownFormat>(
     }
 }
 
-// What is told of a look at the DOS 3.3 volume of a device.
-fn look_at_dos<D: Device>(
-    alloc: Global,
-    look: &Look,
-    extra: Extra,
-    device: &mut D,
-    data_disk: bool,
-    reserved: Reserved,
-) -> Reply
-    requires { HasUnitsOf OfDos (D.state device.old) }
-    ensures reads { ReadsFor (look_view look.now) result (D.state device.old) (D.state device.new) }
-    ensures told { IsTrue (D.state device.old).honest
-        → FailsForLackIn (look_view look.now) result (D.state device.old) (D.state device.new)
-        → (result ≡ failed OfMemory) ⊎ IsLookReply (look_view look.now) (extra_view extra)
-        (shown_in OfDos data_disk reserved) (D.state device.old) result }
-{
-    let Ok(format) = Dos33::new(alloc, data_disk, reserved) else {
-        return Reply::failed(Failure::Memory);
-    };
-    look_reply(alloc, look, extra, device, &format)
-}
-
-// What is told of a look at the ProDOS volume of a device.
-fn look_at_prodos<D: Device>(
-    alloc: Global,
-    look: &Look,
-    extra: Extra,
-    device: &mut D,
-    reserved: Reserved,
-) -> Reply
-    requires { HasUnitsOf OfProdos (D.state device.old) }
-    ensures reads { ReadsFor (look_view look.now) result (D.state device.old) (D.state device.new) }
-    ensures told { IsTrue (D.state device.old).honest
-        → FailsForLackIn (look_view look.now) result (D.state device.old) (D.state device.new)
-        → IsLookReply (look_view look.now) (extra_view extra) (shown_in OfProdos false reserved)
-        (D.state device.old) result }
-{
-    let format = Prodos::new(alloc, reserved);
-    look_reply(alloc, look, extra, device, &format)
-}
-
 /// What is told of a look at the volume of a device, where these places are reserved, with what is read beside
 /// it. Each failure of the device is told, and nothing else is told as one.
 pub fn look_at_volume<D: Device>(
@@ -137,9 +93,12 @@ pub fn look_at_volume<D: Device>(
         → (result ≡ failed OfMemory) ⊎ IsLookReply (look_view look.now) (extra_view extra) (shown_by options reserved)
         (D.state device.old) result }
 {
-    match options.file_system {
-        FileSystem::Dos => look_at_dos(alloc, look, extra, device, options.data_disk, reserved),
-        FileSystem::Prodos => look_at_prodos(alloc, look, extra, device, reserved),
+    let Ok(format) = format_of(alloc, options, reserved) else {
+        return Reply::failed(Failure::Memory);
+    };
+    match &format {
+        VolumeFormat::Dos(dos) => look_reply(alloc, look, extra, device, dos),
+        VolumeFormat::Prodos(prodos) => look_reply(alloc, look, extra, device, prodos),
     }
 }
 

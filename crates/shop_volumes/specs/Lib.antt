@@ -3,3 +3,4 @@ pub mod TellingFailures
 pub mod Reserving
 pub mod Unopened
 pub mod VolumeReply
+pub mod VolumeFormat
