@@ -3,6 +3,7 @@ ghost use Rattle.std.specs.Prelude.{◌≡◌};
 ghost use Rattle.shop_replies.specs.Reply.{container_line, failure_line, number_end, refusal_line};
 
 use disk_container::ContainerFault;
+use std::alloc::{AllocError, AllocFailed};
 
 /// Why a job was refused.
 #[derive(Clone, Copy, Debug, PartialEq, Eq)]
@@ -71,6 +72,26 @@ pub enum Failure {
     /// A sector of the image could not be read.
     Device,
     Memory,
+}
+
+impl From<AllocError> for Failure {
+    ghost use Rattle.shop_replies.specs.declared.refusal.Failure.TheVariants.{Memory};
+
+    ghost from_gives = { λ _ failure. failure ≡ Memory };
+
+    fn from(_: AllocError) -> Failure {
+        Failure::Memory
+    }
+}
+
+impl<T: Drop> From<AllocFailed<T>> for Failure {
+    ghost use Rattle.shop_replies.specs.declared.refusal.Failure.TheVariants.{Memory};
+
+    ghost from_gives = { λ _ failure. failure ≡ Memory };
+
+    fn from(_: AllocFailed<T>) -> Failure {
+        Failure::Memory
+    }
 }
 
 /// One of the two images that a job compares.
