@@ -6,8 +6,7 @@ pub mod Calls
 pub mod Memory
 pub mod Failing
 pub mod NewFolder
-pub mod System
-pub mod Start
+pub mod Failures
 pub mod HostEntries
 pub mod Reading
 pub mod ReadBack

@@ -28,7 +28,7 @@ impl From<AllocError> for FolderFailure {
 
 impl From<io::Error> for FolderFailure {
     ghost use Rattle.std.specs.IoError.{error_kind};
-    ghost use Rattle.host_folders.specs.System.{failure_of};
+    ghost use Rattle.host_folders.specs.Failures.{failure_of};
 
     ghost from_gives = { λ error failure. failure ≡ failure_of (error_kind error) };
 

@@ -1,6 +1,5 @@
 //! What a volume's files are on the host: the names under which they stand in a folder, what names say of entries that
-//! are to be made, and the folder that files are put into, which is, at every moment, what stood at its path before or
-//! the whole of what was put into it.
+//! are to be made, and what is asked of a folder that files are put into.
 //!
 //! **Names** (`specs/HostNames.antt`). A name is a stem, a number and a tail: the stored name, byte by byte, with `%`
 //! and two digits in the place of what is no plain character; nothing for the first entry of a folder with its bare
@@ -29,13 +28,8 @@
 //! **Folders.** `Folder` is what is asked of a folder: that folders are made in it and files put into it, by paths of
 //! safe names (`specs/Path.antt`). Of an honest folder it is known what was made in it, in order, after each call and
 //! after each failure (`specs/Folder.antt`). `MemoryFolder` is a folder in memory, and honest; `FailingFolder` refuses
-//! one call of another folder, and passes all others on (`specs/Failing.antt`).
-//!
-//! `SystemFolder` is a new folder of the system: a folder aside, in which all is made, takes its place in one step, a
-//! renaming; whatever fails before that, the folder aside is removed and what stood at the place stands. Nothing that
-//! exists is opened, so no link is followed, and no name leads out of the folder. `folder_name` says which names a
-//! folder that is to be made may have (`specs/NewFolder.antt`). No contract can say what a file system holds: what is
-//! promised of it is tested, with a file system whose calls fail in turn.
+//! one call of another folder, and passes all others on (`specs/Failing.antt`). `folder_name` says which names a folder
+//! that is to be made may have (`specs/NewFolder.antt`).
 //!
 //! What always holds: no call makes a folder honest or dishonest.
 #![tactic(auto)]
@@ -58,7 +52,6 @@ mod said_stem;
 mod said_tail;
 mod saying;
 mod stem;
-mod system;
 mod tail;
 
 pub use entry::{Naming, Stored};
@@ -79,4 +72,3 @@ pub use read_back::{
 pub use said::{Content, HostFile};
 pub use saying::{file_beside, file_of, folder_of};
 pub use stem::name_bytes;
-pub use system::{StartError, SystemFolder};

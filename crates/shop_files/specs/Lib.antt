@@ -1,4 +1,3 @@
-pub mod Beside
 pub mod Images
 pub mod Outputs
 pub mod Roles
@@ -8,3 +7,5 @@ pub mod Known
 pub mod Protected
 pub mod Foreign
 pub mod Told
+pub mod Folders
+pub mod Start

@@ -1,6 +1,5 @@
 -- Where the paths of a job lead, and the files that it writes.
 use Rattle.std.specs.Prelude.{◌≡◌, ◌≢◌, ℕ, false, true, List, Option, Some, None, option_map, string_bytes}
-use Rattle.std.specs.declared.alloc.Global.{Global}
 use Rattle.shop_files.specs.declared.target.Target.{Target}
 use Rattle.shop_files.specs.declared.target.Target.TheVariants.{Nowhere}
 use Rattle.shop_jobs.specs.Input.{StandardInput, folder_of, path_beside, path_of}
@@ -15,7 +14,8 @@ use Rattle.shop_files.specs.declared.files.NamedFile.{NamedFile}
 
 -- the file of a path that may be left out: none without a path, else a new one that goes to this target, of which it
 -- may take such a place
-abbrev pub IsOutputOf : Option (List ℕ) → Target Global → Placing → Output → Type 0
+abbrev pub IsOutputOf :
+    {H File Units Names : Type 0} → Option (List ℕ) → Target → Placing → Output H File Units Names → Type 0
 IsOutputOf None target placing output = output ≡ Nothing
 IsOutputOf (Some path) target placing output = GoesTo path target placing output × IsUntouched output
 

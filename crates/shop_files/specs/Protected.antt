@@ -13,14 +13,14 @@ IsReadonlyFile None = ⊥
 IsReadonlyFile (Some standing) = IsReadonly standing.mode
 
 -- the same of what a path leads to: only at a place stands a file
-abbrev pub IsProtected : {A : Type 0} → Target A → Type 0
+abbrev pub IsProtected : Target → Type 0
 IsProtected (Place place) = IsReadonlyFile place.standing
 IsProtected Straight = ⊥
 IsProtected StandardOutput = ⊥
 IsProtected Nowhere = ⊥
 
 -- nothing is made yet of a file that is to take the place of a protected one, and no call of it failed
-abbrev pub IsKept : Output → Type 0
+abbrev pub IsKept : {H File Units Names : Type 0} → Output H File Units Names → Type 0
 IsKept Nothing = ⊥
 IsKept (Aside file) = IsProtected file.target.now × (file.made ≡ None) × (file.failure ≡ None)
 IsKept (Held file) = ⊥

@@ -2,8 +2,7 @@
 use Rattle.std.specs.Prelude.{◌≡◌, ◌≢◌, ◌⊎◌, ℕ, Bool, false, List, Option, Some, None}
 use Rattle.std.specs.Prelude.{IsSome, IsTrue, codes, option_map, string_bytes}
 use Rattle.std.specs.Path.{PathStartsWith}
-use Rattle.std.specs.declared.alloc.Global.{Global}
-use Rattle.shop_files.specs.declared.target.Node.{Node}
+use Rattle.shop_host.specs.declared.found.Node.{Node}
 use Rattle.shop_files.specs.declared.target.Standing.{Standing}
 use Rattle.shop_files.specs.declared.target.Target.{Target}
 use Rattle.shop_files.specs.declared.target.Target.TheVariants.{Place, Straight, StandardOutput, Nowhere}
@@ -79,7 +78,7 @@ clash_line FromAndCertificate = codes "error: --from and --cert name the same fi
 
 -- Which file a path leads to: by the path of its place, and by the number of what stands there. What is no place
 -- is no file.
-abbrev pub identity_of : Target Global → IdentityView
+abbrev pub identity_of : Target → IdentityView
 identity_of (Place place) = record {
   path = Some (string_bytes place.path);
   node = option_map (λ (standing : Standing). standing.node) place.standing;
@@ -89,7 +88,7 @@ identity_of StandardOutput = record { path = None; node = None }
 identity_of Nowhere = record { path = None; node = None }
 
 -- which file the image is: that of its path, or the one that is standard input
-abbrev pub image_identity : Option Node → Target Global → IdentityView
+abbrev pub image_identity : Option Node → Target → IdentityView
 image_identity None image = identity_of image
 image_identity (Some node) image = record { path = None; node = Some node }
 

@@ -1,17 +1,15 @@
 // The file aside.
-ghost use Rattle.std.specs.Prelude.{◌≡◌, ◌≢◌, ◌↔◌, IfErr, IfSome, IsErrAnd, IsOk, IsSome, IsTrue, None, OnOk, Some};
-ghost use Rattle.std.specs.Io.{WritesAtMost};
-ghost use Rattle.std.specs.Io.KnownBytes.{WriteAppends};
+ghost use Rattle.std.specs.Prelude.{◌≡◌, ◌↔◌, IfErr, IfSome, IsErrAnd, IsOk, IsSome, IsTrue, None, OnOk, Some};
+ghost use Rattle.std.specs.Io.KnownBytes.{Appends};
 ghost use Rattle.shop_files.specs.Known.{known_of};
 ghost use Rattle.shop_files.specs.Protected.{IsProtected};
 ghost use Rattle.std.specs.IoError.{error_kind};
 
 use crate::target::{Standing, Target};
-use std::alloc::Allocator;
-use std::fs::{self, OpenFile, OpenOptions};
-use std::io::{self, ErrorKind, Write};
-use std::os::unix::fs::{MetadataExt, OpenOptionsExt, lchown};
-use std::rt::Files;
+use crate::whole::write_whole;
+use shop_host::Host;
+use std::io::{self, ErrorKind};
+use std::os::unix::fs::PermissionsExt;
 
 /// How many names are tried for a file aside.
 const MOST_NAMES: u32 = 100;
@@ -29,20 +27,16 @@ pub enum Placing {
 }
 
 /// A file that is written beside the one whose place it takes. It is made when its first bytes are written.
-pub struct AsideFile<'a, R: Files, A: Allocator> {
-    rt: &'a R,
-    alloc: A,
-    target: &'a Target<A>,
+pub struct AsideFile<'a, H: Host> {
+    target: &'a Target,
     placing: Placing,
-    made: Option<(String<A>, R::File)>,
+    made: Option<(String, H::File)>,
     failure: Option<ErrorKind>,
 }
 
-impl<'a, R: Files, A: Allocator> Drop for AsideFile<'a, R, A> {
+impl<'a, H: Host> Drop for AsideFile<'a, H> {
     fn drop(self) {
         let AsideFile {
-            rt: _,
-            alloc: _,
             target: _,
             placing: _,
             made: _,
@@ -51,26 +45,20 @@ impl<'a, R: Files, A: Allocator> Drop for AsideFile<'a, R, A> {
     }
 }
 
-// How a file aside is made: to take the place of one that stands there, or as any new file.
-fn options_for(standing: Option<&Standing>) -> OpenOptions {
-    let mut options = OpenOptions::new();
-    options.write(true).create_new(true);
-    if standing.is_some() {
-        options.mode(OWN_MODE);
-    }
-    options
+// The access mode with which a file aside is made, to take the place of one that stands there or as any new file.
+fn mode_for(standing: Option<&Standing>) -> Option<u32> {
+    standing.map(|_| OWN_MODE)
 }
 
 // Makes a new file beside another one, under the first name that is free.
-fn create_beside<R: Files, A: Allocator + Copy>(
-    rt: &R,
-    alloc: A,
+fn create_beside<H: Host>(
+    host: &mut H,
     target: &str,
-    options: &OpenOptions,
-) -> io::Result<(String<A>, R::File)> {
+    mode: Option<u32>,
+) -> io::Result<(String, H::File)> {
     for number in 0..MOST_NAMES {
-        let path = format!(in alloc; "{target}.{number}.new")?;
-        match options.open(rt, path.as_str()) {
+        let path = format!(in host.alloc(); "{target}.{number}.new")?;
+        match host.make(path.as_str(), mode) {
             Ok(file) => return Ok((path, file)),
             Err(error) if error.kind() == ErrorKind::AlreadyExists => {}
             Err(error) => return Err(error),
@@ -80,31 +68,31 @@ fn create_beside<R: Files, A: Allocator + Copy>(
 }
 
 // Gives a new file the owner and the group of another, as far as the caller may give them.
-fn keep_owner<R: Files>(rt: &R, path: &str, file: &R::File, standing: &Standing) {
-    let Ok(made) = file.metadata() else {
+fn keep_owner<H: Host>(host: &mut H, path: &str, file: &H::File, standing: &Standing) {
+    let Ok(made) = host.found_open(file) else {
         return;
     };
-    if made.gid() != standing.group {
-        let _ = lchown(rt, path, None, Some(standing.group));
+    if made.group != standing.group {
+        let _ = host.set_owner(path, None, Some(standing.group));
     }
-    if made.uid() != standing.owner {
-        let _ = lchown(rt, path, Some(standing.owner), None);
+    if made.owner != standing.owner {
+        let _ = host.set_owner(path, Some(standing.owner), None);
     }
 }
 
 // Gives a new file the owner, the group and the access mode of the one that stands there, if one does. The mode comes
 // last: a change of the owner may take bits of it away.
-fn keep_standing<R: Files>(
-    rt: &R,
+fn keep_standing<H: Host>(
+    host: &mut H,
     path: &str,
-    file: &R::File,
+    file: &H::File,
     standing: Option<&Standing>,
 ) -> io::Result<()> {
     let Some(standing) = standing else {
         return Ok(());
     };
-    keep_owner(rt, path, file, standing);
-    file.set_permissions(standing.mode.clone()?)
+    keep_owner(host, path, file, standing);
+    host.set_mode(file, standing.mode.mode())
 }
 
 // Whether a call failed since the file system knows no second name of a file.
@@ -113,40 +101,38 @@ fn knows_no_links(kind: ErrorKind) -> bool {
 }
 
 // Gives a file aside its place by making an empty file there first, which fails where something stands.
-fn take_made_place<R: Files>(rt: &R, aside: &str, place: &str) -> io::Result<()> {
-    let file = options_for(None).open(rt, place)?;
+fn take_made_place<H: Host>(host: &mut H, aside: &str, place: &str) -> io::Result<()> {
+    let file = host.make(place, None)?;
     drop(file);
-    let taken = fs::rename(rt, aside, place);
+    let taken = host.rename(aside, place);
     if taken.is_err() {
-        let _removed = fs::remove_file(rt, place);
+        let _removed = host.remove(place);
     }
     taken
 }
 
 // Gives a file aside its place, at which nothing may stand: its second name there fails where something does.
-fn take_free_place<R: Files>(rt: &R, aside: &str, place: &str) -> io::Result<()> {
-    match rt.hard_link(aside, place) {
+fn take_free_place<H: Host>(host: &mut H, aside: &str, place: &str) -> io::Result<()> {
+    match host.link(aside, place) {
         Ok(()) => {
-            let _removed = fs::remove_file(rt, aside);
+            let _removed = host.remove(aside);
             Ok(())
         }
-        Err(error) if knows_no_links(error.kind()) => take_made_place(rt, aside, place),
+        Err(error) if knows_no_links(error.kind()) => take_made_place(host, aside, place),
         Err(error) => Err(error),
     }
 }
 
-impl<'a, R: Files, A: Allocator + Copy> AsideFile<'a, R, A> {
+impl<'a, H: Host> AsideFile<'a, H> {
     /// A file that is to take a target's place, with the access mode of the one that stands there, without set-id bits,
     /// and with its owner and group where the caller may give them. Nothing is made yet; of a target that is no place,
     /// each write will fail.
-    pub fn new(rt: &'a R, alloc: A, target: &'a Target<A>, placing: Placing) -> AsideFile<'a, R, A>
+    pub fn new(target: &'a Target, placing: Placing) -> AsideFile<'a, H>
         ensures target { result.target.now ≡ target.now }
         ensures placing { result.placing ≡ placing }
         ensures untouched { (result.made ≡ None) × (result.failure ≡ None) }
     {
         AsideFile {
-            rt,
-            alloc,
             target,
             placing,
             made: None,
@@ -181,7 +167,7 @@ impl<'a, R: Files, A: Allocator + Copy> AsideFile<'a, R, A> {
     ///
     /// # Errors
     /// A call that failed before, or what the file system answers.
-    pub fn flush_to_disk(&mut self) -> io::Result<()>
+    pub fn flush_to_disk(&mut self, host: &mut H) -> io::Result<()>
         ensures failed { IfErr result (λ error. self.new.failure ≡ Some (error_kind error)) }
         ensures done { OnOk result ((self.old.failure ≡ None) × (self.new ≡ self.old)) }
         ensures kept { IfSome self.old.failure (λ kind. self.new.failure ≡ Some kind) }
@@ -191,7 +177,7 @@ impl<'a, R: Files, A: Allocator + Copy> AsideFile<'a, R, A> {
             return Err(io::Error::from(kind));
         }
         let flushed = match &self.made {
-            Some((_, file)) => file.sync_all(),
+            Some((_, file)) => host.flush(file),
             None => Ok(()),
         };
         if let Err(error) = &flushed {
@@ -204,17 +190,15 @@ impl<'a, R: Files, A: Allocator + Copy> AsideFile<'a, R, A> {
     ///
     /// # Errors
     /// A call that failed before, or what the file system answers; what stood at the place then stands.
-    pub fn take_place(self) -> io::Result<()>
+    pub fn take_place(self, host: &mut H) -> io::Result<()>
         ensures failed { IfSome self.entry.failure (λ kind. IsErrAnd result (λ error. error_kind error ≡ kind)) }
         ensures empty { self.entry.made ≡ None → self.entry.failure ≡ None → IsOk result }
     {
         if let Some(kind) = self.failure {
-            self.discard();
+            self.discard(host);
             return Err(io::Error::from(kind));
         }
         let AsideFile {
-            rt,
-            alloc: _,
             target,
             placing,
             made,
@@ -225,20 +209,18 @@ impl<'a, R: Files, A: Allocator + Copy> AsideFile<'a, R, A> {
         };
         drop(file);
         let taken = match placing {
-            Placing::Over => fs::rename(rt, path.as_str(), place.path.as_str()),
-            Placing::Free => take_free_place(rt, path.as_str(), place.path.as_str()),
+            Placing::Over => host.rename(path.as_str(), place.path.as_str()),
+            Placing::Free => take_free_place(host, path.as_str(), place.path.as_str()),
         };
         if taken.is_err() {
-            let _removed = fs::remove_file(rt, path.as_str());
+            let _removed = host.remove(path.as_str());
         }
         taken
     }
 
     /// Removes the file aside.
-    pub fn discard(self) {
+    pub fn discard(self, host: &mut H) {
         let AsideFile {
-            rt,
-            alloc: _,
             target: _,
             placing: _,
             made,
@@ -246,7 +228,7 @@ impl<'a, R: Files, A: Allocator + Copy> AsideFile<'a, R, A> {
         } = self;
         if let Some((path, file)) = made {
             drop(file);
-            let _removed = fs::remove_file(rt, path.as_str());
+            let _removed = host.remove(path.as_str());
         }
     }
 
@@ -255,7 +237,7 @@ impl<'a, R: Files, A: Allocator + Copy> AsideFile<'a, R, A> {
     /// # Errors
     /// A call that failed before, `PermissionDenied` where it is to take the place of a file that no one may write, or
     /// what the file system answers; then each write will fail.
-    pub fn open(&mut self) -> io::Result<()>
+    pub fn open(&mut self, host: &mut H) -> io::Result<()>
         ensures failed { IfErr result (λ error. self.new.failure ≡ Some (error_kind error)) }
         ensures made { OnOk result (IsSome self.new.made × (self.new.failure ≡ None)) }
         ensures kept { IfSome self.old.failure (λ kind. self.new.failure ≡ Some kind) }
@@ -266,15 +248,36 @@ impl<'a, R: Files, A: Allocator + Copy> AsideFile<'a, R, A> {
         if let Some(kind) = self.failure {
             return Err(io::Error::from(kind));
         }
-        let made = self.make();
+        let made = self.make(host);
         if let Err(error) = &made {
             self.failure = Some(error.kind());
         }
         made
     }
 
+    /// Makes the file aside, if it is not there yet, and writes all of these bytes behind what it has.
+    ///
+    /// # Errors
+    /// `PermissionDenied` where it is to take the place of a file that no one may write, or what the file system
+    /// answers; it is kept why a write failed.
+    pub fn put(&mut self, host: &mut H, bytes: &[u8]) -> io::Result<()>
+        ensures bytes { OnOk result
+            (Appends (known_of H.written self.old.made) (known_of H.written self.new.made) bytes.now) }
+        ensures failed { IfErr result (λ error. self.new.failure ≡ Some (error_kind error)) }
+        ensures made { OnOk result (IsSome self.new.made × (self.new.failure ≡ self.old.failure)) }
+        ensures kept { IsSome self.old.failure → IsSome self.new.failure }
+        ensures protected { IsProtected self.old.target.now → self.old.made ≡ None → (self.new.made ≡ None)
+            × (self.new.failure ≡ Some ErrorKind.PermissionDenied) }
+    {
+        let written = self.write(host, bytes);
+        if let Err(error) = &written {
+            self.failure = Some(error.kind());
+        }
+        written
+    }
+
     // Makes the file aside, if it is not there yet, and not for the place of a file that no one may write.
-    fn make(&mut self) -> io::Result<()>
+    fn make(&mut self, host: &mut H) -> io::Result<()>
         ensures made { OnOk result (IsSome self.new.made) }
         ensures once { IsSome self.old.made → (self.new ≡ self.old) × IsOk result }
         ensures failure { self.new.failure ≡ self.old.failure }
@@ -291,59 +294,25 @@ impl<'a, R: Files, A: Allocator + Copy> AsideFile<'a, R, A> {
             return Err(io::Error::from(ErrorKind::NotFound));
         };
         let standing = place.standing.as_ref();
-        let options = options_for(standing);
-        let (path, file) = create_beside(self.rt, self.alloc, place.path.as_str(), &options)?;
-        let kept = keep_standing(self.rt, path.as_str(), &file, standing);
+        let (path, file) = create_beside(host, place.path.as_str(), mode_for(standing))?;
+        let kept = keep_standing(host, path.as_str(), &file, standing);
         self.made = Some((path, file));
         kept
     }
 
     // Writes bytes to the file aside.
-    fn put(&mut self, bytes: &[u8]) -> io::Result<usize>
-        ensures bound { WritesAtMost result bytes.now }
-        ensures bytes { WriteAppends
-            (known_of R.File.contents self.old.made) (known_of R.File.contents self.new.made) result bytes.now }
+    fn write(&mut self, host: &mut H, bytes: &[u8]) -> io::Result<()>
+        ensures bytes { OnOk result
+            (Appends (known_of H.written self.old.made) (known_of H.written self.new.made) bytes.now) }
         ensures made { OnOk result (IsSome self.new.made) }
         ensures failure { self.new.failure ≡ self.old.failure }
         ensures protected { IsProtected self.old.target.now → self.old.made ≡ None → (self.new.made ≡ None)
             × IsErrAnd result (λ error. error_kind error ≡ ErrorKind.PermissionDenied) }
     {
-        self.make()?;
+        self.make(host)?;
         match &mut self.made {
-            Some((_, file)) => file.write(bytes),
+            Some((_, file)) => write_whole(host, file, bytes),
             None => Err(io::Error::from(ErrorKind::Other)),
-        }
-    }
-}
-
-impl<R: Files, A: Allocator + Copy> Write for AsideFile<'_, R, A> {
-    ghost contents = { λ file. known_of R.File.contents file.made };
-
-    fn write(&mut self, buf: &[u8]) -> io::Result<usize>
-        ensures bound { WritesAtMost result buf.now }
-        ensures bytes { WriteAppends
-            (known_of R.File.contents self.old.made) (known_of R.File.contents self.new.made) result buf.now }
-        ensures failed { IfErr result (λ error.
-            error_kind error ≢ ErrorKind.Interrupted → self.new.failure ≡ Some (error_kind error)) }
-        ensures made { OnOk result (IsSome self.new.made × (self.new.failure ≡ self.old.failure)) }
-        ensures kept { IsSome self.old.failure → IsSome self.new.failure }
-        ensures protected { IsProtected self.old.target.now → self.old.made ≡ None → (self.new.made ≡ None)
-            × (self.new.failure ≡ Some ErrorKind.PermissionDenied) }
-    {
-        let written = self.put(buf);
-        match &written {
-            Err(error) if error.kind() != ErrorKind::Interrupted => {
-                self.failure = Some(error.kind());
-            }
-            _ => {}
-        }
-        written
-    }
-
-    fn flush(&mut self) -> io::Result<()> {
-        match &mut self.made {
-            Some((_, file)) => file.flush(),
-            None => Ok(()),
         }
     }
 }

@@ -1,35 +1,21 @@
-// The bytes of the files that a job reads.
+// The bytes of the files that a job reads beside its image.
 ghost use Rattle.std.specs.Prelude.{◌≡◌, [], IfErr, IfOk};
-ghost use Rattle.shop_jobs.specs.Input.{Nowhere, beside_view, source_view};
+ghost use Rattle.shop_jobs.specs.Input.{IsRead, IsReadBeside, beside_view, source_view};
 ghost use Rattle.shop_replies.specs.Reading.{IsReadFailure};
-ghost use Rattle.shop_files.specs.Beside.{IsRead, IsReadBeside};
 
-use crate::{ImageUse, OpenImage};
+use shop_host::{Host, Input, Readable, read_file};
 use shop_jobs::{Beside, Source};
-use shop_replies::{Failure, most_beside};
-
-// The bytes of the file at a path, up to one past so many. Its lock is held until they are read.
-fn front_of_file(rt: &HostRuntime, path: &str, most: u32) -> Result<Vec<u8>, Failure>
-    ensures { IfErr result IsReadFailure }
-{
-    match OpenImage::open(rt, path, ImageUse::Read) {
-        Ok(mut file) => file.bytes(rt, most),
-        Err(_) => Err(Failure::Input),
-    }
-}
+use shop_replies::{Failure, most_beside, read_front};
 
 // The bytes of another image, up to one past so many; none where there is none.
-fn front_of_image(rt: &HostRuntime, source: &Source, most: u32) -> Result<Vec<u8>, Failure>
+fn front_of_image<H: Host>(host: &mut H, source: &Source, most: u32) -> Result<Vec<u8>, Failure>
     ensures none { ¬ IsRead (source_view source.now) → IfOk result (λ bytes. bytes.items ≡ []) }
     ensures failed { IfErr result (λ failure. IsRead (source_view source.now) × IsReadFailure failure) }
 {
     match source {
-        Source::Nothing => Ok(Vec::new(rt.alloc())),
-        Source::StandardInput => {
-            let mut input = OpenImage::StandardInput;
-            input.bytes(rt, most)
-        }
-        Source::File(path) => front_of_file(rt, path.as_str(), most),
+        Source::Nothing => Ok(Vec::new(host.alloc())),
+        Source::StandardInput => read_front(host.alloc(), &mut Input { host }, most),
+        Source::File(path) => read_file(host, path.as_str(), Readable::Any, most),
     }
 }
 
@@ -38,14 +24,14 @@ fn front_of_image(rt: &HostRuntime, source: &Source, most: u32) -> Result<Vec<u8
 ///
 /// # Errors
 /// `Input` where it can't be opened or read or another holds its lock, `Memory` where there is no room for it.
-pub fn extra_bytes(rt: &HostRuntime, beside: &Beside) -> Result<Vec<u8>, Failure>
+pub fn extra_bytes<H: Host>(host: &mut H, beside: &Beside) -> Result<Vec<u8>, Failure>
     ensures none { ¬ IsReadBeside (beside_view beside.now) → IfOk result (λ bytes. bytes.items ≡ []) }
     ensures failed { IfErr result (λ failure. IsReadBeside (beside_view beside.now) × IsReadFailure failure) }
 {
     let most = most_beside(beside);
     match beside {
-        Beside::File(path) => front_of_file(rt, path.as_str(), most),
-        Beside::Image { source, .. } => front_of_image(rt, source, most),
-        Beside::Nothing | Beside::Folder(_) => Ok(Vec::new(rt.alloc())),
+        Beside::File(path) => read_file(host, path.as_str(), Readable::Any, most),
+        Beside::Image { source, .. } => front_of_image(host, source, most),
+        Beside::Nothing | Beside::Folder(_) => Ok(Vec::new(host.alloc())),
     }
 }

@@ -10,11 +10,11 @@ ghost use Rattle.shop_files.specs.declared.clash.Clash.{Clash as AClash};
 use crate::clash::{Clash, Roles};
 use crate::identity::{FileIdentity, is_same_file};
 use crate::image::ImageUse;
-use crate::{Node, Output, Placing, Target, target_of};
+use crate::{Output, Placing, Target, target_of};
+use shop_host::{Host, Node};
 use shop_jobs::{Beside, Job, Source};
 use std::alloc::Global;
-use std::io::ErrorKind;
-use std::{fs, io};
+use std::io::{self, ErrorKind};
 
 /// By which path the system shows standard input.
 const STANDARD_INPUT: &str = "/dev/stdin";
@@ -29,12 +29,12 @@ const NONE: FileIdentity<'static> = FileIdentity {
 #[derive(Drop)]
 struct NamedFile {
     path: Option<String>,
-    target: Target<Global>,
+    target: Target,
 }
 
 impl NamedFile {
     // Looks where a path leads; one that is left out leads nowhere.
-    fn of(rt: &HostRuntime, path: Option<&str>) -> io::Result<NamedFile>
+    fn of<H: Host>(host: &mut H, path: Option<&str>) -> io::Result<NamedFile>
         ensures named { IfOk result (IsNamed (option_map (λ s. s.now) path.entry)) }
         ensures failed { IfErr result (λ error. error_kind error ≡ ErrorKind.OutOfMemory) }
     {
@@ -44,9 +44,9 @@ impl NamedFile {
                 target: Target::Nowhere,
             });
         };
-        let target = target_of(rt, rt.alloc(), path)?;
+        let target = target_of(host, path)?;
         Ok(NamedFile {
-            path: Some(path.to_string(rt.alloc())?),
+            path: Some(path.to_string(host.alloc())?),
             target,
         })
     }
@@ -68,19 +68,19 @@ impl NamedFile {
     }
 
     // The file to be written there, if there is a path, which may take such a place.
-    fn output<'b>(&'b self, rt: &'b HostRuntime, placing: Placing) -> Output<'b>
+    fn output<H: Host>(&self, alloc: Global, placing: Placing) -> Output<'_, H>
         ensures { IsOutputOf (option_map string_bytes self.now.path) self.now.target placing result }
     {
         match &self.path {
-            Some(path) => Output::new(rt, path.as_str(), &self.target, placing),
+            Some(path) => Output::new(alloc, path.as_str(), &self.target, placing),
             None => Output::Nothing,
         }
     }
 
     // Whether something stands at the path itself, a link too.
-    fn is_taken(&self, rt: &HostRuntime) -> bool {
+    fn is_taken<H: Host>(&self, host: &mut H) -> bool {
         match &self.path {
-            Some(path) => fs::symlink_metadata(rt, path.as_str()).is_ok(),
+            Some(path) => host.found_itself(path.as_str()).is_ok(),
             None => false,
         }
     }
@@ -124,21 +124,15 @@ fn placing_of(output: &shop_jobs::Target) -> Placing
     }
 }
 
-// A path with its links followed.
-fn followed(rt: &HostRuntime, path: &str) -> io::Result<String> {
-    let own = fs::canonicalize(rt, path)?;
-    Ok(own.as_str().to_string(rt.alloc())?)
-}
-
 // The path of the folder whose files are added, with links followed; `None` where it leads to nothing.
-fn added_folder(rt: &HostRuntime, beside: &Beside) -> io::Result<Option<String>>
+fn added_folder<H: Host>(host: &mut H, beside: &Beside) -> io::Result<Option<String>>
     ensures none { folder_of (beside_view beside.now) ≡ None → IfOk result (λ folder. folder ≡ None) }
     ensures failed { IfErr result (λ error. error_kind error ≡ ErrorKind.OutOfMemory) }
 {
     let Some(path) = beside.folder() else {
         return Ok(None);
     };
-    match followed(rt, path) {
+    match host.own_path(path) {
         Ok(folder) => Ok(Some(folder)),
         Err(error) if error.kind() == ErrorKind::OutOfMemory => Err(error),
         Err(_) => Ok(None),
@@ -146,9 +140,9 @@ fn added_folder(rt: &HostRuntime, beside: &Beside) -> io::Result<Option<String>>
 }
 
 // Which file standard input is, if it is a regular one and the system shows it.
-fn input_node(rt: &HostRuntime) -> Option<Node> {
-    let found = fs::metadata(rt, STANDARD_INPUT).ok()?;
-    found.is_file().then_some(Node::of(&found))
+fn input_node<H: Host>(host: &mut H) -> Option<Node> {
+    let found = host.found(STANDARD_INPUT).ok()?;
+    found.is_file().then_some(found.node)
 }
 
 impl JobFiles {
@@ -156,22 +150,22 @@ impl JobFiles {
     ///
     /// # Errors
     /// Want of memory.
-    pub fn of(rt: &HostRuntime, job: &Job) -> io::Result<JobFiles>
+    pub fn of<H: Host>(host: &mut H, job: &Job) -> io::Result<JobFiles>
         ensures named { IfOk result (NamesFiles (job_view job.now)) }
         ensures failed { IfErr result (λ error. error_kind error ≡ ErrorKind.OutOfMemory) }
     {
         let input = match &job.input.image {
-            Source::StandardInput => input_node(rt),
+            Source::StandardInput => input_node(host),
             Source::Nothing | Source::File(_) => None,
         };
         Ok(JobFiles {
-            image: NamedFile::of(rt, job.input.image.path())?,
+            image: NamedFile::of(host, job.input.image.path())?,
             input,
-            from: NamedFile::of(rt, job.input.beside.path())?,
-            folder: added_folder(rt, &job.input.beside)?,
-            out: NamedFile::of(rt, job.output.file())?,
+            from: NamedFile::of(host, job.input.beside.path())?,
+            folder: added_folder(host, &job.input.beside)?,
+            out: NamedFile::of(host, job.output.file())?,
             placing: placing_of(&job.output),
-            certificate: NamedFile::of(rt, job.certificate.as_deref())?,
+            certificate: NamedFile::of(host, job.certificate.as_deref())?,
         })
     }
 
@@ -219,25 +213,25 @@ impl JobFiles {
     }
 
     /// Whether the output file is to be a new one, and something stands at its path, a link too.
-    pub fn has_no_free_place(&self, rt: &HostRuntime) -> bool
+    pub fn has_no_free_place<H: Host>(&self, host: &mut H) -> bool
         ensures { IsTrue result → self.now.placing ≡ Placing.Free }
     {
-        self.placing == Placing::Free && self.out.is_taken(rt)
+        self.placing == Placing::Free && self.out.is_taken(host)
     }
 
     /// The output file of a job that has one, for its image or for the bytes of a file.
-    pub fn output<'b>(&'b self, rt: &'b HostRuntime) -> Output<'b>
+    pub fn output<H: Host>(&self, alloc: Global) -> Output<'_, H>
         ensures { IsOutputOf
             (option_map string_bytes self.now.out.path) self.now.out.target self.now.placing result }
     {
-        self.out.output(rt, self.placing)
+        self.out.output(alloc, self.placing)
     }
 
     /// The file of the certificate of a job that writes one.
-    pub fn certificate_output<'b>(&'b self, rt: &'b HostRuntime) -> Output<'b>
+    pub fn certificate_output<H: Host>(&self, alloc: Global) -> Output<'_, H>
         ensures { IsOutputOf
             (option_map string_bytes self.now.certificate.path) self.now.certificate.target Placing.Over result }
     {
-        self.certificate.output(rt, Placing::Over)
+        self.certificate.output(alloc, Placing::Over)
     }
 }

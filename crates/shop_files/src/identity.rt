@@ -2,7 +2,7 @@
 ghost use Rattle.std.specs.Prelude.{◌≡◌, ◌↔◌, IsTrue, option_map};
 ghost use Rattle.shop_files.specs.Roles.{AreOneFile, ShareSome, identity_view};
 
-use crate::Node;
+use shop_host::Node;
 
 /// Which file a role of a job has: by its path, with folders resolved and links followed, and by its device and number.
 /// A file that is not there yet has the path alone, standard input the number alone, and what is no regular file

@@ -1,22 +1,19 @@
 // A file that a job writes.
 ghost use Rattle.std.specs.Prelude.{
   ◌≡◌,
-  ◌≢◌,
   ◌↔◌,
   false,
   IfErr,
   IfSome,
   IsErrAnd,
   IsOk,
-  IsSome,
   IsTrue,
   None,
   OnOk,
   Some,
   [],
 };
-ghost use Rattle.std.specs.Io.{WritesAtMost};
-ghost use Rattle.std.specs.Io.KnownBytes.{Appends, WriteAppends};
+ghost use Rattle.std.specs.Io.KnownBytes.{Appends};
 ghost use Rattle.std.specs.IoError.{error_kind};
 ghost use Rattle.shop_files.specs.Protected.{IsKept};
 ghost use Rattle.shop_files.specs.Written.{
@@ -26,20 +23,19 @@ ghost use Rattle.shop_files.specs.Written.{
   IsStraight,
   IsUntouched,
   failure_of,
-  held_bytes,
   still_held,
 };
 
+use crate::whole::write_whole;
 use crate::{AsideFile, Placing, Target};
+use shop_host::Host;
 use std::alloc::Global;
-use std::fs::File;
-use std::io::{self, ErrorKind, Write};
+use std::io::{self, ErrorKind};
 
 /// A path that is written straight, as a pipe. Its bytes are held until they are all there, and on standard output
 /// until the text is told.
 #[derive(Drop)]
 pub struct HeldFile<'a> {
-    rt: &'a HostRuntime,
     path: &'a str,
     bytes: Vec<u8>,
     /// The bytes come behind the text.
@@ -49,24 +45,23 @@ pub struct HeldFile<'a> {
 
 /// A file that a job writes. What stood at its path stands until it takes its place.
 #[derive(Drop)]
-pub enum Output<'a> {
+pub enum Output<'a, H: Host> {
     /// No file is asked for.
     Nothing,
     /// A regular file: a new one is written aside.
-    Aside(AsideFile<'a, HostRuntime, Global>),
+    Aside(AsideFile<'a, H>),
     Held(HeldFile<'a>),
 }
 
 impl<'a> HeldFile<'a> {
     // The path, of which nothing is held yet.
-    fn new(rt: &'a HostRuntime, path: &'a str, follows_text: bool) -> HeldFile<'a>
+    fn new(alloc: Global, path: &'a str, follows_text: bool) -> HeldFile<'a>
         ensures path { (result.path.now ≡ path.now) × (result.follows_text ≡ follows_text) }
         ensures untouched { (result.bytes.items ≡ []) × (result.failure ≡ None) }
     {
         HeldFile {
-            rt,
             path,
-            bytes: Vec::new(rt.alloc()),
+            bytes: Vec::new(alloc),
             follows_text,
             failure: None,
         }
@@ -84,17 +79,18 @@ impl<'a> HeldFile<'a> {
     }
 
     // Writes what is held to the path, if anything is.
-    fn write_out(&self) -> io::Result<()>
+    fn write_out<H: Host>(&self, host: &mut H) -> io::Result<()>
         ensures { self.now.bytes.items ≡ [] → IsOk result }
     {
         if self.bytes.is_empty() {
             return Ok(());
         }
-        File::create(self.rt, self.path)?.write_all(self.bytes.as_slice())
+        let mut file = host.open_empty(self.path)?;
+        write_whole(host, &mut file, self.bytes.as_slice())
     }
 
     // Writes what is held, but for what follows the text.
-    fn write_straight(&mut self) -> io::Result<()>
+    fn write_straight<H: Host>(&mut self, host: &mut H) -> io::Result<()>
         ensures failed { IfErr result (λ error. self.new.failure ≡ Some (error_kind error)) }
         ensures done { OnOk result ((self.new.failure ≡ self.old.failure)
             × (self.new.bytes.items ≡ still_held self.old)) }
@@ -102,7 +98,7 @@ impl<'a> HeldFile<'a> {
         if self.follows_text {
             return Ok(());
         }
-        let written = self.write_out();
+        let written = self.write_out(host);
         match &written {
             Ok(()) => self.bytes.clear(),
             Err(error) => self.failure = Some(error.kind()),
@@ -111,21 +107,16 @@ impl<'a> HeldFile<'a> {
     }
 }
 
-impl<'a> Output<'a> {
+impl<'a, H: Host> Output<'a, H> {
     /// The file of a path that leads to a target, which may take such a place.
-    pub fn new(
-        rt: &'a HostRuntime,
-        path: &'a str,
-        target: &'a Target<Global>,
-        placing: Placing,
-    ) -> Output<'a>
+    pub fn new(alloc: Global, path: &'a str, target: &'a Target, placing: Placing) -> Output<'a, H>
         ensures goes { GoesTo path.now target.now placing result }
         ensures untouched { IsUntouched result }
     {
         match target {
-            Target::Straight => Output::Held(HeldFile::new(rt, path, false)),
-            Target::StandardOutput => Output::Held(HeldFile::new(rt, path, true)),
-            target => Output::Aside(AsideFile::new(rt, rt.alloc(), target, placing)),
+            Target::Straight => Output::Held(HeldFile::new(alloc, path, false)),
+            Target::StandardOutput => Output::Held(HeldFile::new(alloc, path, true)),
+            target => Output::Aside(AsideFile::new(target, placing)),
         }
     }
 
@@ -134,7 +125,7 @@ impl<'a> Output<'a> {
     /// # Errors
     /// `PermissionDenied` where it is to take the place of a file that no one may write, or what the file system
     /// answers.
-    pub fn open(&mut self) -> io::Result<()>
+    pub fn open(&mut self, host: &mut H) -> io::Result<()>
         ensures failed { IfErr result (λ error. failure_of self.new ≡ Some (error_kind error)) }
         ensures opened { OnOk result (failure_of self.new ≡ failure_of self.old) }
         ensures kept { IfSome (failure_of self.old) (λ kind. failure_of self.new ≡ Some kind) }
@@ -142,7 +133,7 @@ impl<'a> Output<'a> {
         ensures straight { IsStraight self.old → self.new ≡ self.old }
     {
         match self {
-            Output::Aside(file) => file.open(),
+            Output::Aside(file) => file.open(host),
             Output::Nothing | Output::Held(_) => Ok(()),
         }
     }
@@ -170,7 +161,7 @@ impl<'a> Output<'a> {
     }
 
     /// Writes bytes to the last. Where that fails, the file can't be put onto the disk and does not take its place.
-    pub fn put(&mut self, bytes: &[u8])
+    pub fn put(&mut self, host: &mut H, bytes: &[u8])
         ensures whole { failure_of self.new ≡ None → HasPut bytes.now self.old self.new }
         ensures kept { IfSome (failure_of self.old) (λ kind. failure_of self.new ≡ Some kind) }
         ensures straight { IsStraight self.old → IsStraight self.new }
@@ -181,9 +172,8 @@ impl<'a> Output<'a> {
         match self {
             Output::Nothing => {}
             Output::Aside(file) => {
-                if let Err(error) = file.write_all(bytes) {
-                    file.fail(error.kind());
-                }
+                // The file keeps why a write failed.
+                let _ = file.put(host, bytes);
             }
             Output::Held(file) => file.put(bytes),
         }
@@ -194,7 +184,7 @@ impl<'a> Output<'a> {
     ///
     /// # Errors
     /// A call that failed before, or what the file system answers.
-    pub fn flush_to_disk(&mut self) -> io::Result<()>
+    pub fn flush_to_disk(&mut self, host: &mut H) -> io::Result<()>
         ensures failed { IfErr result (λ error. failure_of self.new ≡ Some (error_kind error)) }
         ensures kept { IfSome (failure_of self.old) (λ kind. failure_of self.new ≡ Some kind) }
         ensures done { OnOk result (IsFlushed self.old self.new) }
@@ -204,8 +194,8 @@ impl<'a> Output<'a> {
         }
         match self {
             Output::Nothing => Ok(()),
-            Output::Aside(file) => file.flush_to_disk(),
-            Output::Held(file) => file.write_straight(),
+            Output::Aside(file) => file.flush_to_disk(host),
+            Output::Held(file) => file.write_straight(host),
         }
     }
 
@@ -213,57 +203,25 @@ impl<'a> Output<'a> {
     ///
     /// # Errors
     /// A call that failed before, or what the file system answers; what stood at a place then stands.
-    pub fn take_place(self) -> io::Result<()>
+    pub fn take_place(self, host: &mut H) -> io::Result<()>
         ensures failed { IfSome (failure_of self.entry) (λ kind. IsErrAnd result (λ error. error_kind error ≡ kind)) }
         ensures untouched { IsUntouched self.entry → IsOk result }
     {
         if let Some(kind) = self.failure() {
-            self.discard();
+            self.discard(host);
             return Err(io::Error::from(kind));
         }
         match self {
             Output::Nothing => Ok(()),
-            Output::Aside(file) => file.take_place(),
-            Output::Held(file) => file.write_out(),
+            Output::Aside(file) => file.take_place(host),
+            Output::Held(file) => file.write_out(host),
         }
     }
 
     /// Removes what was written aside.
-    pub fn discard(self) {
+    pub fn discard(self, host: &mut H) {
         if let Output::Aside(file) = self {
-            file.discard();
-        }
-    }
-}
-
-impl Write for Output<'_> {
-    ghost contents = { λ output. held_bytes output };
-
-    fn write(&mut self, buf: &[u8]) -> io::Result<usize>
-        ensures bound { WritesAtMost result buf.now }
-        ensures bytes { WriteAppends (held_bytes self.old) (held_bytes self.new) result buf.now }
-        ensures failed { IfErr result (λ error.
-            error_kind error ≢ ErrorKind.Interrupted → failure_of self.new ≡ Some (error_kind error)) }
-        ensures written { OnOk result (failure_of self.new ≡ failure_of self.old) }
-        ensures kept { IsSome (failure_of self.old) → IsSome (failure_of self.new) }
-    {
-        match self {
-            Output::Nothing => Ok(buf.len()),
-            Output::Aside(file) => file.write(buf),
-            Output::Held(file) => {
-                let written = file.bytes.write(buf);
-                if let Err(error) = &written {
-                    file.failure = Some(error.kind());
-                }
-                written
-            }
-        }
-    }
-
-    fn flush(&mut self) -> io::Result<()> {
-        match self {
-            Output::Aside(file) => file.flush(),
-            _ => Ok(()),
+            file.discard(host);
         }
     }
 }

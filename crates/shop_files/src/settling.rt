@@ -18,18 +18,18 @@ ghost use Rattle.shop_files.specs.Written.{IsFlushed, IsStraight, IsUntouched, f
 
 use crate::ending::{Ending, Unwritten};
 use crate::output::Output;
+use shop_host::Host;
 use shop_replies::{Failure, Reply, written};
-use std::alloc::Global;
 use std::io::{ErrorKind, Write};
 
 /// Ends a job by its reply: hands the image that it has to a file, and its certificate to another or none, and settles
 /// both. Where no file is asked for, the reply is told. A text that finds no room in memory is not told in part. A file
 /// that no one may write is not replaced by an image, and nothing is told then.
-pub fn end_by<T: Write>(
-    alloc: Global,
+pub fn end_by<H: Host, T: Write>(
+    host: &mut H,
     reply: Reply,
-    mut out: Output<'_>,
-    mut certificate: Output<'_>,
+    mut out: Output<'_, H>,
+    mut certificate: Output<'_, H>,
     text: &mut T,
 ) -> Ending
     ensures ending { IsReplyEnding reply result (T.contents text.old) (T.contents text.new) }
@@ -42,28 +42,35 @@ pub fn end_by<T: Write>(
         → IsCertificateUntold result (T.contents text.old) (T.contents text.new) }
 {
     if matches!(out, Output::Nothing) {
-        discard_both(out, certificate);
+        discard_both(host, out, certificate);
         return Ending::written(reply.tell(text));
     }
     if let Some(bytes) = reply.certificate() {
-        certificate.put(bytes);
+        certificate.put(host, bytes);
     }
     let Reply {
         status,
         told,
         image,
     } = reply;
-    match told.text(alloc) {
+    match told.text(host.alloc()) {
         Ok(told) => {
             if let Some(image) = image {
                 // An empty file is made too; where it can't be, the settling tells why.
-                let _ = out.open();
-                out.put(image.as_slice());
+                let _ = out.open(host);
+                out.put(host, image.as_slice());
             }
-            settle(out, certificate, status.number(), told.as_slice(), text)
+            settle(
+                host,
+                out,
+                certificate,
+                status.number(),
+                told.as_slice(),
+                text,
+            )
         }
         Err(_) => {
-            discard_both(out, certificate);
+            discard_both(host, out, certificate);
             Ending::written(Reply::failed(Failure::Memory).tell(text))
         }
     }
@@ -76,9 +83,10 @@ pub fn end_by<T: Write>(
 ///
 /// The certificate takes its place first. It tells the layout of the image that stood there before, so where the image
 /// can't take its own place then, it is good for the one that stands.
-pub fn settle<T: Write>(
-    mut out: Output<'_>,
-    mut certificate: Output<'_>,
+pub fn settle<H: Host, T: Write>(
+    host: &mut H,
+    mut out: Output<'_, H>,
+    mut certificate: Output<'_, H>,
     status: u8,
     told: &[u8],
     text: &mut T,
@@ -94,27 +102,28 @@ pub fn settle<T: Write>(
         → IsCertificateUntold result (T.contents text.old) (T.contents text.new) }
 {
     if out.is_empty() {
-        discard_both(out, certificate);
+        discard_both(host, out, certificate);
         return tell(status, told, text);
     }
-    if let Err((kind, unwritten)) = flush_both(&mut out, &mut certificate) {
-        discard_both(out, certificate);
+    if let Err((kind, unwritten)) = flush_both(host, &mut out, &mut certificate) {
+        discard_both(host, out, certificate);
         return tell_unflushed(kind, unwritten, text);
     }
     if written(told, status, text) != status {
-        discard_both(out, certificate);
+        discard_both(host, out, certificate);
         return Ending::stopped(Unwritten::Text);
     }
-    match take_both_places(out, certificate) {
+    match take_both_places(host, out, certificate) {
         Ok(()) => Ending::written(status),
         Err(unwritten) => Ending::stopped(unwritten),
     }
 }
 
 // Puts both files onto the disk, the certificate first, or answers which of them can't be, and why.
-fn flush_both(
-    out: &mut Output<'_>,
-    certificate: &mut Output<'_>,
+fn flush_both<H: Host>(
+    host: &mut H,
+    out: &mut Output<'_, H>,
+    certificate: &mut Output<'_, H>,
 ) -> Result<(), (ErrorKind, Unwritten)>
     ensures unwritten { IfErr result (λ why. IsOffDisk why.1) }
     ensures failed { IfSome (failure_of out.old) (λ kind.
@@ -124,10 +133,10 @@ fn flush_both(
     if let Some(kind) = out.failure() {
         return Err((kind, Unwritten::Image));
     }
-    if let Err(error) = certificate.flush_to_disk() {
+    if let Err(error) = certificate.flush_to_disk(host) {
         return Err((error.kind(), Unwritten::Certificate));
     }
-    match out.flush_to_disk() {
+    match out.flush_to_disk(host) {
         Ok(()) => Ok(()),
         Err(error) => Err((error.kind(), Unwritten::Image)),
     }
@@ -145,27 +154,31 @@ fn tell_unflushed<T: Write>(kind: ErrorKind, unwritten: Unwritten, text: &mut T)
 }
 
 // Puts both files into their places, or answers which of them can't be.
-fn take_both_places(out: Output<'_>, certificate: Output<'_>) -> Result<(), Unwritten>
+fn take_both_places<H: Host>(
+    host: &mut H,
+    out: Output<'_, H>,
+    certificate: Output<'_, H>,
+) -> Result<(), Unwritten>
     ensures failed { IfErr result IsOutOfPlace }
     ensures image { IsUntouched out.entry → IfErr result (λ unwritten. unwritten ≡ Unwritten.Certificate) }
     ensures certificate { IsUntouched certificate.entry → IfErr result (λ unwritten.
         unwritten ≢ Unwritten.Certificate) }
 {
     let is_alone = certificate.is_empty();
-    if certificate.take_place().is_err() {
-        out.discard();
+    if certificate.take_place(host).is_err() {
+        out.discard(host);
         return Err(Unwritten::Certificate);
     }
-    match out.take_place() {
+    match out.take_place(host) {
         Ok(()) => Ok(()),
         Err(_) if is_alone => Err(Unwritten::ImageAfterText),
         Err(_) => Err(Unwritten::ImageAfterCertificate),
     }
 }
 
-fn discard_both(out: Output<'_>, certificate: Output<'_>) {
-    out.discard();
-    certificate.discard();
+fn discard_both<H: Host>(host: &mut H, out: Output<'_, H>, certificate: Output<'_, H>) {
+    out.discard(host);
+    certificate.discard(host);
 }
 
 // Tells the text of a job that handed no image out.

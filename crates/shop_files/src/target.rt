@@ -3,11 +3,10 @@ ghost use Rattle.std.specs.Prelude.{◌≡◌, ◌↔◌, IfErr, IsTrue};
 ghost use Rattle.std.specs.IoError.{error_kind};
 ghost use Rattle.shop_files.specs.Protected.{IsProtected};
 
-use std::alloc::Allocator;
-use std::fs::{self, Metadata, Permissions};
+use shop_host::{Found, FoundKind, Host, Node};
+use std::fs::Permissions;
 use std::io::{self, ErrorKind};
-use std::os::unix::fs::{MetadataExt, PermissionsExt};
-use std::rt::Files;
+use std::os::unix::fs::PermissionsExt;
 
 /// By which path the system shows standard output.
 const STANDARD_OUTPUT: &str = "/dev/stdout";
@@ -17,13 +16,6 @@ const MOST_LINKS: u32 = 40;
 
 /// What of an access mode says who may read, write and run a file, without the set-id bits and the sticky one.
 const ACCESS_BITS: u32 = 0o777;
-
-/// A file by its device and its number there, whatever names it has.
-#[derive(Clone, Copy, PartialEq, Eq)]
-pub struct Node {
-    pub device: u64,
-    pub number: u64,
-}
 
 /// The file that stands at a place: which one it is, who may use it, and whose it is.
 #[derive(Clone, PartialEq, Eq, Drop)]
@@ -38,16 +30,16 @@ pub struct Standing {
 /// A place for a file: its own path, with folders resolved and links followed, and the file that stands there, if one
 /// does.
 #[derive(Drop)]
-pub struct Place<A: Allocator> {
-    pub path: String<A>,
+pub struct Place {
+    pub path: String,
     pub standing: Option<Standing>,
 }
 
 /// What a path leads to.
 #[derive(Drop)]
-pub enum Target<A: Allocator> {
+pub enum Target {
     /// A regular file, or none yet.
-    Place(Place<A>),
+    Place(Place),
     /// Something that is written straight: a pipe, a terminal.
     Straight,
     /// Such a thing that is standard output, where the text is told too.
@@ -56,28 +48,18 @@ pub enum Target<A: Allocator> {
     Nowhere,
 }
 
-impl Node {
-    /// The file of which this is known.
-    pub fn of(found: &Metadata) -> Node {
-        Node {
-            device: found.dev(),
-            number: found.ino(),
-        }
-    }
-}
-
 impl Standing {
-    fn of(found: &Metadata) -> Standing {
+    fn of(found: &Found) -> Standing {
         Standing {
-            node: Node::of(found),
-            mode: Permissions::from_mode(found.mode() & ACCESS_BITS),
-            owner: found.uid(),
-            group: found.gid(),
+            node: found.node,
+            mode: Permissions::from_mode(found.mode & ACCESS_BITS),
+            owner: found.owner,
+            group: found.group,
         }
     }
 }
 
-impl<A: Allocator> Target<A> {
+impl Target {
     /// Whether a file stands there that no one may write. It is weighed by its mode: the system lets some callers write
     /// it all the same.
     pub fn is_protected(&self) -> bool
@@ -97,53 +79,46 @@ impl<A: Allocator> Target<A> {
 ///
 /// # Errors
 /// Want of memory.
-pub fn target_of<R: Files, A: Allocator + Copy>(
-    rt: &R,
-    alloc: A,
-    path: &str,
-) -> io::Result<Target<A>>
+pub fn target_of<H: Host>(host: &mut H, path: &str) -> io::Result<Target>
     ensures { IfErr result (λ error. error_kind error ≡ ErrorKind.OutOfMemory) }
 {
-    match look(rt, alloc, path) {
+    match look(host, path) {
         Err(error) if error.kind() != ErrorKind::OutOfMemory => Ok(Target::Nowhere),
         looked => looked,
     }
 }
 
 // What a path leads to, or what the file system answers.
-fn look<R: Files, A: Allocator + Copy>(rt: &R, alloc: A, path: &str) -> io::Result<Target<A>> {
-    match fs::metadata(rt, path) {
-        Ok(found) if found.is_file() => {
-            let own = rt.canonicalize(alloc, path)?;
-            Ok(Target::Place(Place {
-                path: own.as_str().to_string(alloc)?,
-                standing: Some(Standing::of(&found)),
-            }))
-        }
-        Ok(found) if found.is_dir() => Ok(Target::Nowhere),
-        Ok(found) => Ok(straight(rt, &found)),
-        Err(error) if error.kind() == ErrorKind::NotFound => missing(rt, alloc, path),
+fn look<H: Host>(host: &mut H, path: &str) -> io::Result<Target> {
+    match host.found(path) {
+        Ok(found) if found.is_file() => Ok(Target::Place(Place {
+            path: host.own_path(path)?,
+            standing: Some(Standing::of(&found)),
+        })),
+        Ok(found) if found.is_folder() => Ok(Target::Nowhere),
+        Ok(found) => Ok(straight(host, &found)),
+        Err(error) if error.kind() == ErrorKind::NotFound => missing(host, path),
         Err(error) => Err(error),
     }
 }
 
 // Something that is written straight, which may be standard output.
-fn straight<R: Files, A: Allocator>(rt: &R, found: &Metadata) -> Target<A> {
-    match fs::metadata(rt, STANDARD_OUTPUT) {
-        Ok(told) if Node::of(&told) == Node::of(found) => Target::StandardOutput,
+fn straight<H: Host>(host: &mut H, found: &Found) -> Target {
+    match host.found(STANDARD_OUTPUT) {
+        Ok(told) if told.node == found.node => Target::StandardOutput,
         _ => Target::Straight,
     }
 }
 
 // A path at which nothing stands, or a link that leads to nothing: the new file is to stand where the last link leads.
-fn missing<R: Files, A: Allocator + Copy>(rt: &R, alloc: A, path: &str) -> io::Result<Target<A>> {
-    let mut path = path.to_string(alloc)?;
+fn missing<H: Host>(host: &mut H, path: &str) -> io::Result<Target> {
+    let mut path = path.to_string(host.alloc())?;
     for _ in 0..MOST_LINKS {
-        match fs::symlink_metadata(rt, path.as_str()) {
-            Ok(found) if found.is_symlink() => path = behind(rt, alloc, path.as_str())?,
+        match host.found_itself(path.as_str()) {
+            Ok(found) if found.kind == FoundKind::Link => path = behind(host, path.as_str())?,
             Ok(_) => return Ok(Target::Nowhere),
             Err(error) if error.kind() == ErrorKind::NotFound => {
-                return new_place(rt, alloc, path.as_str());
+                return new_place(host, path.as_str());
             }
             Err(error) => return Err(error),
         }
@@ -152,14 +127,13 @@ fn missing<R: Files, A: Allocator + Copy>(rt: &R, alloc: A, path: &str) -> io::R
 }
 
 // The path to which a link leads.
-fn behind<R: Files, A: Allocator + Copy>(rt: &R, alloc: A, link: &str) -> io::Result<String<A>> {
-    let to = rt.read_link(alloc, link)?;
-    let to = to.as_str();
-    let (folder, _) = split(link);
-    if to.starts_with('/') {
-        return Ok(to.to_string(alloc)?);
+fn behind<H: Host>(host: &mut H, link: &str) -> io::Result<String> {
+    let to = host.link_target(link)?;
+    if to.as_str().starts_with('/') {
+        return Ok(to);
     }
-    Ok(format!(in alloc; "{folder}/{to}")?)
+    let (folder, _) = split(link);
+    Ok(format!(in host.alloc(); "{folder}/{to}")?)
 }
 
 // The folder of a path and the name in it.
@@ -172,16 +146,16 @@ fn split(path: &str) -> (&str, &str) {
 }
 
 // The place of a file that is new.
-fn new_place<R: Files, A: Allocator + Copy>(rt: &R, alloc: A, path: &str) -> io::Result<Target<A>> {
+fn new_place<H: Host>(host: &mut H, path: &str) -> io::Result<Target> {
     let (folder, name) = split(path);
     if matches!(name, "" | "." | "..") {
         return Ok(Target::Nowhere);
     }
-    let folder = rt.canonicalize(alloc, folder)?;
+    let folder = host.own_path(folder)?;
     let folder = folder.as_str();
     let slash = if folder.ends_with('/') { "" } else { "/" };
     Ok(Target::Place(Place {
-        path: format!(in alloc; "{folder}{slash}{name}")?,
+        path: format!(in host.alloc(); "{folder}{slash}{name}")?,
         standing: None,
     }))
 }

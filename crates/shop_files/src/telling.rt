@@ -4,17 +4,18 @@ ghost use Rattle.shop_files.specs.Endings.{nothing_found};
 
 use crate::ending::Unwritten;
 use crate::foreign::{Foreign, foreign_of};
-use crate::image::{ImageUse, OpenImage};
 use crate::target_of;
 use crate::text_fault::text_fault;
 use crate::ways::{BrokenWay, broken_way, header_order, orders_apart};
 use a2_device::Order;
 use disk_container::MOST_BYTES;
 use explanations::{Explanation, FINDINGS, REFUSALS, explained};
+use shop_host::{Host, Notes, Readable, read_file};
 use shop_replies::most_bytes;
 use shown_text::escaped;
-use std::alloc::AllocError;
-use std::{fmt, fs, io};
+use std::alloc::{AllocError, Global};
+use std::fmt;
+use std::io::{self, Write};
 
 /// Why the file of an image is not opened.
 #[derive(Clone, Copy)]
@@ -183,33 +184,36 @@ fn wanted_length(order: Option<Order>) -> &'static str {
 }
 
 // Tells which image it is, and how many bytes were read of it.
-fn tell_image(rt: &HostRuntime, found: &Found) -> io::Result<()> {
+fn tell_image<H: Host>(host: &mut H, found: &Found) -> io::Result<()> {
     if found.path.is_none() {
         return Ok(());
     }
-    let name = shown(rt, &found.path)?;
+    let name = shown(host.alloc(), &found.path)?;
     let most = found.most.unwrap_or(most_bytes(Order::Prodos));
     match found.bytes {
         Some(bytes) if bytes > most => {
             let most = Grouped(most);
-            eprintln!(rt; "{name}: more than {most} bytes.")
+            writeln!(Notes { host }, "{name}: more than {most} bytes.")
         }
         Some(bytes) => {
             let bytes = Grouped(bytes);
-            eprintln!(rt; "{name}: {bytes} bytes were read.")
+            writeln!(Notes { host }, "{name}: {bytes} bytes were read.")
         }
-        None => eprintln!(rt; "{name}: not read."),
+        None => writeln!(Notes { host }, "{name}: not read."),
     }
 }
 
 // Tells of which file the first fault with these words is, if it is of one.
-fn tell_file(rt: &HostRuntime, found: &Found, front: &str) -> io::Result<()> {
+fn tell_file<H: Host>(host: &mut H, found: &Found, front: &str) -> io::Result<()> {
     let Some(lines) = &found.fault_files else {
         return Ok(());
     };
     for line in lines.as_str().lines() {
         if line.starts_with(front) {
-            eprintln!(rt; "The first of them, and behind its place the path of its file: {line}")?;
+            writeln!(
+                Notes { host },
+                "The first of them, and behind its place the path of its file: {line}"
+            )?;
         }
     }
     Ok(())
@@ -224,28 +228,24 @@ fn is_of_other(front: &str, told: &[u8]) -> bool {
 }
 
 // Which other kind of file stands at a path, if it is one that is known and can be read again.
-fn foreign_at(rt: &HostRuntime, path: &Option<String>) -> Option<Foreign> {
+fn foreign_at<H: Host>(host: &mut H, path: &Option<String>) -> Option<Foreign> {
     let path = path.as_ref()?.as_str();
-    if !fs::metadata(rt, path).ok()?.is_file() {
-        return None;
-    }
-    let mut image = OpenImage::open(rt, path, ImageUse::Read).ok()?;
-    let bytes = image.bytes(rt, MOST_BYTES as u32).ok()?;
+    let bytes = read_file(host, path, Readable::File, MOST_BYTES as u32).ok()?;
     foreign_of(bytes.as_slice())
 }
 
 // Tells which other kind of file the second of two images is, if it is one.
-fn tell_other_kind(rt: &HostRuntime, found: &Found) -> io::Result<()> {
-    let Some(foreign) = foreign_at(rt, &found.given) else {
+fn tell_other_kind<H: Host>(host: &mut H, found: &Found) -> io::Result<()> {
+    let Some(foreign) = foreign_at(host, &found.given) else {
         return Ok(());
     };
-    let name = shown(rt, &found.given)?;
+    let name = shown(host.alloc(), &found.given)?;
     let text = foreign.text();
-    eprintln!(rt; "{name}: {text}")
+    writeln!(Notes { host }, "{name}: {text}")
 }
 
 // Tells which other kind of file the image is, if it is one. A container that was opened is none.
-fn tell_kind(rt: &HostRuntime, found: &Found, told: &[u8]) -> io::Result<()> {
+fn tell_kind<H: Host>(host: &mut H, found: &Found, told: &[u8]) -> io::Result<()> {
     let Some(foreign) = found.foreign else {
         return Ok(());
     };
@@ -253,11 +253,11 @@ fn tell_kind(rt: &HostRuntime, found: &Found, told: &[u8]) -> io::Result<()> {
         return Ok(());
     }
     let text = foreign.text();
-    eprintln!(rt; "{text}")
+    writeln!(Notes { host }, "{text}")
 }
 
 // Tells of an image that is refused by these words how many bytes were wanted, and which other kind of file it is.
-fn tell_unusable(rt: &HostRuntime, found: &Found, front: &str, told: &[u8]) -> io::Result<()> {
+fn tell_unusable<H: Host>(host: &mut H, found: &Found, front: &str, told: &[u8]) -> io::Result<()> {
     if !UNUSABLE.iter().any(|words| *words == front) {
         return Ok(());
     }
@@ -265,22 +265,22 @@ fn tell_unusable(rt: &HostRuntime, found: &Found, front: &str, told: &[u8]) -> i
     if front == LENGTH {
         let order = if is_other { None } else { found.order };
         let wanted = wanted_length(order);
-        eprintln!(rt; "{wanted}")?;
+        writeln!(Notes { host }, "{wanted}")?;
     }
     if is_other {
-        tell_other_kind(rt, found)
+        tell_other_kind(host, found)
     } else {
-        tell_kind(rt, found, told)
+        tell_kind(host, found, told)
     }
 }
 
 // Tells which character of a text can't be taken, where these words refuse one.
-fn tell_text(rt: &HostRuntime, found: &Found, front: &str, told: &[u8]) -> io::Result<()> {
+fn tell_text<H: Host>(host: &mut H, found: &Found, front: &str, told: &[u8]) -> io::Result<()> {
     if front != TEXT {
         return Ok(());
     }
-    match text_fault(rt, &found.given, told)? {
-        Some(fault) => eprintln!(rt; "{fault}"),
+    match text_fault(host, &found.given, told)? {
+        Some(fault) => writeln!(Notes { host }, "{fault}"),
         None => Ok(()),
     }
 }
@@ -295,22 +295,22 @@ fn meaning_of(row: &Explanation, is_broken: bool) -> (&'static str, &'static str
 }
 
 // Tells what each of the words of a table means that begin a line of what was told.
-fn tell_rows(
-    rt: &HostRuntime,
+fn tell_rows<H: Host>(
+    host: &mut H,
     found: &Found,
     table: &[Explanation],
     told: &[u8],
     is_broken: bool,
 ) -> io::Result<()> {
-    for row in explained(rt.alloc(), table, told)? {
+    for row in explained(host.alloc(), table, told)? {
         let front = row.front;
-        tell_unusable(rt, found, front, told)?;
-        tell_text(rt, found, front, told)?;
+        tell_unusable(host, found, front, told)?;
+        tell_text(host, found, front, told)?;
         let (meaning, advice) = meaning_of(row, is_broken);
         let colon = if front.ends_with(':') { "" } else { ":" };
         let space = if advice.is_empty() { "" } else { " " };
-        eprintln!(rt; "{front}{colon} {meaning}{space}{advice}")?;
-        tell_file(rt, found, front)?;
+        writeln!(Notes { host }, "{front}{colon} {meaning}{space}{advice}")?;
+        tell_file(host, found, front)?;
     }
     Ok(())
 }
@@ -324,20 +324,27 @@ fn told_ways<'a>(found: &'a Found, told: &'a [u8]) -> &'a str {
 }
 
 // Tells of a volume whose directory is damaged what that means, and which command tells where.
-fn tell_broken(rt: &HostRuntime, found: &Found, told: &[u8], way: BrokenWay<'_>) -> io::Result<()> {
+fn tell_broken<H: Host>(
+    host: &mut H,
+    found: &Found,
+    told: &[u8],
+    way: BrokenWay<'_>,
+) -> io::Result<()> {
     let BrokenWay { file_system, order } = way;
-    tell_rows(rt, found, &FINDINGS, b"BROKEN\n", false)?;
+    tell_rows(host, found, &FINDINGS, b"BROKEN\n", false)?;
     let (image, order) = match header_order(told_ways(found, told)) {
         None => ("IMAGE", order),
         Some(header) if header == order => ("IMAGE", "2img"),
         Some(_) => {
-            eprintln!(rt;
+            writeln!(
+                Notes { host },
                 "`a2shop unwrap IMAGE --out FILE` first takes the image out of its container."
             )?;
             ("FILE", order)
         }
     };
-    eprintln!(rt;
+    writeln!(
+        Notes { host },
         "`a2shop check {image} --fs {file_system} --order {order}` tells where the fault is."
     )
 }
@@ -420,46 +427,46 @@ const WRITE_PROTECTED: &str =
     "It is write-protected: no one may write it. `chmod u+w` lets it be replaced.";
 
 // What may be in the way of an output file at a path.
-fn in_the_way(rt: &HostRuntime, path: &Option<String>) -> &'static str {
+fn in_the_way<H: Host>(host: &mut H, path: &Option<String>) -> &'static str {
     let Some(path) = path else {
         return IN_THE_WAY;
     };
-    match target_of(rt, rt.alloc(), path.as_str()) {
+    match target_of(host, path.as_str()) {
         Ok(target) if target.is_protected() => WRITE_PROTECTED,
         _ => IN_THE_WAY,
     }
 }
 
 // The name of a file as it is shown.
-fn shown(rt: &HostRuntime, path: &Option<String>) -> Result<String, AllocError> {
+fn shown(alloc: Global, path: &Option<String>) -> Result<String, AllocError> {
     let Some(path) = path else {
-        return "the file".to_string(rt.alloc());
+        return "the file".to_string(alloc);
     };
     if path.as_str() == "-" {
-        return "standard input".to_string(rt.alloc());
+        return "standard input".to_string(alloc);
     }
-    escaped(rt.alloc(), path.as_str())
+    escaped(alloc, path.as_str())
 }
 
 // Tells why the image was not opened, if it was not.
-fn tell_fault(rt: &HostRuntime, found: &Found) -> io::Result<()> {
+fn tell_fault<H: Host>(host: &mut H, found: &Found) -> io::Result<()> {
     let Some(fault) = found.fault else {
         return Ok(());
     };
-    let name = shown(rt, &found.path)?;
+    let name = shown(host.alloc(), &found.path)?;
     let text = fault_text(fault);
-    eprintln!(rt; "{name}: {text}")
+    writeln!(Notes { host }, "{name}: {text}")
 }
 
 // Tells what could not be written, and what stands then.
-fn tell_unwritten(rt: &HostRuntime, found: &Found) -> io::Result<()> {
+fn tell_unwritten<H: Host>(host: &mut H, found: &Found) -> io::Result<()> {
     let Some(unwritten) = found.unwritten else {
         return Ok(());
     };
     let text = unwritten_text(unwritten);
     let path = match unwritten {
         Unwritten::Text | Unwritten::TextAfterImage => {
-            return eprintln!(rt; "standard output: {text}");
+            return writeln!(Notes { host }, "standard output: {text}");
         }
         Unwritten::Image | Unwritten::ImageAfterText | Unwritten::ImageAfterCertificate => {
             &found.out
@@ -468,70 +475,72 @@ fn tell_unwritten(rt: &HostRuntime, found: &Found) -> io::Result<()> {
         | Unwritten::CertificateBeforeImage
         | Unwritten::CertificateAfterImage => &found.certificate,
         Unwritten::Folder | Unwritten::FolderAfterText => {
-            let name = shown(rt, &found.folder)?;
-            return eprintln!(rt; "{name}: {text} {IN_THE_WAY_OF_A_FOLDER}");
+            let name = shown(host.alloc(), &found.folder)?;
+            return writeln!(Notes { host }, "{name}: {text} {IN_THE_WAY_OF_A_FOLDER}");
         }
     };
-    let name = shown(rt, path)?;
-    let advice = in_the_way(rt, path);
-    eprintln!(rt; "{name}: {text} {advice}")
+    let name = shown(host.alloc(), path)?;
+    let advice = in_the_way(host, path);
+    writeln!(Notes { host }, "{name}: {text} {advice}")
 }
 
 // Tells that the header of a container names another order than the best way to read its image, if it does.
-fn tell_orders(rt: &HostRuntime, found: &Found, told: &[u8]) -> io::Result<()> {
+fn tell_orders<H: Host>(host: &mut H, found: &Found, told: &[u8]) -> io::Result<()> {
     let Some((header, best)) = orders_apart(told) else {
         return Ok(());
     };
-    let name = shown(rt, &found.path)?;
-    eprintln!(rt;
+    let name = shown(host.alloc(), &found.path)?;
+    writeln!(
+        Notes { host },
         "{name}: the header says that the image is in {header} order, and it is best read in {best} order: the header \
         is wrong."
     )
 }
 
 // Tells why a machine does not start from a new disk, if it does not.
-fn tell_boot(rt: &HostRuntime, found: &Found) -> io::Result<()> {
+fn tell_boot<H: Host>(host: &mut H, found: &Found) -> io::Result<()> {
     let Some(fault) = found.boot else {
         return Ok(());
     };
-    let name = shown(rt, &found.path)?;
+    let name = shown(host.alloc(), &found.path)?;
     let text = boot_text(fault);
-    eprintln!(rt; "{name}: {text}")
+    writeln!(Notes { host }, "{name}: {text}")
 }
 
 // Tells on standard error which image was read, and what each of the words means that begin a line of what was told.
-fn tell(rt: &HostRuntime, found: &Found, told: &[u8]) -> io::Result<()> {
+fn tell<H: Host>(host: &mut H, found: &Found, told: &[u8]) -> io::Result<()> {
     let broken = broken_way(told_ways(found, told));
-    tell_image(rt, found)?;
-    tell_fault(rt, found)?;
-    tell_unwritten(rt, found)?;
-    tell_boot(rt, found)?;
-    tell_orders(rt, found, told)?;
-    tell_rows(rt, found, &REFUSALS, told, broken.is_some())?;
-    tell_rows(rt, found, &FINDINGS, told, broken.is_some())?;
+    tell_image(host, found)?;
+    tell_fault(host, found)?;
+    tell_unwritten(host, found)?;
+    tell_boot(host, found)?;
+    tell_orders(host, found, told)?;
+    tell_rows(host, found, &REFUSALS, told, broken.is_some())?;
+    tell_rows(host, found, &FINDINGS, told, broken.is_some())?;
     match broken {
-        Some(way) => tell_broken(rt, found, told, way),
+        Some(way) => tell_broken(host, found, told, way),
         None => Ok(()),
     }
 }
 
 /// Explains on standard error what was told. Where that can't be written, nothing else changes.
-pub fn explain(rt: &HostRuntime, found: &Found, told: &[u8]) {
-    let _ = tell(rt, found, told);
+pub fn explain<H: Host>(host: &mut H, found: &Found, told: &[u8]) {
+    let _ = tell(host, found, told);
 }
 
 /// Tells on standard error of which other kind a file is that a survey found to be no image, and where it is.
-pub fn tell_foreign(rt: &HostRuntime, path: &str, foreign: Foreign) {
-    let Ok(name) = escaped(rt.alloc(), path) else {
+pub fn tell_foreign<H: Host>(host: &mut H, path: &str, foreign: Foreign) {
+    let Ok(name) = escaped(host.alloc(), path) else {
         return;
     };
     let text = foreign.text();
-    let _ = eprintln!(rt; "{name}: {text}");
+    let _ = writeln!(Notes { host }, "{name}: {text}");
 }
 
 /// Warns on standard error that `identify` names another way to read the image than the words of a job do.
-pub fn warn_of_order(rt: &HostRuntime, file_system: &str, order: &str) {
-    let _ = eprintln!(rt;
+pub fn warn_of_order<H: Host>(host: &mut H, file_system: &str, order: &str) {
+    let _ = writeln!(
+        Notes { host },
         "warning: `a2shop identify` names another way to read this image: `--fs {file_system} --order {order}`. In a \
         wrong order a change destroys files; look at `a2shop catalog` in both, and keep the original."
     );

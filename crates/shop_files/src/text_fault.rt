@@ -1,10 +1,9 @@
 // Which character of a text can't be taken, by the file that gave it.
-use crate::image::{ImageUse, OpenImage};
 use apple_text::first_character;
 use disk_container::MOST_BYTES;
+use shop_host::{Host, Readable, read_file};
 use shown_text::escaped;
 use std::alloc::{AllocError, Global};
-use std::fs;
 
 /// The codes whose pictures are no characters of a text: a newline and a tab stand for them.
 const TAB: u8 = 0x09;
@@ -51,21 +50,17 @@ fn refused_line(told: &[u8]) -> Option<(usize, Option<&str>)> {
 }
 
 // The bytes of a text, where it is in a file that can be read again.
-fn text_at(rt: &HostRuntime, path: &str) -> Option<Vec<u8>> {
-    if !fs::metadata(rt, path).ok()?.is_file() {
-        return None;
-    }
-    let mut file = OpenImage::open(rt, path, ImageUse::Read).ok()?;
-    file.bytes(rt, MOST_BYTES as u32).ok()
+fn text_at<H: Host>(host: &mut H, path: &str) -> Option<Vec<u8>> {
+    read_file(host, path, Readable::File, MOST_BYTES as u32).ok()
 }
 
 // The bytes of the text that was refused.
-fn refused_text(rt: &HostRuntime, given: &str, entry: Option<&str>) -> Option<Vec<u8>> {
+fn refused_text<H: Host>(host: &mut H, given: &str, entry: Option<&str>) -> Option<Vec<u8>> {
     let Some(entry) = entry else {
-        return text_at(rt, given);
+        return text_at(host, given);
     };
-    let path = format!(in rt.alloc(); "{given}/{entry}").ok()?;
-    text_at(rt, path.as_str())
+    let path = format!(in host.alloc(); "{given}/{entry}").ok()?;
+    text_at(host, path.as_str())
 }
 
 // The line of a number, from 1, without its end.
@@ -138,9 +133,13 @@ fn sentence(alloc: Global, number: usize, culprit: Culprit) -> Result<String, Al
 }
 
 // The number of the line that is refused, and what of it can't be taken.
-fn culprit_of(rt: &HostRuntime, given: &Option<String>, told: &[u8]) -> Option<(usize, Culprit)> {
+fn culprit_of<H: Host>(
+    host: &mut H,
+    given: &Option<String>,
+    told: &[u8],
+) -> Option<(usize, Culprit)> {
     let (number, entry) = refused_line(told)?;
-    let text = refused_text(rt, given.as_ref()?.as_str(), entry)?;
+    let text = refused_text(host, given.as_ref()?.as_str(), entry)?;
     let culprit = culprit_in(line_of(text.as_slice(), number)?)?;
     Some((number, culprit))
 }
@@ -150,13 +149,13 @@ fn culprit_of(rt: &HostRuntime, given: &Option<String>, told: &[u8]) -> Option<(
 ///
 /// # Errors
 /// Want of memory.
-pub fn text_fault(
-    rt: &HostRuntime,
+pub fn text_fault<H: Host>(
+    host: &mut H,
     given: &Option<String>,
     told: &[u8],
 ) -> Result<Option<String>, AllocError> {
-    match culprit_of(rt, given, told) {
-        Some((number, culprit)) => Ok(Some(sentence(rt.alloc(), number, culprit)?)),
+    match culprit_of(host, given, told) {
+        Some((number, culprit)) => Ok(Some(sentence(host.alloc(), number, culprit)?)),
         None => Ok(None),
     }
 }

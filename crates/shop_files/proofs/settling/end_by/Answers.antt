@@ -1,4 +1,4 @@
-use Rattle.std.proofs.Common.{◌∙◌, ℕ, List, inl, subst}
+use Rattle.std.proofs.Common.{◌∙◌, ℕ, List, inl, inr, rules, subst}
 use Rattle.shop_replies.specs.Reply.{text_of}
 use Rattle.shop_files.specs.Endings.{IsEnding}
 use Rattle.shop_files.proofs.settling.end_by.Goals as goal
@@ -9,3 +9,6 @@ returns-after-image-clause-ending g c =
     let new = g.T.Write.contents c.settle.new.text in
     inl (subst (λ (status : ℕ). IsEnding status (text_of c.args.reply) c.settle.result old new) c.number.ensures
     (subst (λ (told : List ℕ). IsEnding c.number.result told c.settle.result old new) (c.as_slice-in-Ok.ensures.value ∙ c.in-Ok.ensures) c.settle.ensures.ending))
+
+pub returns-in-Err-clause-ending : goal.returns-in-Err-clause-ending
+returns-in-Err-clause-ending g c = inr (search rules)

@@ -1,11 +1,11 @@
-use Rattle.std.proofs.Common.{◌≡◌, ◌++◌, sym, ◌∙◌, append_assoc}
+use Rattle.std.proofs.Common.{◌++◌, sym, ◌∙◌, append_assoc}
 use Rattle.std.specs.Prelude.{codes, decimal, string_bytes}
 use Rattle.std.proofs.lemmas.Result.{IfOk-weaker}
-use Rattle.host_folders.specs.System.{IsBeside}
-use Rattle.host_folders.proofs.system.path_beside.Goals as goal
+use Rattle.shop_files.specs.Folders.{IsBeside}
+use Rattle.shop_files.proofs.folder.path_beside.Goals as goal
 
 pub returns : goal.returns
-returns g c =
+returns c =
     let folder = c.args.folder.now in
     let number = decimal c.args.number in
     IfOk-weaker c.format.result _ (λ path. IsBeside folder (string_bytes path))

@@ -1,8 +1,8 @@
--- Why a new folder of the system can't be begun.
+-- Why a new folder can't be begun.
 use Rattle.std.specs.declared.io.ErrorKind.{ErrorKind}
 use Rattle.std.specs.declared.io.ErrorKind.TheVariants.{OutOfMemory}
-use Rattle.host_folders.specs.declared.system.StartError.{StartError}
-use Rattle.host_folders.specs.declared.system.StartError.TheVariants.{Failed, Memory}
+use Rattle.shop_files.specs.declared.folder.StartError.{StartError}
+use Rattle.shop_files.specs.declared.folder.StartError.TheVariants.{Failed, Memory}
 
 -- why it can't be begun after an error of this kind
 abbrev pub start_error_of : ErrorKind → StartError

@@ -1,14 +1,13 @@
-// A new folder of the system.
+// A new folder of the host.
 ghost use Rattle.std.specs.Prelude.{◌≡◌, ◌<◌, ◌++◌, ⊤, IfOk, codes, string_bytes};
 ghost use Rattle.host_folders.specs.NewFolder.{IsFolderName};
-ghost use Rattle.host_folders.specs.System.{IsBeside, system_folder};
+ghost use Rattle.shop_files.specs.Folders.{IsBeside, host_folder};
 
-use crate::folder::{Folder, FolderFailure};
-use std::alloc::{AllocError, Allocator};
-use std::fs::{self, OpenOptions, Permissions, ReadDir};
-use std::io::{self, ErrorKind, Write};
-use std::os::unix::fs::PermissionsExt;
-use std::rt::Files;
+use crate::whole::write_whole;
+use host_folders::{Folder, FolderFailure};
+use shop_host::Host;
+use std::alloc::{AllocError, Global};
+use std::io::{self, ErrorKind};
 use thiserror::Error;
 
 /// How many names are tried for a folder aside.
@@ -29,7 +28,7 @@ pub enum StartError {
 }
 
 impl From<AllocError> for StartError {
-    ghost use Rattle.host_folders.specs.declared.system.StartError.TheVariants.{Memory};
+    ghost use Rattle.shop_files.specs.declared.folder.StartError.TheVariants.{Memory};
 
     ghost from_gives = { λ _ error. error ≡ Memory };
 
@@ -40,7 +39,7 @@ impl From<AllocError> for StartError {
 
 impl From<io::Error> for StartError {
     ghost use Rattle.std.specs.IoError.{error_kind};
-    ghost use Rattle.host_folders.specs.Start.{start_error_of};
+    ghost use Rattle.shop_files.specs.Start.{start_error_of};
 
     ghost from_gives = { λ error start. start ≡ start_error_of (error_kind error) };
 
@@ -52,51 +51,38 @@ impl From<io::Error> for StartError {
     }
 }
 
-/// A new folder of the system, which is filled aside and then takes its place. No contract can say what the system
-/// holds, so its state says nothing of what was made: what is proved of every honest folder is believed of it.
+/// A new folder of a host, which is filled aside and then takes its place. No contract can say what the host holds, so
+/// its state says nothing of what was made: what is proved of every honest folder is believed of it.
 ///
 /// One that is dropped is abandoned.
-pub struct SystemFolder<'a, R: Files, A: Allocator> {
-    rt: &'a R,
-    alloc: A,
-    folder: String<A>,
-    aside: String<A>,
+pub struct NewFolder<'h, H: Host> {
+    host: &'h mut H,
+    folder: String,
+    aside: String,
 }
 
 // The access mode of the empty folder that stands at a path; none where nothing stands there.
-fn standing_mode<R: Files, A: Allocator>(
-    rt: &R,
-    alloc: &A,
-    folder: &str,
-) -> Result<Option<Permissions>, StartError> {
-    match fs::symlink_metadata(rt, folder) {
-        Ok(found) if !found.is_dir() => Err(StartError::Taken),
+fn standing_mode<H: Host>(host: &mut H, folder: &str) -> Result<Option<u32>, StartError> {
+    match host.found_itself(folder) {
+        Ok(found) if !found.is_folder() => Err(StartError::Taken),
         Ok(found) => {
-            if !is_empty(rt, alloc, folder)? {
+            if !is_empty(host, folder)? {
                 return Err(StartError::Taken);
             }
-            let mode = found.permissions();
-            if mode.mode() & OWN_ACCESS != OWN_ACCESS {
+            if found.mode & OWN_ACCESS != OWN_ACCESS {
                 return Err(StartError::Failed);
             }
-            Ok(Some(mode))
+            Ok(Some(found.mode))
         }
         Err(error) if error.kind() == ErrorKind::NotFound => Ok(None),
         Err(error) => Err(StartError::from(error)),
     }
 }
 
-// Whether a folder holds nothing.
-fn is_empty<R: Files, A: Allocator>(rt: &R, alloc: &A, folder: &str) -> io::Result<bool> {
-    let mut names = fs::read_dir(&(rt, alloc), folder)?;
-    is_at_end(&mut names)
-}
-
-// Whether no name of a folder is left. A name that is no text is one.
-fn is_at_end<R: Files + Clone + Drop, A: Allocator + Clone>(
-    names: &mut ReadDir<R, A>,
-) -> io::Result<bool> {
-    match names.next() {
+// Whether a folder holds nothing. A name that is no text is one.
+fn is_empty<H: Host>(host: &mut H, folder: &str) -> io::Result<bool> {
+    let mut names = host.names(folder)?;
+    match host.next_name(&mut names) {
         None => Ok(true),
         Some(Err(error)) if error.kind() != ErrorKind::InvalidFilename => Err(error),
         Some(_) => Ok(false),
@@ -104,16 +90,12 @@ fn is_at_end<R: Files + Clone + Drop, A: Allocator + Clone>(
 }
 
 // Makes a new folder beside another one, under the first name that is free.
-fn create_beside<R: Files, A: Allocator + Copy>(
-    rt: &R,
-    alloc: A,
-    folder: &str,
-) -> io::Result<String<A>>
+fn create_beside<H: Host>(host: &mut H, folder: &str) -> io::Result<String>
     ensures { IfOk result (λ path. IsBeside folder.now (string_bytes path)) }
 {
     for number in 0..MOST_NAMES {
-        let path = path_beside(alloc, folder, number)?;
-        if create_where_free(rt, path.as_str())? {
+        let path = path_beside(host.alloc(), folder, number)?;
+        if create_where_free(host, path.as_str())? {
             return Ok(path);
         }
     }
@@ -121,7 +103,7 @@ fn create_beside<R: Files, A: Allocator + Copy>(
 }
 
 // The path beside that of a folder, of this number.
-fn path_beside<A: Allocator>(alloc: A, folder: &str, number: u32) -> Result<String<A>, AllocError>
+fn path_beside(alloc: Global, folder: &str, number: u32) -> Result<String, AllocError>
     requires { number < MOST_NAMES }
     ensures { IfOk result (λ path. IsBeside folder.now (string_bytes path)) }
 {
@@ -129,39 +111,45 @@ fn path_beside<A: Allocator>(alloc: A, folder: &str, number: u32) -> Result<Stri
 }
 
 // Makes a new folder at a path, and tells whether it could: not where something stands there.
-fn create_where_free<R: Files>(rt: &R, path: &str) -> io::Result<bool> {
-    match fs::create_dir(rt, path) {
+fn create_where_free<H: Host>(host: &mut H, path: &str) -> io::Result<bool> {
+    match host.make_folder(path) {
         Ok(()) => Ok(true),
         Err(error) if error.kind() == ErrorKind::AlreadyExists => Ok(false),
         Err(error) => Err(error),
     }
 }
 
+// Gives a new folder an access mode, if there is one to give. Where that fails, the folder is removed.
+fn give_mode<H: Host>(host: &mut H, folder: &str, mode: Option<u32>) -> io::Result<()> {
+    let Some(mode) = mode else {
+        return Ok(());
+    };
+    let given = host.set_folder_mode(folder, mode);
+    if given.is_err() {
+        let _removed = host.remove_folder(folder);
+    }
+    given
+}
+
 // The path of what stands in a folder.
-fn path_in<A: Allocator>(alloc: A, folder: &str, path: &str) -> Result<String<A>, AllocError>
+fn path_in(alloc: Global, folder: &str, path: &str) -> Result<String, AllocError>
     ensures { IfOk result (λ whole. string_bytes whole ≡ folder.now ++ codes "/" ++ path.now) }
 {
     format!(in alloc; "{folder}/{path}")
 }
 
-// Removes a folder with all that it holds.
-fn remove<R: Files, A: Allocator>(rt: &R, alloc: A, folder: &str) {
-    let _removed = rt.remove_dir_all(alloc, folder);
-}
-
-impl<R: Files, A: Allocator> Drop for SystemFolder<'_, R, A> {
+impl<H: Host> Drop for NewFolder<'_, H> {
     fn drop(self) {
-        let SystemFolder {
-            rt,
-            alloc,
+        let NewFolder {
+            host,
             folder: _,
             aside,
         } = self;
-        remove(rt, alloc, aside.as_str());
+        let _removed = host.remove_folder(aside.as_str());
     }
 }
 
-impl<'a, R: Files, A: Allocator + Copy> SystemFolder<'a, R, A> {
+impl<'h, H: Host> NewFolder<'h, H> {
     /// Begins a folder at a path at which nothing stands, or an empty folder that is no link; its parent must be
     /// there. The folder aside is made: beside that path, under the first of a hundred names that is free, with the
     /// access mode of the empty folder.
@@ -169,25 +157,21 @@ impl<'a, R: Files, A: Allocator + Copy> SystemFolder<'a, R, A> {
     /// # Errors
     /// `Taken` where something else stands at the path; `Memory`; and `Failed` where a call of the file system fails,
     /// where no name is free, or where the mode of the empty folder does not let its owner fill it.
-    pub fn start(rt: &'a R, alloc: A, folder: &str) -> Result<SystemFolder<'a, R, A>, StartError>
+    pub fn start(host: &'h mut H, folder: &str) -> Result<NewFolder<'h, H>, StartError>
         requires { IsFolderName folder.now }
-        ensures state { IfOk result (λ made. ⟦<SystemFolder<'a, R, A> as Folder>⟧.state made ≡ system_folder) }
+        ensures state { IfOk result (λ made. ⟦<NewFolder<'h, H> as Folder>⟧.state made ≡ host_folder) }
         ensures folder { IfOk result (λ made. string_bytes made.folder ≡ folder.now) }
         ensures aside { IfOk result (λ made. IsBeside folder.now (string_bytes made.aside)) }
     {
-        let mode = standing_mode(rt, &alloc, folder)?;
-        let own = folder.to_string(alloc)?;
-        let aside = create_beside(rt, alloc, folder)?;
-        let made = SystemFolder {
-            rt,
-            alloc,
+        let mode = standing_mode(host, folder)?;
+        let own = folder.to_string(host.alloc())?;
+        let aside = create_beside(host, folder)?;
+        give_mode(host, aside.as_str(), mode)?;
+        Ok(NewFolder {
+            host,
             folder: own,
             aside,
-        };
-        if let Some(mode) = mode {
-            fs::set_permissions(rt, made.aside.as_str(), mode)?;
-        }
-        Ok(made)
+        })
     }
 
     /// Takes the place, in one step. Where that fails, the folder aside is removed.
@@ -196,16 +180,15 @@ impl<'a, R: Files, A: Allocator + Copy> SystemFolder<'a, R, A> {
     /// `Memory` for want of memory, `Failed` where a call of the file system fails; what stood at the place then
     /// stands.
     pub fn finish(self) -> Result<(), FolderFailure> {
-        let SystemFolder {
-            rt,
-            alloc,
+        let NewFolder {
+            host,
             folder,
             aside,
         } = self;
-        match fs::rename(rt, aside.as_str(), folder.as_str()) {
+        match host.rename(aside.as_str(), folder.as_str()) {
             Ok(()) => Ok(()),
             Err(error) => {
-                remove(rt, alloc, aside.as_str());
+                let _removed = host.remove_folder(aside.as_str());
                 Err(FolderFailure::from(error))
             }
         }
@@ -217,23 +200,21 @@ impl<'a, R: Files, A: Allocator + Copy> SystemFolder<'a, R, A> {
     }
 }
 
-impl<R: Files, A: Allocator + Copy> Folder for SystemFolder<'_, R, A> {
-    ghost state = { λ _. system_folder };
+impl<H: Host> Folder for NewFolder<'_, H> {
+    ghost state = { λ _. host_folder };
 
     ghost may_fail = { λ _ _. ⊤ };
 
     fn make_folder(&mut self, path: &str) -> Result<(), FolderFailure> {
-        let path = path_in(self.alloc, self.aside.as_str(), path)?;
-        fs::create_dir(self.rt, path.as_str())?;
+        let path = path_in(self.host.alloc(), self.aside.as_str(), path)?;
+        self.host.make_folder(path.as_str())?;
         Ok(())
     }
 
     fn put(&mut self, path: &str, bytes: &[u8]) -> Result<(), FolderFailure> {
-        let path = path_in(self.alloc, self.aside.as_str(), path)?;
-        let mut options = OpenOptions::new();
-        options.write(true).create_new(true);
-        let mut file = options.open(self.rt, path.as_str())?;
-        file.write_all(bytes)?;
+        let path = path_in(self.host.alloc(), self.aside.as_str(), path)?;
+        let mut file = self.host.make(path.as_str(), None)?;
+        write_whole(self.host, &mut file, bytes)?;
         Ok(())
     }
 }

@@ -1,0 +1,38 @@
+// Bytes that are written to the last.
+ghost use Rattle.std.specs.Prelude.{◌≡◌, ℕ, drop, take, IfOk, OnOk};
+ghost use Rattle.std.specs.Io.KnownBytes.{Appends};
+
+use shop_host::Host;
+use std::io::{self, ErrorKind};
+
+// Writes a front of these bytes, and answers those behind it: all of them where the write was interrupted.
+fn write_front<'b, H: Host>(
+    host: &mut H,
+    file: &mut H::File,
+    bytes: &'b [u8],
+) -> io::Result<&'b [u8]>
+    ensures { IfOk result (λ rest. (count : ℕ) × (rest.now ≡ drop count bytes.now)
+        × Appends (H.written file.old) (H.written file.new) (take count bytes.now)) }
+{
+    match host.write(file, bytes) {
+        Ok(0) => Err(io::Error::from(ErrorKind::WriteZero)),
+        Ok(count) => Ok(&bytes[count..]),
+        Err(error) if error.kind() == ErrorKind::Interrupted => Ok(bytes),
+        Err(error) => Err(error),
+    }
+}
+
+/// Writes all of these bytes to an open file, behind what was written to it. A write that was interrupted is tried
+/// again.
+pub fn write_whole<H: Host>(host: &mut H, file: &mut H::File, bytes: &[u8]) -> io::Result<()>
+    ensures { OnOk result (Appends (H.written file.old) (H.written file.new) bytes.now) }
+{
+    let mut rest = bytes;
+    for _ in 0..u64::MAX {
+        if rest.is_empty() {
+            return Ok(());
+        }
+        rest = write_front(host, file, rest)?;
+    }
+    Err(io::Error::from(ErrorKind::Other))
+}
