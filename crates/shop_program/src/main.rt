@@ -1,36 +1,44 @@
-//! `a2shop`, the Apple II disk workshop: opens the files that its words name and hands them to the
-//! commands of `shop_commands`.
+//! `a2shop`, the Apple II disk workshop: hands its words and the system that it runs on to `shop_stages`, which does
+//! what the words ask for.
 //!
-//! `stages.rt` is the program as a line of stages: its words, the job that they ask for, the inputs
-//! of the job opened, the job settled where a word leaves to the image how it is read, or the image
-//! stands in a container, the job done, its files ended and its answer told. There alone jobs are
-//! told apart by what they ask. Each stage has its file: `words.rt`, `asking.rt`, `inputs.rt`,
-//! `settling.rt`, `doing.rt` and `ending.rt`; a job that makes a folder is done and ended in
-//! `extracting.rt`, one that adds the files of a folder in `adding.rt`, one that surveys a folder
-//! in `surveying.rt`, one that makes a volume in `creating.rt`. `noting.rt` notes what is explained
-//! of an image that `auto` can't read, `walking.rt` looks through a folder for two of them, and
-//! `stop.rt` has what ends the line early. `streams.rt` takes the descriptors of closed streams, so
-//! that no file gets one.
+//! `words.rt` takes the words, and `streams.rt` the descriptors of closed streams, so that no file gets one.
 #![tactic(auto)]
 
-mod adding;
-mod asking;
-mod creating;
-mod doing;
-mod ending;
-mod extracting;
-mod inputs;
-mod noting;
-mod settling;
-mod stages;
-mod stop;
 mod streams;
-mod surveying;
-mod walking;
 mod words;
 
+use crate::streams::take_closed_streams;
+use crate::words::{greet, told_fault, words_of};
+use shop_host::SystemHost;
+use shop_replies::{Failure, Reply};
+use std::io::{BufWriter, Write};
 use std::process::ExitCode;
 
+// Takes the program's words and does what they ask for.
+fn run_telling<T: Write>(rt: &HostRuntime, text: &mut T) -> u8 {
+    let words = match words_of(rt) {
+        Ok(words) => words,
+        Err(error) => return told_fault(&error, text),
+    };
+    greet(rt, words.as_slice());
+    shop_stages::run(&mut SystemHost::new(rt), words.as_slice(), text)
+}
+
+// Does what the program's words ask for, and answers its status. Standard output is written through a buffer, so that a
+// listing is not written a line at a time. What a write that failed has left in the buffer is not written again.
+fn run(rt: &HostRuntime) -> u8 {
+    let Ok(streams) = take_closed_streams(rt) else {
+        return Reply::failed(Failure::Input).tell(&mut rt.stdout());
+    };
+    let Ok(mut text) = BufWriter::new(rt.alloc(), rt.stdout()) else {
+        return Reply::failed(Failure::Memory).tell(&mut rt.stdout());
+    };
+    let status = run_telling(rt, &mut text);
+    let _ = text.into_parts();
+    drop(streams);
+    status
+}
+
 fn main(rt: HostRuntime) -> ExitCode {
-    ExitCode::from(stages::run(&rt))
+    ExitCode::from(run(&rt))
 }

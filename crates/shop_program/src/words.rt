@@ -3,7 +3,7 @@ use shop_replies::{Failure, Reply, written};
 use std::io::{self, ErrorKind, IsTerminal, Write};
 
 /// The status of refused words.
-pub const WORDS_REFUSED: u8 = 2;
+const WORDS_REFUSED: u8 = 2;
 
 /// The words after the program's name.
 ///

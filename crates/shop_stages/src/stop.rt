@@ -1,46 +1,28 @@
 // What ends the line of stages early.
-ghost use Rattle.std.specs.Prelude.{◌≡◌, ◌↔◌};
-ghost use Rattle.std.specs.IoError.{error_kind};
-ghost use Rattle.shop_replies.specs.Reading.{IsReadFailure};
-
-use crate::words::WORDS_REFUSED;
 use a2_media::FileError;
 use image_settling::Unsettled;
-use shop_files::{Clash, Unwritten};
+use shop_files::{Clash, Ending, Unwritten};
 use shop_jobs::Beside;
-use shop_replies::{FAILED, Failure, Refusal, Reply, Side, written};
-use std::alloc::{AllocError, AllocFailed};
-use std::io::{self, ErrorKind, Write};
+use shop_replies::{Failure, Refusal, Reply, Side, written};
+use std::io::Write;
+
+/// The status of refused words.
+const WORDS_REFUSED: u8 = 2;
 
 /// Why a job is not done.
 #[derive(Clone, Copy)]
 pub enum Stop {
     /// The words are no job: why was told, with this status.
     Told(u8),
-    /// Two roles of the job have one file, and one of them is written; or its output file is in the
-    /// folder whose files it adds.
+    /// Two roles of the job have one file, and one of them is written; or its output file is in the folder whose files
+    /// it adds.
     Clash(Clash),
     /// The job is refused by its words or by a file; where it compares two images, by this one.
     Refused(Refusal, Option<Side>),
-    /// A file could not be read, or there was no memory; where two images are compared, for this
-    /// one.
+    /// A file could not be read, or there was no memory; where two images are compared, for this one.
     Failed(Failure, Option<Side>),
     /// A file can't be written, so nothing was done.
     Unwritten(Unwritten),
-}
-
-/// Why a call of the system failed: for want of memory exactly where the system says so,
-/// and else in the input.
-pub fn failure_of(error: &io::Error) -> Failure
-    ensures read { IsReadFailure result }
-    ensures memory { (result ≡ Failure.Memory)
-        ↔ (error_kind error.now ≡ ErrorKind.OutOfMemory) }
-{
-    if error.kind() == ErrorKind::OutOfMemory {
-        Failure::Memory
-    } else {
-        Failure::Input
-    }
 }
 
 // A reply, which says of which of two images it is where it is of one.
@@ -52,15 +34,15 @@ fn of_side(reply: Reply, side: Option<Side>) -> Reply {
 }
 
 impl Stop {
-    /// Tells why, and answers the status.
-    pub fn tell<T: Write>(self, text: &mut T) -> u8 {
-        match self {
+    /// Tells why, and answers how the job ended.
+    pub fn end<T: Write>(self, text: &mut T) -> Ending {
+        Ending::written(match self {
+            Stop::Unwritten(unwritten) => return Ending::stopped(unwritten),
             Stop::Told(status) => status,
             Stop::Clash(clash) => written(clash.line(), WORDS_REFUSED, text),
             Stop::Refused(refusal, side) => of_side(Reply::refused(refusal), side).tell(text),
             Stop::Failed(failure, side) => of_side(Reply::failed(failure), side).tell(text),
-            Stop::Unwritten(_) => FAILED,
-        }
+        })
     }
 
     /// The same of one of the images of a job, where another stands beside it.
@@ -72,14 +54,6 @@ impl Stop {
             Stop::Refused(refusal, _) => Stop::Refused(refusal, Some(side)),
             Stop::Failed(failure, _) => Stop::Failed(failure, Some(side)),
             stop => stop,
-        }
-    }
-
-    /// The file that can't be written, if that is why.
-    pub fn unwritten(self) -> Option<Unwritten> {
-        match self {
-            Stop::Unwritten(unwritten) => Some(unwritten),
-            _ => None,
         }
     }
 }
@@ -112,17 +86,5 @@ impl From<Unsettled> for Stop {
             Unsettled::Refused(refusal) => Stop::from(refusal),
             Unsettled::Memory => Stop::from(Failure::Memory),
         }
-    }
-}
-
-impl From<AllocError> for Stop {
-    fn from(_: AllocError) -> Stop {
-        Stop::from(Failure::Memory)
-    }
-}
-
-impl<T: Drop> From<AllocFailed<T>> for Stop {
-    fn from(_: AllocFailed<T>) -> Stop {
-        Stop::from(Failure::Memory)
     }
 }
