@@ -7,7 +7,7 @@ import re
 import sys
 
 TOP = pathlib.Path(__file__).resolve().parent.parent
-FOR_TESTS = ("library_tests", "test_volumes")
+FOR_TESTS = ("library_tests", "memory_host", "test_volumes")
 TESTS = TOP / "crates/library_tests/src"
 IMPL_OR_FUNCTION = re.compile(r"^(impl[^\n{]*)|^( *)(pub )?fn (\w+)(?:<[^(]*>)?\(([^{;]*?)\)(?: ->|\n| \{)", re.M)
 

@@ -1,14 +1,14 @@
 //! Rows on the folders: in memory, refusing a call, and in scratch folders of the system.
 
 use host_folders::{
-    FailingFolder, Folder, FolderFailure, MadeItem, MemoryFolder, StartError, SystemFolder,
-    folder_name, is_safe_path,
+    FailingFolder, Folder, FolderFailure, MadeItem, MemoryFolder, folder_name, is_safe_path,
 };
+use shop_files::{NewFolder, StartError};
+use shop_host::{Host, SystemHost};
 use std::alloc::Allocator;
 use std::fs::{self, Permissions};
 use std::io;
 use std::os::unix::fs::{MetadataExt, PermissionsExt, symlink};
-use std::rt::Files;
 use std::test::Fail;
 
 /// Folders and files by their paths, and the text of a file.
@@ -96,25 +96,17 @@ pub fn are_first<A: Allocator>(items: &[MadeItem<A>], count: usize) -> bool {
     items.len() == count && count <= ITEMS.len()
 }
 
-/// Begins a folder of the system at a given path.
-fn begun<'a, R: Files, A: Allocator + Copy>(
-    rt: &'a R,
-    alloc: A,
-    given: &str,
-) -> Result<SystemFolder<'a, R, A>, StartError> {
+/// Begins a folder of a host at a given path.
+fn begun<'h, H: Host>(host: &'h mut H, given: &str) -> Result<NewFolder<'h, H>, StartError> {
     match folder_name(given) {
-        Some(name) => SystemFolder::start(rt, alloc, name),
+        Some(name) => NewFolder::start(host, name),
         None => Err(StartError::Failed),
     }
 }
 
-/// Begins, fills and finishes a folder of the system.
-pub fn written<R: Files, A: Allocator + Copy>(
-    rt: &R,
-    alloc: A,
-    given: &str,
-) -> Result<(), FolderFailure> {
-    let mut folder = begun(rt, alloc, given).map_err(|error| match error {
+/// Begins, fills and finishes a folder of a host.
+pub fn written<H: Host>(host: &mut H, given: &str) -> Result<(), FolderFailure> {
+    let mut folder = begun(host, given).map_err(|error| match error {
         StartError::Memory => FolderFailure::Memory,
         StartError::Taken | StartError::Failed => FolderFailure::Failed,
     })?;
@@ -212,14 +204,17 @@ fn a_call_after_the_refused_one_is_passed_on(rt: HostRuntime) {
 #[test]
 fn a_folder_of_the_system_takes_its_place(rt: HostRuntime) -> Result<(), Fail> {
     scratch(&rt, "scratch_new")?;
-    let mut folder = begun(&rt, rt.alloc(), "scratch_new/out//")?;
+    let mut host = SystemHost::new(&rt);
+    let mut folder = begun(&mut host, "scratch_new/out//")?;
     fill(&mut folder)?;
     assert!(rt; holds_items(&rt, "scratch_new/out.0.new")?);
     assert!(rt; !fs::exists(&rt, "scratch_new/out")?);
     assert!(rt; folder.finish().is_ok());
     assert!(rt; holds_items(&rt, "scratch_new/out")?);
     assert!(rt; names_in(&rt, "scratch_new")? == 1);
-    assert!(rt; written(&rt, rt.alloc(), "scratch_new/out") == Err(FolderFailure::Failed));
+    assert!(rt;
+        written(&mut SystemHost::new(&rt), "scratch_new/out") == Err(FolderFailure::Failed)
+    );
     assert!(rt; names_in(&rt, "scratch_new")? == 1);
     fs::remove_dir_all(&rt, "scratch_new")?;
     Ok(())
@@ -232,7 +227,7 @@ fn an_empty_folder_is_replaced_and_gives_its_mode(rt: HostRuntime) -> Result<(),
     fs::set_permissions(&rt, "scratch_empty/out", Permissions::from_mode(0o711))?;
     fs::create_dir(&rt, "scratch_empty/out.0.new")?;
     fs::write(&rt, "scratch_empty/out.1.new", "")?;
-    assert!(rt; written(&rt, rt.alloc(), "scratch_empty/out").is_ok());
+    assert!(rt; written(&mut SystemHost::new(&rt), "scratch_empty/out").is_ok());
     assert!(rt; holds_items(&rt, "scratch_empty/out")?);
     let mode = fs::metadata(&rt, "scratch_empty/out")?.mode();
     assert!(rt; mode & 0o7777 == 0o711, "{mode:o}");
@@ -263,7 +258,7 @@ fn what_stands_there_is_not_taken(rt: HostRuntime) -> Result<(), Fail> {
     ];
     for (given, error) in &rows {
         assert!(rt;
-            begun(&rt, rt.alloc(), given).err() == Some(*error),
+            begun(&mut SystemHost::new(&rt), given).err() == Some(*error),
             "{given}"
         );
     }
@@ -276,7 +271,8 @@ fn what_stands_there_is_not_taken(rt: HostRuntime) -> Result<(), Fail> {
 #[test]
 fn what_was_made_is_not_opened_again(rt: HostRuntime) -> Result<(), Fail> {
     scratch(&rt, "scratch_twice")?;
-    let mut folder = begun(&rt, rt.alloc(), "scratch_twice/out")?;
+    let mut host = SystemHost::new(&rt);
+    let mut folder = begun(&mut host, "scratch_twice/out")?;
     fill(&mut folder)?;
     symlink(&rt, "HELLO#060300", "scratch_twice/out.0.new/LINK")?;
     for path in ["HELLO#060300", "LINK", "SUB", "NONE/A"] {
@@ -307,7 +303,8 @@ fn a_folder_that_is_dropped_is_removed(rt: HostRuntime) -> Result<(), Fail> {
     fs::create_dir(&rt, "scratch_drop/beside")?;
     fs::write(&rt, "scratch_drop/beside/file", "kept")?;
     {
-        let mut folder = begun(&rt, rt.alloc(), "scratch_drop/out")?;
+        let mut host = SystemHost::new(&rt);
+        let mut folder = begun(&mut host, "scratch_drop/out")?;
         fill(&mut folder)?;
         symlink(&rt, "../../beside", "scratch_drop/out.0.new/SUB/LINK")?;
         assert!(rt; names_in(&rt, "scratch_drop")? == 2);
@@ -326,9 +323,10 @@ fn no_hundred_and_first_name_is_tried(rt: HostRuntime) -> Result<(), Fail> {
         fs::create_dir(&rt, path.as_str())?;
     }
     {
-        let _last = begun(&rt, rt.alloc(), "scratch_names/out")?;
+        let mut host = SystemHost::new(&rt);
+        let _last = begun(&mut host, "scratch_names/out")?;
         assert!(rt; fs::exists(&rt, "scratch_names/out.99.new")?);
-        let error = begun(&rt, rt.alloc(), "scratch_names/out").err();
+        let error = begun(&mut SystemHost::new(&rt), "scratch_names/out").err();
         assert!(rt; error == Some(StartError::Failed));
     }
     assert!(rt; names_in(&rt, "scratch_names")? == 99);

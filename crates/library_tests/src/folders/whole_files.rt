@@ -1,14 +1,13 @@
-//! A file that is replaced as a whole, in a folder in memory.
+//! A file that is replaced as a whole, on a host in memory.
 
-use crate::folders::folder::{Folder, Kind, Mounted};
-use shop_files::{AsideFile, Node, Place, Placing, Standing, Target, target_of};
-use std::alloc::{AllocError, Allocator, Global};
+use memory_host::{Kind, MemoryHost};
+use shop_files::{AsideFile, Place, Placing, Standing, Target, target_of};
+use shop_host::{Host, Node};
+use std::alloc::{AllocError, Global};
 use std::fs::Permissions;
-use std::io::{self, ErrorKind, Write};
+use std::io::{self, ErrorKind};
 use std::os::unix::fs::PermissionsExt;
-use std::rt::Files;
 use std::test::Fail;
-use test_volumes::Refusing;
 
 /// What of a mode is no kind.
 const MODE_BITS: u32 = 0o7777;
@@ -20,40 +19,35 @@ static FILE_AND_LINK: [(&str, Kind, &str); 2] = [
 ];
 
 /// Writes a text of five bytes to the file aside, and puts it onto the disk.
-fn write_aside<R: Files, A: Allocator + Copy>(out: &mut AsideFile<'_, R, A>) -> io::Result<()> {
-    out.write_all(b"newer")?;
-    out.flush_to_disk()
+fn write_aside<H: Host>(host: &mut H, out: &mut AsideFile<'_, H>) -> io::Result<()> {
+    out.put(host, b"newer")?;
+    out.flush_to_disk(host)
 }
 
 /// Gives a file the place that a path leads to, if it may take it.
-fn place<R: Files, A: Allocator + Copy>(
-    rt: &R,
-    alloc: A,
-    path: &str,
-    placing: Placing,
-) -> io::Result<()> {
-    let target = target_of(rt, alloc, path)?;
-    let mut out = AsideFile::new(rt, alloc, &target, placing);
-    match write_aside(&mut out) {
-        Ok(()) => out.take_place(),
+fn place<H: Host>(host: &mut H, path: &str, placing: Placing) -> io::Result<()> {
+    let target = target_of(host, path)?;
+    let mut out = AsideFile::new(&target, placing);
+    match write_aside(host, &mut out) {
+        Ok(()) => out.take_place(host),
         Err(error) => {
-            out.discard();
+            out.discard(host);
             Err(error)
         }
     }
 }
 
 /// Why the file that a path leads to is not replaced.
-fn error_of<A: Allocator + Copy>(folder: &Folder, alloc: A, path: &str) -> Option<ErrorKind> {
-    match place(&Mounted(folder), alloc, path, Placing::Over) {
+fn error_of(host: &mut MemoryHost, path: &str) -> Option<ErrorKind> {
+    match place(host, path, Placing::Over) {
         Ok(()) => None,
         Err(error) => Some(error.kind()),
     }
 }
 
 /// Why no new file takes the place that a path leads to.
-fn new_error_of<A: Allocator + Copy>(folder: &Folder, alloc: A, path: &str) -> Option<ErrorKind> {
-    match place(&Mounted(folder), alloc, path, Placing::Free) {
+fn new_error_of(host: &mut MemoryHost, path: &str) -> Option<ErrorKind> {
+    match place(host, path, Placing::Free) {
         Ok(()) => None,
         Err(error) => Some(error.kind()),
     }
@@ -72,9 +66,9 @@ fn replaced(
     path: &str,
     shown: &[(&str, u32, &str)],
 ) -> io::Result<(Option<ErrorKind>, bool)> {
-    let folder = Folder::holding(alloc, &FILE_AND_LINK, failing)?;
-    let error = error_of(&folder, alloc, path);
-    Ok((error, folder.holds(shown)))
+    let mut host = MemoryHost::holding(alloc, &FILE_AND_LINK, failing)?;
+    let error = error_of(&mut host, path);
+    Ok((error, host.holds(shown)))
 }
 
 /// A file that stood there gives its access mode to the one that takes its place, and a link stays.
@@ -93,42 +87,29 @@ fn a_file_that_is_new(rt: HostRuntime) -> Result<(), Fail> {
     Ok(())
 }
 
+/// Which call asks whose the file aside is: where it fails, the owner is left as it is.
+const OWNER_ASKED: u32 = 3;
+
 /// Where a call fails, its error is the answer, or that no file can be written there, what stood there stands, and no
-/// file aside does. The calls: asked twice where the path leads; made, given its mode, written twice, put onto the
-/// disk, renamed.
+/// file aside does. The calls: asked twice where the path leads; made, asked whose it is, given its mode, written
+/// twice, put onto the disk, renamed.
 #[test]
 fn each_call_failing(rt: HostRuntime) -> Result<(), Fail> {
-    for failing in 0..8u32 {
+    for failing in 0..9u32 {
+        let answer = replaced(rt.alloc(), Some(failing), "image", &OLD)?;
         let error = if failing < 2 {
             ErrorKind::NotFound
         } else {
             ErrorKind::PermissionDenied
         };
-        let answer = replaced(rt.alloc(), Some(failing), "image", &OLD)?;
-        assert!(rt; answer == (Some(error), true), "call {failing}");
+        assert!(rt;
+            failing == OWNER_ASKED || answer == (Some(error), true),
+            "call {failing}"
+        );
     }
-    assert!(rt; replaced(rt.alloc(), Some(8), "image", &NEWER)? == (None, true));
-    Ok(())
-}
-
-/// Why the file is not replaced over a heap, whether what stood there stands, and how many blocks are asked.
-fn replaced_over(
-    alloc: Global,
-    heap: Refusing<Global>,
-) -> io::Result<(Option<ErrorKind>, bool, u64)> {
-    let folder = Folder::holding(alloc, &FILE_AND_LINK, None)?;
-    let error = error_of(&folder, &heap, "image");
-    Ok((error, folder.holds(&OLD), heap.asked()))
-}
-
-/// Where a block is refused, the answer is want of memory, and what stood there stands.
-#[test]
-fn each_block_refused(rt: HostRuntime) -> Result<(), Fail> {
-    let (error, is_old, asked) = replaced_over(rt.alloc(), Refusing::none(rt.alloc()))?;
-    assert!(rt; error.is_none() && !is_old && asked > 2);
-    for before in 0..asked {
-        let (error, is_old, _) = replaced_over(rt.alloc(), Refusing::one(rt.alloc(), before))?;
-        assert!(rt; error == Some(ErrorKind::OutOfMemory) && is_old);
+    for failing in [OWNER_ASKED, 9] {
+        let answer = replaced(rt.alloc(), Some(failing), "image", &NEWER)?;
+        assert!(rt; answer == (None, true), "call {failing}");
     }
     Ok(())
 }
@@ -141,33 +122,33 @@ static FIRST_TAKEN: [(&str, Kind, &str); 2] = [
 
 #[test]
 fn a_name_that_is_taken_is_left_alone(rt: HostRuntime) -> Result<(), Fail> {
-    let folder = Folder::holding(rt.alloc(), &FIRST_TAKEN, None)?;
-    assert!(rt; error_of(&folder, rt.alloc(), "image").is_none());
+    let mut host = MemoryHost::holding(rt.alloc(), &FIRST_TAKEN, None)?;
+    assert!(rt; error_of(&mut host, "image").is_none());
     let shown = [("image.0.new", 0o644, "mine"), ("image", 0o644, "newer")];
-    assert!(rt; folder.holds(&shown));
+    assert!(rt; host.holds(&shown));
     Ok(())
 }
 
 /// The folder where the names of so many files aside are taken.
-fn taken(alloc: Global, names: u32) -> Result<Folder, Fail> {
-    let folder = Folder::holding(alloc, &FILE_AND_LINK, None)?;
+fn taken(alloc: Global, names: u32) -> Result<MemoryHost, Fail> {
+    let mut host = MemoryHost::holding(alloc, &FILE_AND_LINK, None)?;
     for number in 0..names {
         let name = format!(in alloc; "image.{number}.new")?;
-        folder.put(name.as_str(), Kind::File, "mine")?;
+        host.put(name.as_str(), Kind::File, b"mine")?;
     }
-    Ok(folder)
+    Ok(host)
 }
 
 #[test]
 fn a_hundred_names_that_are_taken(rt: HostRuntime) -> Result<(), Fail> {
-    let folder = taken(rt.alloc(), 100)?;
-    assert!(rt; error_of(&folder, rt.alloc(), "image") == Some(ErrorKind::AlreadyExists));
-    assert!(rt; folder.is_like(&taken(rt.alloc(), 100)?));
+    let mut host = taken(rt.alloc(), 100)?;
+    assert!(rt; error_of(&mut host, "image") == Some(ErrorKind::AlreadyExists));
+    assert!(rt; host.is_like(&taken(rt.alloc(), 100)?));
     Ok(())
 }
 
 /// The place of a file.
-fn place_of_image(alloc: Global) -> Result<Target<Global>, AllocError> {
+fn place_of_image(alloc: Global) -> Result<Target, AllocError> {
     Ok(Target::Place(Place {
         path: "image".to_string(alloc)?,
         standing: None,
@@ -175,60 +156,57 @@ fn place_of_image(alloc: Global) -> Result<Target<Global>, AllocError> {
 }
 
 /// Whether a file aside is written and not empty. It does not take its place.
-fn is_written(folder: &Folder, target: &Target<Global>) -> bool {
-    let files = Mounted(folder);
-    let mut out = AsideFile::new(&files, folder.alloc(), target, Placing::Over);
-    write_aside(&mut out).is_ok() && !out.is_empty()
+fn is_written(host: &mut MemoryHost, target: &Target) -> bool {
+    let mut out = AsideFile::new(target, Placing::Over);
+    write_aside(host, &mut out).is_ok() && !out.is_empty()
 }
 
 #[test]
 fn what_stood_there_stands_until_the_end(rt: HostRuntime) -> Result<(), Fail> {
-    let folder = Folder::holding(rt.alloc(), &FILE_AND_LINK, None)?;
-    assert!(rt; is_written(&folder, &place_of_image(rt.alloc())?));
+    let mut host = MemoryHost::holding(rt.alloc(), &FILE_AND_LINK, None)?;
+    assert!(rt; is_written(&mut host, &place_of_image(rt.alloc())?));
     let [image, link] = OLD;
-    assert!(rt; folder.holds(&[image, link, ("image.0.new", 0o600, "newer")]));
+    assert!(rt; host.holds(&[image, link, ("image.0.new", 0o600, "newer")]));
     Ok(())
 }
 
 /// Whether a file aside to which nothing is written is empty to its end, and its end is good.
-fn ends_empty(folder: &Folder, target: &Target<Global>) -> bool {
-    let files = Mounted(folder);
-    let mut out = AsideFile::new(&files, folder.alloc(), target, Placing::Over);
-    out.flush_to_disk().is_ok() && out.is_empty() && out.take_place().is_ok()
+fn ends_empty(host: &mut MemoryHost, target: &Target) -> bool {
+    let mut out = AsideFile::new(target, Placing::Over);
+    out.flush_to_disk(host).is_ok() && out.is_empty() && out.take_place(host).is_ok()
 }
 
 #[test]
 fn nothing_is_made_where_nothing_is_written(rt: HostRuntime) -> Result<(), Fail> {
-    let folder = Folder::holding(rt.alloc(), &FILE_AND_LINK, None)?;
-    assert!(rt; ends_empty(&folder, &place_of_image(rt.alloc())?));
-    assert!(rt; folder.calls() == 0);
+    let mut host = MemoryHost::holding(rt.alloc(), &FILE_AND_LINK, None)?;
+    assert!(rt; ends_empty(&mut host, &place_of_image(rt.alloc())?));
+    assert!(rt; host.calls() == 0);
     Ok(())
 }
 
 /// Whether a file aside of which a write failed is not empty, cannot be put onto the disk, and does not take the place.
-fn remembers_a_failure(folder: &Folder, target: &Target<Global>) -> bool {
-    let files = Mounted(folder);
-    let mut out = AsideFile::new(&files, folder.alloc(), target, Placing::Over);
-    write_aside(&mut out).is_err()
+fn remembers_a_failure(host: &mut MemoryHost, target: &Target) -> bool {
+    let mut out = AsideFile::new(target, Placing::Over);
+    write_aside(host, &mut out).is_err()
         && !out.is_empty()
-        && out.flush_to_disk().is_err()
-        && out.take_place().is_err()
+        && out.flush_to_disk(host).is_err()
+        && out.take_place(host).is_err()
 }
 
 /// The calls: made, written twice.
 #[test]
 fn a_failed_write_is_not_forgotten(rt: HostRuntime) -> Result<(), Fail> {
     for failing in 0..3 {
-        let folder = Folder::holding(rt.alloc(), &[], Some(failing))?;
+        let mut host = MemoryHost::holding(rt.alloc(), &[], Some(failing))?;
         let target = place_of_image(rt.alloc())?;
-        assert!(rt; remembers_a_failure(&folder, &target), "call {failing}");
-        assert!(rt; folder.holds(&[]));
+        assert!(rt; remembers_a_failure(&mut host, &target), "call {failing}");
+        assert!(rt; host.holds(&[]));
     }
     Ok(())
 }
 
 /// The place of a file that stands there with an access mode.
-fn place_of_mode(alloc: Global, mode: u32) -> Result<Target<Global>, AllocError> {
+fn place_of_mode(alloc: Global, mode: u32) -> Result<Target, AllocError> {
     Ok(Target::Place(Place {
         path: "image".to_string(alloc)?,
         standing: Some(Standing {
@@ -244,24 +222,23 @@ fn place_of_mode(alloc: Global, mode: u32) -> Result<Target<Global>, AllocError>
 }
 
 /// Whether no file aside is made for a target, neither at first nor by the first bytes, and none takes its place.
-fn is_refused(folder: &Folder, target: &Target<Global>) -> bool {
-    let files = Mounted(folder);
-    let mut out = AsideFile::new(&files, folder.alloc(), target, Placing::Over);
-    out.open().is_err()
+fn is_refused(host: &mut MemoryHost, target: &Target) -> bool {
+    let mut out = AsideFile::new(target, Placing::Over);
+    out.open(host).is_err()
         && out.failure() == Some(ErrorKind::PermissionDenied)
-        && write_aside(&mut out).is_err()
+        && write_aside(host, &mut out).is_err()
         && !out.is_empty()
-        && out.take_place().is_err()
+        && out.take_place(host).is_err()
 }
 
 /// A file that no one may write stays, and nothing is asked of the file system.
 #[test]
 fn a_file_that_is_write_protected_stays(rt: HostRuntime) -> Result<(), Fail> {
     for mode in [0o444, 0o400, 0o555, 0o000] {
-        let folder = Folder::holding(rt.alloc(), &FILE_AND_LINK, None)?;
+        let mut host = MemoryHost::holding(rt.alloc(), &FILE_AND_LINK, None)?;
         let target = place_of_mode(rt.alloc(), mode)?;
-        assert!(rt; is_refused(&folder, &target), "{mode:o}");
-        assert!(rt; folder.holds(&OLD) && folder.calls() == 0);
+        assert!(rt; is_refused(&mut host, &target), "{mode:o}");
+        assert!(rt; host.holds(&OLD) && host.calls() == 0);
     }
     Ok(())
 }
@@ -270,9 +247,9 @@ fn a_file_that_is_write_protected_stays(rt: HostRuntime) -> Result<(), Fail> {
 #[test]
 fn a_file_that_someone_may_write_is_replaced(rt: HostRuntime) -> Result<(), Fail> {
     for mode in [0o200, 0o020, 0o002, 0o666] {
-        let folder = Folder::holding(rt.alloc(), &FILE_AND_LINK, None)?;
+        let mut host = MemoryHost::holding(rt.alloc(), &FILE_AND_LINK, None)?;
         assert!(rt;
-            is_written(&folder, &place_of_mode(rt.alloc(), mode)?),
+            is_written(&mut host, &place_of_mode(rt.alloc(), mode)?),
             "{mode:o}"
         );
     }
@@ -306,8 +283,8 @@ fn bits_of(standing: &Option<Standing>) -> Option<u32> {
 }
 
 /// Whether a path leads there.
-fn leads<A: Allocator + Copy>(folder: &Folder, alloc: A, path: &str, lead: Lead) -> bool {
-    match &target_of(&Mounted(folder), alloc, path) {
+fn leads(host: &mut MemoryHost, path: &str, lead: Lead) -> bool {
+    match &target_of(host, path) {
         Ok(Target::Straight) => lead == Lead::Straight,
         Ok(Target::StandardOutput) => lead == Lead::StandardOutput,
         Ok(Target::Nowhere) => lead == Lead::Nowhere,
@@ -320,8 +297,8 @@ fn leads<A: Allocator + Copy>(folder: &Folder, alloc: A, path: &str, lead: Lead)
 
 /// Whether a path leads there in the folder with something of each kind, where the call after so many others fails.
 fn leads_after(alloc: Global, calls: u32, path: &str, lead: Lead) -> io::Result<bool> {
-    let folder = Folder::holding(alloc, &EACH_KIND, Some(calls))?;
-    Ok(leads(&folder, alloc, path, lead))
+    let mut host = MemoryHost::holding(alloc, &EACH_KIND, Some(calls))?;
+    Ok(leads(&mut host, path, lead))
 }
 
 /// Whether a path leads there where so many calls tell it; where one of them fails, no file can be written there.
@@ -350,52 +327,31 @@ fn where_a_path_leads(rt: HostRuntime) -> Result<(), Fail> {
 #[test]
 fn a_path_that_can_not_be(rt: HostRuntime) -> Result<(), Fail> {
     for path in ["", "other/", "./", "other/..", "other/."] {
-        let folder = Folder::holding(rt.alloc(), &EACH_KIND, None)?;
-        assert!(rt; leads(&folder, rt.alloc(), path, Lead::Nowhere), "{path}");
+        let mut host = MemoryHost::holding(rt.alloc(), &EACH_KIND, None)?;
+        assert!(rt; leads(&mut host, path, Lead::Nowhere), "{path}");
     }
-    Ok(())
-}
-
-/// Whether a path leads there where the block after so many others is refused.
-fn leads_over(alloc: Global, before: u64, path: &str, lead: Lead) -> io::Result<bool> {
-    let folder = Folder::holding(alloc, &EACH_KIND, None)?;
-    let heap = Refusing::one(alloc, before);
-    Ok(leads(&folder, &heap, path, lead))
-}
-
-/// Where a block is refused, the answer is want of memory.
-#[test]
-fn each_block_of_a_path_refused(rt: HostRuntime) -> Result<(), Fail> {
-    let refused = Lead::Fails(ErrorKind::OutOfMemory);
-    assert!(rt; leads_over(rt.alloc(), 0, "link", refused)?);
-    assert!(rt; leads_over(rt.alloc(), 1, "link", refused)?);
-    assert!(rt; leads_over(rt.alloc(), 2, "link", Lead::Place("image", Some(0o644)))?);
-    for before in 0..3 {
-        assert!(rt; leads_over(rt.alloc(), before, "other", refused)?);
-    }
-    assert!(rt; leads_over(rt.alloc(), 3, "other", Lead::Place("./other", None))?);
     Ok(())
 }
 
 /// A folder that knows no second names of files: a new file takes a place at which nothing stands, and no other.
 #[test]
 fn a_new_file_takes_a_free_place_alone(rt: HostRuntime) -> Result<(), Fail> {
-    let folder = Folder::holding(rt.alloc(), &FILE_AND_LINK, None)?;
-    assert!(rt; new_error_of(&folder, rt.alloc(), "image") == Some(ErrorKind::AlreadyExists));
-    assert!(rt; new_error_of(&folder, rt.alloc(), "link") == Some(ErrorKind::AlreadyExists));
-    assert!(rt; folder.holds(&OLD));
-    assert!(rt; new_error_of(&folder, rt.alloc(), "other").is_none());
+    let mut host = MemoryHost::holding(rt.alloc(), &FILE_AND_LINK, None)?;
+    assert!(rt; new_error_of(&mut host, "image") == Some(ErrorKind::AlreadyExists));
+    assert!(rt; new_error_of(&mut host, "link") == Some(ErrorKind::AlreadyExists));
+    assert!(rt; host.holds(&OLD));
+    assert!(rt; new_error_of(&mut host, "other").is_none());
     let [image, link] = OLD;
-    assert!(rt; folder.holds(&[image, link, ("other", 0o600, "newer")]));
+    assert!(rt; host.holds(&[image, link, ("other", 0o600, "newer")]));
     Ok(())
 }
 
 /// Why no new file takes the place, where the call after so many others fails, and whether what stood there stands then
 /// and nothing else does.
 fn new_failing(alloc: Global, failing: u32) -> io::Result<(Option<ErrorKind>, bool)> {
-    let folder = Folder::holding(alloc, &FILE_AND_LINK, Some(failing))?;
-    let error = new_error_of(&folder, alloc, "other");
-    Ok((error, folder.holds(&OLD)))
+    let mut host = MemoryHost::holding(alloc, &FILE_AND_LINK, Some(failing))?;
+    let error = new_error_of(&mut host, "other");
+    Ok((error, host.holds(&OLD)))
 }
 
 /// The calls: asked three times where the path leads; made, written twice, put onto the disk; its place made, and
