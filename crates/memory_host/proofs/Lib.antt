@@ -1,0 +1,5 @@
+mod Consumed
+mod Emptied
+mod Found
+mod Leading
+mod Splits

@@ -1,8 +1,11 @@
 // What stands in a host.
-use shop_host::{Found, FoundKind, Node};
-use std::io::{self, ErrorKind};
+ghost use Rattle.std.specs.Prelude.{◌≡◌, ◌++◌, IfOk, None, Some, true};
+ghost use Rattle.memory_host.specs.Journal.{content_in, kind_in, longer, flushed as on_disk_in};
 
-/// What stands at a path.
+use shop_host::FoundKind;
+use std::alloc::{AllocError, Global};
+
+/// What is put into a host.
 #[derive(Clone, Copy, PartialEq, Eq)]
 pub enum Kind {
     File,
@@ -11,15 +14,14 @@ pub enum Kind {
     Pipe,
 }
 
-/// A path and what stands there: of a file its bytes, of a link the path that it leads to.
+/// What stands at a path: of a file its bytes, and whether all of them are on the disk; of a link the path in it.
 #[derive(Drop)]
 pub struct Entry {
-    pub path: String,
-    pub kind: Kind,
+    pub kind: FoundKind,
     /// Which one it is, whatever names it has.
     pub number: u64,
-    pub mode: u32,
     pub bytes: Vec<u8>,
+    pub on_disk: bool,
 }
 
 impl Kind {
@@ -32,8 +34,8 @@ impl Kind {
         }
     }
 
-    // As a host tells it.
-    fn found(self) -> FoundKind {
+    /// As a host tells it.
+    pub fn found(self) -> FoundKind {
         match self {
             Kind::File => FoundKind::File,
             Kind::Folder => FoundKind::Folder,
@@ -44,81 +46,65 @@ impl Kind {
 }
 
 impl Entry {
-    /// What a host tells of it.
-    pub fn found(&self) -> Found {
-        Found {
-            kind: self.kind.found(),
-            node: Node {
-                device: 1,
-                number: self.number,
+    /// Another of the same.
+    pub fn copy(&self, alloc: Global) -> Result<Entry, AllocError>
+        ensures content { IfOk result (λ copy. content_in (Some copy) ≡ content_in (Some self.now)) }
+        ensures kind { IfOk result (λ copy. copy.kind ≡ self.now.kind) }
+    {
+        Ok(Entry {
+            kind: self.kind,
+            number: self.number,
+            bytes: Vec::from_slice(alloc, self.bytes.as_slice())?,
+            on_disk: self.on_disk,
+        })
+    }
+}
+
+/// With more bytes behind its own, if it is there.
+pub fn lengthened(now: Option<Entry>, bytes: &[u8]) -> Result<Option<Entry>, AllocError>
+    ensures content { IfOk result (λ new. content_in new ≡ longer bytes.now (content_in now)) }
+    ensures kind { IfOk result (λ new. kind_in new ≡ kind_in now) }
+{
+    match now {
+        Some(
+            Entry {
+                kind,
+                number,
+                bytes: mut own,
+                on_disk: _,
             },
-            size: self.bytes.len() as u64,
-            mode: self.mode,
-            owner: 0,
-            group: 0,
+        ) => {
+            own.extend_from_slice(bytes)?;
+            Ok(Some(Entry {
+                kind,
+                number,
+                bytes: own,
+                on_disk: false,
+            }))
         }
-    }
-
-    /// Whether it has this path, this access mode and this text.
-    pub fn is(&self, path: &str, mode: u32, text: &str) -> bool {
-        self.path.as_str() == path && self.mode == mode && self.bytes.as_slice() == text.as_bytes()
-    }
-
-    /// Whether it has the path, the mode and the bytes of another.
-    pub fn is_like(&self, other: &Entry) -> bool {
-        self.path.as_str() == other.path.as_str()
-            && self.mode == other.mode
-            && self.bytes.as_slice() == other.bytes.as_slice()
+        None => Ok(None),
     }
 }
 
-// A path without what says that it begins here.
-fn plain(path: &str) -> &str {
-    path.strip_prefix("./").unwrap_or(path)
-}
-
-/// The entry of a path.
-///
-/// # Errors
-/// `NotFound`.
-pub fn entry_at<'e>(entries: &'e [Entry], path: &str) -> io::Result<&'e Entry> {
-    let path = plain(path);
-    for entry in entries {
-        if entry.path.as_str() == path {
-            return Ok(entry);
-        }
+/// With all its bytes on the disk, if it is there.
+pub fn flushed(now: Option<Entry>) -> Option<Entry>
+    ensures content { content_in result ≡ on_disk_in (content_in now) }
+    ensures kind { kind_in result ≡ kind_in now }
+{
+    match now {
+        Some(
+            Entry {
+                kind,
+                number,
+                bytes,
+                on_disk: _,
+            },
+        ) => Some(Entry {
+            kind,
+            number,
+            bytes,
+            on_disk: true,
+        }),
+        None => None,
     }
-    Err(io::Error::from(ErrorKind::NotFound))
-}
-
-/// What a path leads to. No link leads to a link.
-///
-/// # Errors
-/// `NotFound`.
-pub fn followed<'e>(entries: &'e [Entry], path: &str) -> io::Result<&'e Entry> {
-    let entry = entry_at(entries, path)?;
-    match (entry.kind, str::from_utf8(entry.bytes.as_slice())) {
-        (Kind::Link, Ok(to)) => entry_at(entries, to),
-        (Kind::Link, Err(_)) => Err(io::Error::from(ErrorKind::NotFound)),
-        _ => Ok(entry),
-    }
-}
-
-/// The entry of a number.
-///
-/// # Errors
-/// `NotFound`.
-pub fn numbered(entries: &mut [Entry], number: u64) -> io::Result<&mut Entry> {
-    for entry in entries.iter_mut() {
-        if entry.number == number {
-            return Ok(entry);
-        }
-    }
-    Err(io::Error::from(ErrorKind::NotFound))
-}
-
-/// Takes the entry of a path away, if there is one.
-pub fn remove(entries: &mut Vec<Entry>, path: &str) {
-    let path = plain(path);
-    entries.retain(|entry| entry.path.as_str() != path);
 }

@@ -1,78 +1,85 @@
-// A host in memory.
-ghost use Rattle.std.specs.Prelude.{◌≤◌, length};
+// A host in memory, and what its calls share.
+ghost use Rattle.std.specs.Prelude.{
+  ◌≡◌,
+  [],
+  IfErr,
+  IfOk,
+  IsTrue,
+  None,
+  OnErr,
+  OnOk,
+  Some,
+  string_bytes,
+};
+ghost use Rattle.std.specs.IoError.{error_kind};
+ghost use Rattle.shop_host.specs.State.{IsNoted, IsSameBut, Path, unflushed};
+ghost use Rattle.shop_host.specs.Paths.{IsIn, behind as behind_folder, in_folder};
+ghost use Rattle.memory_host.specs.Journal.{content_of, done, memory_state, regular};
 
-use crate::entries::{Entry, Kind, entry_at, followed, numbered, remove};
-use crate::units::MemoryUnits;
-use a2_media::{MemoryFile, PositionedFile};
-use shop_host::{Access, Found, Host, Lock};
+use crate::entries::{Entry, Kind};
+use crate::journal::{Change, Item};
+use crate::open::Unread;
+use crate::paths::{behind, rooted, split};
+use crate::store::{Link, Store};
+use shop_host::{Found, FoundKind, Host, Node};
 use std::alloc::Global;
 use std::io::{self, ErrorKind};
 
 /// The access mode of a file for which none is said.
-const MODE_OF_NEW: u32 = 0o600;
+pub const MODE_OF_NEW: u32 = 0o600;
 
 /// The access mode of a new folder.
-const MODE_OF_NEW_FOLDER: u32 = 0o755;
+pub const MODE_OF_NEW_FOLDER: u32 = 0o755;
 
 /// What of a mode is no kind.
 const MODE_BITS: u32 = 0o7777;
 
-/// The most bytes that one call writes or reads.
-const MOST_MOVED: usize = 3;
+/// Which calls fail.
+#[derive(Clone, Copy, PartialEq, Eq)]
+enum Failing {
+    Never,
+    /// The call after so many others.
+    Once(u32),
+    /// Each call after so many others, as on a system that has stopped.
+    From(u32),
+}
 
 /// A host in memory.
 pub struct MemoryHost {
-    alloc: Global,
-    entries: Vec<Entry>,
-    next_number: u64,
+    pub(crate) alloc: Global,
+    pub(crate) store: Store,
+    /// The access mode of each thing by its number.
+    modes: Vec<u32>,
+    pub(crate) notes: Vec<u8>,
     calls: u32,
-    failing: Option<u32>,
-    knows_links: bool,
-    input: Vec<u8>,
-    notes: Vec<u8>,
+    failing: Failing,
+    pub(crate) knows_links: bool,
 }
 
 impl Drop for MemoryHost {
     fn drop(self) {
         let MemoryHost {
             alloc: _,
-            entries: _,
-            next_number: _,
+            store: _,
+            modes: _,
+            notes: _,
             calls: _,
             failing: _,
             knows_links: _,
-            input: _,
-            notes: _,
         } = self;
     }
 }
 
-/// An open file of a host in memory, and how far it was read.
-#[derive(Drop)]
-pub struct OpenEntry {
-    number: u64,
-    read: usize,
-}
-
-fn unsupported() -> io::Error {
-    io::Error::from(ErrorKind::Unsupported)
-}
-
-// How many bytes one call moves, of so many and into so much room.
-fn moved(bytes: usize, room: usize) -> usize
-    ensures { (result ≤ bytes) × (result ≤ room) }
-{
-    let most = if bytes < room { bytes } else { room };
-    if most < MOST_MOVED { most } else { MOST_MOVED }
-}
-
-// Copies a front of these bytes, and answers how many they are.
-fn copied(from: &[u8], to: &mut [u8]) -> usize
-    ensures { (result ≤ length from.now) × (result ≤ length to.new) }
-{
-    let count = moved(from.len(), to.len());
-    to[..count].copy_from_slice(&from[..count]);
-    count
+/// Refuses a path that does not begin at the root, or ends in a slash: only at the other ones something is made.
+///
+/// # Errors
+/// `InvalidInput`.
+pub fn refuse_unrooted(path: &str) -> io::Result<()> {
+    if path.starts_with('/') && !path.ends_with('/') {
+        Ok(())
+    } else {
+        Err(io::Error::from(ErrorKind::InvalidInput))
+    }
 }
 
 impl MemoryHost {
@@ -82,26 +89,60 @@ impl MemoryHost {
         alloc: Global,
         entries: &[(&str, Kind, &str)],
         failing: Option<u32>,
-    ) -> io::Result<MemoryHost> {
-        let mut host = MemoryHost {
-            alloc,
-            entries: Vec::new(alloc),
-            next_number: 0,
-            calls: 0,
-            failing,
-            knows_links: false,
-            input: Vec::new(alloc),
-            notes: Vec::new(alloc),
-        };
+    ) -> io::Result<MemoryHost>
+        ensures { IfOk result (λ host. IsTrue (⟦<MemoryHost as Host>⟧.state host).honest) }
+    {
+        let mut host = MemoryHost::new(alloc, failing);
         for (path, kind, text) in entries {
             host.put(path, *kind, text.as_bytes())?;
         }
         Ok(host)
     }
 
-    /// Puts something at a path that is free. This is no call.
+    // A host in which nothing stands.
+    fn new(alloc: Global, failing: Option<u32>) -> MemoryHost {
+        MemoryHost {
+            alloc,
+            store: Store {
+                links: Vec::new(alloc),
+                items: Vec::new(alloc),
+                locks: Vec::new(alloc),
+                input: Unread::empty(alloc),
+            },
+            modes: Vec::new(alloc),
+            notes: Vec::new(alloc),
+            calls: 0,
+            failing: match failing {
+                Some(call) => Failing::Once(call),
+                None => Failing::Never,
+            },
+            knows_links: false,
+        }
+    }
+
+    /// Puts something at a path that is free. This is no call, but what stands then is a moment too.
     pub fn put(&mut self, path: &str, kind: Kind, bytes: &[u8]) -> io::Result<()> {
-        self.add(path, kind, kind.mode(), bytes)?;
+        let own = rooted(self.alloc, path)?;
+        if kind == Kind::Link {
+            self.put_link(path, own.as_str(), bytes)?;
+        }
+        let own_bytes = Vec::from_slice(self.alloc, bytes)?;
+        let entry = self.new_entry(kind.found(), kind.mode(), own_bytes, true)?;
+        self.keep(own.as_str(), Change::Stands(entry))
+    }
+
+    // Lets a path lead where the link leads that is put there.
+    fn put_link(&mut self, path: &str, own: &str, text: &[u8]) -> io::Result<()> {
+        let Ok(to) = str::from_utf8(text) else {
+            return Err(io::Error::from(ErrorKind::InvalidData));
+        };
+        let (folder, _) = split(path);
+        let there = behind(self.alloc, folder, to)?;
+        let link = Link {
+            path: own.to_string(self.alloc)?,
+            to: self.store.leads(self.alloc, there.as_str())?,
+        };
+        self.store.links.push(link)?;
         Ok(())
     }
 
@@ -110,9 +151,17 @@ impl MemoryHost {
         self.knows_links = true;
     }
 
+    /// Lets each call fail after so many others, as on a system that has stopped: nothing is changed any more.
+    pub fn stop_after(&mut self, calls: u32) {
+        self.failing = Failing::From(calls);
+    }
+
     /// Gives standard input these bytes.
     pub fn give_input(&mut self, bytes: &[u8]) -> io::Result<()> {
-        self.input = Vec::from_slice(self.alloc, bytes)?;
+        self.store.input = Unread {
+            bytes: Vec::from_slice(self.alloc, bytes)?,
+            read: 0,
+        };
         Ok(())
     }
 
@@ -126,284 +175,234 @@ impl MemoryHost {
         self.notes.as_slice()
     }
 
-    /// The bytes of the file at a path; none where nothing stands there.
-    pub fn bytes(&self, path: &str) -> Option<&[u8]> {
-        match entry_at(self.entries.as_slice(), path) {
-            Ok(entry) => Some(entry.bytes.as_slice()),
-            Err(_) => None,
+    // Whether the next call fails.
+    pub(crate) fn is_failing(&self) -> bool {
+        match self.failing {
+            Failing::Never => false,
+            Failing::Once(call) => self.calls == call,
+            Failing::From(call) => self.calls >= call,
         }
     }
 
-    /// Whether these stand there, in the order in which they were put there, each with this access mode and this text.
-    pub fn holds(&self, stated: &[(&str, u32, &str)]) -> bool {
-        for (entry, (path, mode, text)) in self.entries.iter().zip(stated) {
-            if !entry.is(path, *mode, text) {
-                return false;
-            }
-        }
-        self.entries.len() == stated.len()
+    // Whether no call succeeds any more.
+    pub(crate) fn is_stopped(&self) -> bool {
+        matches!(self.failing, Failing::From(_)) && self.is_failing()
     }
 
-    /// Whether the same stands there as in another host, in the same order.
-    pub fn is_like(&self, other: &MemoryHost) -> bool {
-        for (entry, other) in self.entries.iter().zip(other.entries.iter()) {
-            if !entry.is_like(other) {
-                return false;
-            }
-        }
-        self.entries.len() == other.entries.len()
-    }
-
-    // Puts something at a path that is free, and answers its number.
-    fn add(&mut self, path: &str, kind: Kind, mode: u32, bytes: &[u8]) -> io::Result<u64> {
-        let number = self.next_number;
-        self.next_number = number.wrapping_add(1);
-        let path = path.strip_prefix("./").unwrap_or(path);
-        self.entries.push(Entry {
-            path: path.to_string(self.alloc)?,
-            kind,
-            number,
-            mode,
-            bytes: Vec::from_slice(self.alloc, bytes)?,
-        })?;
-        Ok(number)
-    }
-
-    // Counts a call, and fails the one that is to fail.
-    fn count(&mut self) -> io::Result<()> {
-        let before = self.calls;
-        self.calls = before.wrapping_add(1);
-        if self.failing == Some(before) {
+    // Counts a call, and fails one that is to fail.
+    pub(crate) fn count(&mut self) -> io::Result<()>
+        ensures store { self.new.store ≡ self.old.store }
+        ensures notes { self.new.notes ≡ self.old.notes }
+        ensures failed { IfErr result (λ error. error_kind error ≡ ErrorKind.PermissionDenied) }
+    {
+        let fails = self.is_failing();
+        self.calls = self.calls.wrapping_add(1);
+        if fails {
             return Err(io::Error::from(ErrorKind::PermissionDenied));
         }
         Ok(())
     }
 
-    // Refuses a path at which something stands.
-    fn refuse_taken(&self, path: &str) -> io::Result<()> {
-        match entry_at(self.entries.as_slice(), path) {
-            Ok(_) => Err(io::Error::from(ErrorKind::AlreadyExists)),
-            Err(_) => Ok(()),
-        }
-    }
-}
-
-impl Host for MemoryHost {
-    type File = OpenEntry;
-
-    type Units = MemoryUnits;
-
-    type Names = Vec<String>;
-
-    ghost use Rattle.std.specs.Prelude.{None};
-
-    ghost written = { λ _. None };
-
-    ghost unread = { λ _. None };
-
-    ghost input = { λ _. None };
-
-    ghost noted = { λ _. None };
-
-    fn alloc(&self) -> Global {
-        self.alloc
-    }
-
-    fn found(&mut self, path: &str) -> io::Result<Found> {
-        self.count()?;
-        Ok(followed(self.entries.as_slice(), path)?.found())
-    }
-
-    fn found_itself(&mut self, path: &str) -> io::Result<Found> {
-        self.count()?;
-        Ok(entry_at(self.entries.as_slice(), path)?.found())
-    }
-
-    fn found_open(&mut self, file: &OpenEntry) -> io::Result<Found> {
-        self.count()?;
-        Ok(numbered(self.entries.as_mut_slice(), file.number)?.found())
-    }
-
-    fn own_path(&mut self, path: &str) -> io::Result<String> {
-        self.count()?;
-        if path == "." {
-            return Ok(path.to_string(self.alloc)?);
-        }
-        let entry = followed(self.entries.as_slice(), path)?;
-        Ok(entry.path.as_str().to_string(self.alloc)?)
-    }
-
-    fn link_target(&mut self, path: &str) -> io::Result<String> {
-        self.count()?;
-        let entry = entry_at(self.entries.as_slice(), path)?;
-        match str::from_utf8(entry.bytes.as_slice()) {
-            Ok(to) => Ok(to.to_string(self.alloc)?),
-            Err(_) => Err(io::Error::from(ErrorKind::InvalidData)),
-        }
-    }
-
-    fn open(&mut self, path: &str, _access: Access) -> io::Result<OpenEntry> {
-        self.count()?;
-        let number = followed(self.entries.as_slice(), path)?.number;
-        Ok(OpenEntry { number, read: 0 })
-    }
-
-    fn make(&mut self, path: &str, mode: Option<u32>) -> io::Result<OpenEntry> {
-        self.count()?;
-        self.refuse_taken(path)?;
-        let number = self.add(path, Kind::File, mode.unwrap_or(MODE_OF_NEW), &[])?;
-        Ok(OpenEntry { number, read: 0 })
-    }
-
-    fn open_empty(&mut self, path: &str) -> io::Result<OpenEntry> {
-        self.count()?;
-        let number = followed(self.entries.as_slice(), path)?.number;
-        numbered(self.entries.as_mut_slice(), number)?.bytes.clear();
-        Ok(OpenEntry { number, read: 0 })
-    }
-
-    fn lock(&mut self, _file: &OpenEntry, _lock: Lock) -> io::Result<()> {
-        self.count()
-    }
-
-    fn read(&mut self, file: &mut OpenEntry, bytes: &mut [u8]) -> io::Result<usize> {
-        self.count()?;
-        let entry = numbered(self.entries.as_mut_slice(), file.number)?;
-        let rest = entry.bytes.as_slice().get(file.read..).unwrap_or(&[]);
-        let count = copied(rest, bytes);
-        file.read = file.read.saturating_add(count);
-        Ok(count)
-    }
-
-    fn write(&mut self, file: &mut OpenEntry, bytes: &[u8]) -> io::Result<usize> {
-        self.count()?;
-        let count = moved(bytes.len(), bytes.len());
-        let entry = numbered(self.entries.as_mut_slice(), file.number)?;
-        entry.bytes.extend_from_slice(&bytes[..count])?;
-        Ok(count)
-    }
-
-    fn flush(&mut self, _file: &OpenEntry) -> io::Result<()> {
-        self.count()
-    }
-
-    fn set_mode(&mut self, file: &OpenEntry, mode: u32) -> io::Result<()> {
-        self.count()?;
-        numbered(self.entries.as_mut_slice(), file.number)?.mode = mode & MODE_BITS;
+    // Keeps what came of a path.
+    pub(crate) fn keep(&mut self, path: &str, change: Change) -> io::Result<()>
+        ensures done { OnOk result (memory_state self.new.store ≡ done path.now change (memory_state self.old.store)) }
+        ensures failed { OnErr result (memory_state self.new.store ≡ memory_state self.old.store) }
+    {
+        let path = path.to_string(self.alloc)?;
+        self.store.keep(Item { path, change })?;
         Ok(())
     }
 
-    fn set_owner(
+    // Something new, of such a mode.
+    pub(crate) fn new_entry(
         &mut self,
-        path: &str,
-        _owner: Option<u32>,
-        _group: Option<u32>,
-    ) -> io::Result<()> {
-        self.count()?;
-        entry_at(self.entries.as_slice(), path)?;
-        Ok(())
-    }
-
-    fn units(&mut self, file: &OpenEntry) -> io::Result<MemoryUnits> {
-        self.count()?;
-        let number = file.number;
-        let entry = numbered(self.entries.as_mut_slice(), number)?;
-        let bytes = Vec::from_slice(self.alloc, entry.bytes.as_slice())?;
-        Ok(MemoryUnits {
+        kind: FoundKind,
+        mode: u32,
+        bytes: Vec<u8>,
+        on_disk: bool,
+    ) -> io::Result<Entry>
+        ensures store { self.new.store ≡ self.old.store }
+        ensures content { IfOk result (λ entry. content_of entry ≡ regular kind bytes.items on_disk) }
+    {
+        let number = self.modes.len() as u64;
+        self.modes.push(mode)?;
+        Ok(Entry {
+            kind,
             number,
-            file: MemoryFile::new(bytes),
+            bytes,
+            on_disk,
         })
     }
 
-    fn flush_units(&mut self, units: &MemoryUnits) -> io::Result<()> {
-        self.count()?;
-        let bytes = Vec::from_slice(self.alloc, units.file.as_bytes())?;
-        numbered(self.entries.as_mut_slice(), units.number)?.bytes = bytes;
+    // Gives a thing an access mode.
+    pub(crate) fn give_mode(&mut self, number: u64, mode: u32) -> io::Result<()>
+        ensures store { self.new.store ≡ self.old.store }
+    {
+        let Some(own) = self.modes.get_mut(number as usize) else {
+            return Err(io::Error::from(ErrorKind::NotFound));
+        };
+        *own = mode & MODE_BITS;
         Ok(())
     }
 
-    fn rename(&mut self, from: &str, to: &str) -> io::Result<()> {
-        self.count()?;
-        let to = to.strip_prefix("./").unwrap_or(to).to_string(self.alloc)?;
-        let number = entry_at(self.entries.as_slice(), from)?.number;
-        remove(&mut self.entries, to.as_str());
-        numbered(self.entries.as_mut_slice(), number)?.path = to;
-        Ok(())
-    }
-
-    fn link(&mut self, from: &str, to: &str) -> io::Result<()> {
-        if !self.knows_links {
-            return Err(unsupported());
+    // The access mode of a thing.
+    pub(crate) fn mode_of(&self, entry: &Entry) -> u32 {
+        match self.modes.get(entry.number as usize) {
+            Some(mode) => *mode,
+            None => MODE_OF_NEW,
         }
-        self.count()?;
-        self.refuse_taken(to)?;
-        let entry = entry_at(self.entries.as_slice(), from)?;
-        let (kind, mode) = (entry.kind, entry.mode);
-        let bytes = Vec::from_slice(self.alloc, entry.bytes.as_slice())?;
-        self.add(to, kind, mode, bytes.as_slice())?;
-        Ok(())
     }
 
-    fn remove(&mut self, path: &str) -> io::Result<()> {
-        self.count()?;
-        entry_at(self.entries.as_slice(), path)?;
-        remove(&mut self.entries, path);
-        Ok(())
+    // What is told of a thing.
+    pub(crate) fn found_of(&self, entry: &Entry) -> Found
+        ensures { result.kind ≡ entry.now.kind }
+    {
+        Found {
+            kind: entry.kind,
+            node: Node {
+                device: 1,
+                number: entry.number,
+            },
+            size: entry.bytes.len() as u64,
+            mode: self.mode_of(entry),
+            owner: 0,
+            group: 0,
+        }
     }
 
-    fn make_folder(&mut self, path: &str) -> io::Result<()> {
-        self.count()?;
-        self.refuse_taken(path)?;
-        self.add(path, Kind::Folder, MODE_OF_NEW_FOLDER, &[])?;
-        Ok(())
+    // What stands at a path from the root on.
+    pub(crate) fn standing(&self, path: &str) -> io::Result<Entry>
+        ensures { IfOk result (λ entry. (memory_state self.now.store).files path.now ≡ content_of entry) }
+    {
+        match self.store.at(self.alloc, path)? {
+            Some(entry) => Ok(entry),
+            None => Err(io::Error::from(ErrorKind::NotFound)),
+        }
     }
 
-    fn set_folder_mode(&mut self, path: &str, mode: u32) -> io::Result<()> {
-        self.count()?;
-        let number = entry_at(self.entries.as_slice(), path)?.number;
-        numbered(self.entries.as_mut_slice(), number)?.mode = mode & MODE_BITS;
-        Ok(())
+    // The own path of what a path leads to, and what that is.
+    pub(crate) fn led(&self, path: &str) -> io::Result<(String, Entry)>
+        ensures place { IfOk result (λ led. string_bytes led.0 ≡ (memory_state self.now.store).leads path.now) }
+        ensures content { IfOk result (λ led. (memory_state self.now.store).files
+            ((memory_state self.now.store).leads path.now) ≡ content_of led.1) }
+        ensures kind { IfOk result (λ led. (memory_state self.now.store).kind
+            ((memory_state self.now.store).leads path.now) ≡ Some led.1.kind) }
+        ensures missing { IfErr result (λ error. error_kind error ≡ ErrorKind.NotFound
+            → (memory_state self.now.store).files ((memory_state self.now.store).leads path.now) ≡ None) }
+    {
+        let own = self.store.leads(self.alloc, path)?;
+        match self.store.at(self.alloc, own.as_str())? {
+            Some(entry) => Ok((own, entry)),
+            None => Err(io::Error::from(ErrorKind::NotFound)),
+        }
     }
 
-    fn remove_folder(&mut self, path: &str) -> io::Result<()> {
-        self.count()?;
-        let within = format!(in self.alloc; "{path}/")?;
-        remove(&mut self.entries, path);
-        self.entries
-            .retain(|entry| !entry.path.as_str().starts_with(within.as_str()));
-        Ok(())
+    // What stands at a path itself.
+    pub(crate) fn standing_itself(&self, path: &str) -> io::Result<Entry>
+        ensures kind { IfOk result (λ entry. (memory_state self.now.store).kind path.now ≡ Some entry.kind) }
+        ensures missing { IfErr result (λ error. error_kind error ≡ ErrorKind.NotFound
+            → ((memory_state self.now.store).kind path.now ≡ None)
+            × ((folder name : Path) → IsIn folder name path.now → (memory_state self.now.store).leads path.now
+            ≡ in_folder ((memory_state self.now.store).leads folder) name)) }
+    {
+        let own = rooted(self.alloc, path)?;
+        if let Some(entry) = self.store.at(self.alloc, own.as_str())? {
+            return Ok(entry);
+        }
+        if self.store.leads_to_its_name(self.alloc, path)? {
+            Err(io::Error::from(ErrorKind::NotFound))
+        } else {
+            Err(io::Error::from(ErrorKind::PermissionDenied))
+        }
     }
 
-    fn names(&mut self, path: &str) -> io::Result<Vec<String>> {
-        self.count()?;
-        let within = format!(in self.alloc; "{path}/")?;
-        let mut names = Vec::new(self.alloc);
-        for entry in self.entries.iter() {
-            if let Some(name) = entry.path.as_str().strip_prefix(within.as_str())
-                && !name.contains('/')
-            {
-                names.push(name.to_string(self.alloc)?)?;
+    // Refuses a path at which something stands.
+    pub(crate) fn refuse_taken(&self, path: &str) -> io::Result<()>
+        ensures { OnOk result ((memory_state self.now.store).files path.now ≡ None) }
+    {
+        match self.store.at(self.alloc, path)? {
+            Some(_) => Err(io::Error::from(ErrorKind::AlreadyExists)),
+            None => Ok(()),
+        }
+    }
+
+    // Refuses a path whose place a thing may not take: that of a link, of a folder where it is none or where something
+    // is in that, and of any other thing where it is a folder.
+    pub(crate) fn refuse_unreplaced(&self, entry: &Entry, path: &str) -> io::Result<()> {
+        let Some(standing) = self.store.at(self.alloc, path)? else {
+            return Ok(());
+        };
+        let is_free = match standing.kind {
+            FoundKind::Folder => {
+                entry.kind == FoundKind::Folder && self.names_in(path)?.is_empty()
             }
+            FoundKind::Link => false,
+            FoundKind::File | FoundKind::Other => entry.kind != FoundKind::Folder,
+        };
+        if is_free {
+            Ok(())
+        } else {
+            Err(io::Error::from(ErrorKind::PermissionDenied))
         }
-        Ok(names)
     }
 
-    fn next_name(&mut self, names: &mut Vec<String>) -> Option<io::Result<String>> {
-        match self.count() {
-            Ok(()) => Some(Ok(names.pop()?)),
-            Err(error) => Some(Err(error)),
+    // The path of what a path leads to. The root is a folder.
+    pub(crate) fn own(&self, path: &str) -> io::Result<String>
+        ensures { IfOk result (λ own. string_bytes own ≡ (memory_state self.now.store).leads path.now) }
+    {
+        let own = self.store.leads(self.alloc, path)?;
+        if own.as_str() != "/" {
+            let _entry = self.standing(own.as_str())?;
+        }
+        Ok(own)
+    }
+
+    // The path in a link.
+    pub(crate) fn target(&self, path: &str) -> io::Result<String>
+        ensures { IfOk result (λ to. (folder name : Path) → IsIn folder name path.now
+            → (memory_state self.now.store).leads path.now
+            ≡ (memory_state self.now.store).leads (behind_folder folder (string_bytes to))) }
+    {
+        let Entry { kind, bytes, .. } = self.standing_itself(path)?;
+        let to = match str::from_utf8(bytes.as_slice()) {
+            Ok(to) if kind == FoundKind::Link => to.to_string(self.alloc)?,
+            _ => return Err(io::Error::from(ErrorKind::InvalidInput)),
+        };
+        if self.store.leads_by(self.alloc, path, to.as_str())? {
+            Ok(to)
+        } else {
+            Err(io::Error::from(ErrorKind::PermissionDenied))
         }
     }
 
-    fn read_input(&mut self, bytes: &mut [u8]) -> io::Result<usize> {
-        self.count()?;
-        let count = copied(self.input.as_slice(), bytes);
-        self.input.drain(..count);
-        Ok(count)
+    // Makes a new empty file.
+    pub(crate) fn make_file(&mut self, path: &str, mode: u32) -> io::Result<()>
+        ensures done { OnOk result (IsNoted (memory_state self.old.store) (memory_state self.new.store)
+            × ((memory_state self.new.store).files path.now ≡ unflushed [])
+            × IsSameBut path.now (memory_state self.old.store).files (memory_state self.new.store).files) }
+        ensures failed { OnErr result (memory_state self.new.store ≡ memory_state self.old.store) }
+    {
+        let entry = self.new_entry(FoundKind::File, mode, Vec::new(self.alloc), false)?;
+        self.keep(path, Change::Stands(entry))
     }
 
-    fn note(&mut self, bytes: &[u8]) -> io::Result<usize> {
-        self.notes.extend_from_slice(bytes)?;
-        Ok(bytes.len())
+    // Takes the bytes of a regular file away, which stands at a path. No other thing loses any; a folder is refused.
+    pub(crate) fn empty(&mut self, path: &str, entry: &Entry) -> io::Result<()>
+        ensures { IsNoted (memory_state self.old.store) (memory_state self.new.store)
+            × IsSameBut path.now (memory_state self.old.store).files (memory_state self.new.store).files }
+    {
+        match entry.kind {
+            FoundKind::Folder => Err(io::Error::from(ErrorKind::PermissionDenied)),
+            FoundKind::File => self.keep(
+                path,
+                Change::Stands(Entry {
+                    kind: FoundKind::File,
+                    number: entry.number,
+                    bytes: Vec::new(self.alloc),
+                    on_disk: false,
+                }),
+            ),
+            _ => Ok(()),
+        }
     }
 }

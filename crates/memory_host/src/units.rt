@@ -3,10 +3,10 @@ ghost use Rattle.std.proofs.Common.{rules};
 
 use a2_media::{FileFailure, MemoryFile, PositionedFile};
 
-/// A copy of the bytes of a file. The host takes them over when they are put onto the disk.
+/// A copy of the bytes of a file, with its own path. The host takes them over when they are put onto the disk.
 #[derive(Drop)]
 pub struct MemoryUnits {
-    pub number: u64,
+    pub place: String,
     pub file: MemoryFile,
 }
 

@@ -1,11 +1,4 @@
-pub mod Images
 pub mod Outputs
 pub mod Roles
-pub mod Endings
-pub mod Written
-pub mod Known
-pub mod Protected
 pub mod Foreign
-pub mod Told
-pub mod Folders
-pub mod Start
+pub mod Noted

@@ -1,14 +1,15 @@
 -- Where the paths of a job lead, and the files that it writes.
 use Rattle.std.specs.Prelude.{◌≡◌, ◌≢◌, ℕ, false, true, List, Option, Some, None, option_map, string_bytes}
-use Rattle.shop_files.specs.declared.target.Target.{Target}
-use Rattle.shop_files.specs.declared.target.Target.TheVariants.{Nowhere}
+use Rattle.shop_outputs.specs.declared.target.Target.{Target}
+use Rattle.shop_outputs.specs.declared.target.Target.TheVariants.{Nowhere}
 use Rattle.shop_jobs.specs.Input.{StandardInput, folder_of, path_beside, path_of}
 use Rattle.shop_jobs.specs.Job.{JobView, TargetView, file_of, is_new_file}
-use Rattle.shop_files.specs.Written.{GoesTo, IsUntouched}
-use Rattle.shop_files.specs.declared.aside.Placing.{Placing}
-use Rattle.shop_files.specs.declared.aside.Placing.TheVariants.{Free, Over}
-use Rattle.shop_files.specs.declared.output.Output.{Output}
-use Rattle.shop_files.specs.declared.output.Output.TheVariants.{Nothing}
+use Rattle.shop_outputs.specs.Asides.{Destination, IsDestinationOf, nowhere}
+use Rattle.shop_outputs.specs.Written.{GoesTo, IsUntouched}
+use Rattle.shop_outputs.specs.declared.aside.Placing.{Placing}
+use Rattle.shop_outputs.specs.declared.aside.Placing.TheVariants.{Free, Over}
+use Rattle.shop_outputs.specs.declared.output.Output.{Output}
+use Rattle.shop_outputs.specs.declared.output.Output.TheVariants.{Nothing}
 use Rattle.shop_files.specs.declared.files.JobFiles.{JobFiles}
 use Rattle.shop_files.specs.declared.files.NamedFile.{NamedFile}
 
@@ -18,6 +19,11 @@ abbrev pub IsOutputOf :
     {H File Units Names : Type 0} → Option (List ℕ) → Target → Placing → Output H File Units Names → Type 0
 IsOutputOf None target placing output = output ≡ Nothing
 IsOutputOf (Some path) target placing output = GoesTo path target placing output × IsUntouched output
+
+-- where the output of a path goes that may be left out: nowhere without a path
+abbrev pub IsDestination : Option (List ℕ) → Target → Option (List ℕ) → Placing → Destination → Type 0
+IsDestination None target apart placing to = to ≡ nowhere
+IsDestination (Some path) target apart placing to = IsDestinationOf path target apart placing to
 
 -- an output file that is to be a new one may take a free place alone
 pub record IsPlacingOf (output : TargetView) (placing : Placing) : Type 0 where

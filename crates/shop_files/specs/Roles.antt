@@ -3,16 +3,16 @@ use Rattle.std.specs.Prelude.{◌≡◌, ◌≢◌, ◌⊎◌, ℕ, Bool, false,
 use Rattle.std.specs.Prelude.{IsSome, IsTrue, codes, option_map, string_bytes}
 use Rattle.std.specs.Path.{PathStartsWith}
 use Rattle.shop_host.specs.declared.found.Node.{Node}
-use Rattle.shop_files.specs.declared.target.Standing.{Standing}
-use Rattle.shop_files.specs.declared.target.Target.{Target}
-use Rattle.shop_files.specs.declared.target.Target.TheVariants.{Place, Straight, StandardOutput, Nowhere}
+use Rattle.shop_outputs.specs.declared.target.Standing.{Standing}
+use Rattle.shop_outputs.specs.declared.target.Target.{Target}
+use Rattle.shop_outputs.specs.declared.target.Target.TheVariants.{Place, Straight, StandardOutput, Nowhere}
 use Rattle.shop_files.specs.declared.clash.Clash.{Clash}
 use Rattle.shop_files.specs.declared.clash.Clash.TheVariants.{OutAndCertificate, InPlaceAndCertificate, OutAndFrom, OutInFrom, InPlaceAndFrom, ImageAndCertificate, FromAndCertificate}
 use Rattle.shop_files.specs.declared.clash.Roles.{Roles}
 use Rattle.shop_files.specs.declared.files.JobFiles.{JobFiles}
 use Rattle.shop_files.specs.declared.identity.FileIdentity.{FileIdentity}
-use Rattle.shop_files.specs.declared.image.ImageUse.{ImageUse}
-use Rattle.shop_files.specs.declared.image.ImageUse.TheVariants.{Read, Replace, Change}
+use Rattle.shop_inputs.specs.declared.image.ImageUse.{ImageUse}
+use Rattle.shop_inputs.specs.declared.image.ImageUse.TheVariants.{Read, Replace, Change}
 
 -- which file it is: by its path, and by its device and number
 pub record IdentityView : Type 0 where

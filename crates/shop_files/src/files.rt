@@ -1,18 +1,26 @@
 // Where the paths of a job lead.
-ghost use Rattle.std.specs.Prelude.{◌≡◌, ◌↔◌, IfErr, IfOk, IfSome, IsTrue, None, option_map, string_bytes};
+ghost use Rattle.std.specs.Prelude.{◌≡◌, ◌≢◌, ◌↔◌, IfErr, IfOk, IfSome, IsTrue, None, option_map, string_bytes};
 ghost use Rattle.std.specs.IoError.{error_kind};
-ghost use Rattle.shop_jobs.specs.Input.{beside_view, folder_of};
+ghost use Rattle.shop_jobs.specs.Input.{StandardInput, beside_view, folder_of, source_view};
 ghost use Rattle.shop_jobs.specs.Job.{job_view, target_view};
-ghost use Rattle.shop_files.specs.Outputs.{IsNamed, IsOutputOf, IsPlacingOf, NamesFiles};
+ghost use Rattle.shop_files.specs.Outputs.{
+  IsDestination,
+  IsNamed,
+  IsOutputOf,
+  IsPlacingOf,
+  NamesFiles,
+};
 ghost use Rattle.shop_files.specs.Roles.{HasClash, IsUse, identity_of, identity_view, image_identity, roles_of};
+ghost use Rattle.shop_host.specs.Runs.{IsLooking};
+ghost use Rattle.shop_outputs.specs.Asides.{destination};
 ghost use Rattle.shop_files.specs.declared.clash.Clash.{Clash as AClash};
 
 use crate::clash::{Clash, Roles};
 use crate::identity::{FileIdentity, is_same_file};
-use crate::image::ImageUse;
-use crate::{Output, Placing, Target, target_of};
 use shop_host::{Host, Node};
+use shop_inputs::ImageUse;
 use shop_jobs::{Beside, Job, Source};
+use shop_outputs::{Output, Placing, Target, target_of};
 use std::alloc::Global;
 use std::io::{self, ErrorKind};
 
@@ -37,6 +45,7 @@ impl NamedFile {
     fn of<H: Host>(host: &mut H, path: Option<&str>) -> io::Result<NamedFile>
         ensures named { IfOk result (IsNamed (option_map (λ s. s.now) path.entry)) }
         ensures failed { IfErr result (λ error. error_kind error ≡ ErrorKind.OutOfMemory) }
+        ensures looked { IsTrue (H.state host.old).honest → IsLooking (H.state host.old) (H.state host.new) }
     {
         let Some(path) = path else {
             return Ok(NamedFile {
@@ -67,18 +76,31 @@ impl NamedFile {
         }
     }
 
-    // The file to be written there, if there is a path, which may take such a place.
-    fn output<H: Host>(&self, alloc: Global, placing: Placing) -> Output<'_, H>
-        ensures { IsOutputOf (option_map string_bytes self.now.path) self.now.target placing result }
+    // The file to be written there, if there is a path, which may take such a place; no file aside gets the path of
+    // the other file.
+    fn output<'a, H: Host>(
+        &'a self,
+        alloc: Global,
+        other: &'a NamedFile,
+        placing: Placing,
+    ) -> Output<'a, H>
+        ensures output { IsOutputOf (option_map string_bytes self.now.path) self.now.target placing result }
+        ensures destination { IsDestination (option_map string_bytes self.now.path) self.now.target
+            (identity_of other.now.target).path placing (destination result) }
     {
         match &self.path {
-            Some(path) => Output::new(alloc, path.as_str(), &self.target, placing),
+            Some(path) => {
+                let apart = other.identity().path;
+                Output::new(alloc, path.as_str(), &self.target, apart, placing)
+            }
             None => Output::Nothing,
         }
     }
 
     // Whether something stands at the path itself, a link too.
-    fn is_taken<H: Host>(&self, host: &mut H) -> bool {
+    fn is_taken<H: Host>(&self, host: &mut H) -> bool
+        ensures looked { IsTrue (H.state host.old).honest → IsLooking (H.state host.old) (H.state host.new) }
+    {
         match &self.path {
             Some(path) => host.found_itself(path.as_str()).is_ok(),
             None => false,
@@ -128,6 +150,7 @@ fn placing_of(output: &shop_jobs::Target) -> Placing
 fn added_folder<H: Host>(host: &mut H, beside: &Beside) -> io::Result<Option<String>>
     ensures none { folder_of (beside_view beside.now) ≡ None → IfOk result (λ folder. folder ≡ None) }
     ensures failed { IfErr result (λ error. error_kind error ≡ ErrorKind.OutOfMemory) }
+    ensures looked { IsTrue (H.state host.old).honest → IsLooking (H.state host.old) (H.state host.new) }
 {
     let Some(path) = beside.folder() else {
         return Ok(None);
@@ -140,9 +163,24 @@ fn added_folder<H: Host>(host: &mut H, beside: &Beside) -> io::Result<Option<Str
 }
 
 // Which file standard input is, if it is a regular one and the system shows it.
-fn input_node<H: Host>(host: &mut H) -> Option<Node> {
-    let found = host.found(STANDARD_INPUT).ok()?;
-    found.is_file().then_some(found.node)
+fn input_node<H: Host>(host: &mut H) -> Option<Node>
+    ensures { IsTrue (H.state host.old).honest → IsLooking (H.state host.old) (H.state host.new) }
+{
+    match host.found(STANDARD_INPUT) {
+        Ok(found) if found.is_file() => Some(found.node),
+        _ => None,
+    }
+}
+
+// Which file the image comes from where it is standard input, if that is known.
+fn input_of<H: Host>(host: &mut H, image: &Source) -> Option<Node>
+    ensures looked { IsTrue (H.state host.old).honest → IsLooking (H.state host.old) (H.state host.new) }
+    ensures none { source_view image.now ≢ StandardInput → result ≡ None }
+{
+    match image {
+        Source::StandardInput => input_node(host),
+        Source::Nothing | Source::File(_) => None,
+    }
 }
 
 impl JobFiles {
@@ -153,11 +191,9 @@ impl JobFiles {
     pub fn of<H: Host>(host: &mut H, job: &Job) -> io::Result<JobFiles>
         ensures named { IfOk result (NamesFiles (job_view job.now)) }
         ensures failed { IfErr result (λ error. error_kind error ≡ ErrorKind.OutOfMemory) }
+        ensures looked { IsTrue (H.state host.old).honest → IsLooking (H.state host.old) (H.state host.new) }
     {
-        let input = match &job.input.image {
-            Source::StandardInput => input_node(host),
-            Source::Nothing | Source::File(_) => None,
-        };
+        let input = input_of(host, &job.input.image);
         Ok(JobFiles {
             image: NamedFile::of(host, job.input.image.path())?,
             input,
@@ -214,24 +250,29 @@ impl JobFiles {
 
     /// Whether the output file is to be a new one, and something stands at its path, a link too.
     pub fn has_no_free_place<H: Host>(&self, host: &mut H) -> bool
-        ensures { IsTrue result → self.now.placing ≡ Placing.Free }
+        ensures free { IsTrue result → self.now.placing ≡ Placing.Free }
+        ensures looked { IsTrue (H.state host.old).honest → IsLooking (H.state host.old) (H.state host.new) }
     {
         self.placing == Placing::Free && self.out.is_taken(host)
     }
 
     /// The output file of a job that has one, for its image or for the bytes of a file.
     pub fn output<H: Host>(&self, alloc: Global) -> Output<'_, H>
-        ensures { IsOutputOf
+        ensures output { IsOutputOf
             (option_map string_bytes self.now.out.path) self.now.out.target self.now.placing result }
+        ensures destination { IsDestination (option_map string_bytes self.now.out.path) self.now.out.target
+            (identity_of self.now.certificate.target).path self.now.placing (destination result) }
     {
-        self.out.output(alloc, self.placing)
+        self.out.output(alloc, &self.certificate, self.placing)
     }
 
     /// The file of the certificate of a job that writes one.
     pub fn certificate_output<H: Host>(&self, alloc: Global) -> Output<'_, H>
-        ensures { IsOutputOf
+        ensures output { IsOutputOf
             (option_map string_bytes self.now.certificate.path) self.now.certificate.target Placing.Over result }
+        ensures destination { IsDestination (option_map string_bytes self.now.certificate.path)
+            self.now.certificate.target (identity_of self.now.out.target).path Placing.Over (destination result) }
     {
-        self.certificate.output(alloc, Placing::Over)
+        self.certificate.output(alloc, &self.out, Placing::Over)
     }
 }

@@ -1,32 +1,22 @@
 // What is told to people beside the answer.
-ghost use Rattle.std.specs.Prelude.{◌≡◌};
-ghost use Rattle.shop_files.specs.Endings.{nothing_found};
+ghost use Rattle.std.specs.Prelude.{◌≡◌, IsTrue};
+ghost use Rattle.shop_files.specs.Noted.{nothing_found};
+ghost use Rattle.shop_host.specs.Runs.{IsLooking};
+ghost use Rattle.shop_host.specs.State.{HostState};
 
-use crate::ending::Unwritten;
 use crate::foreign::{Foreign, foreign_of};
-use crate::target_of;
 use crate::text_fault::text_fault;
 use crate::ways::{BrokenWay, broken_way, header_order, orders_apart};
 use a2_device::Order;
 use disk_container::MOST_BYTES;
 use explanations::{Explanation, FINDINGS, REFUSALS, explained};
-use shop_host::{Host, Notes, Readable, read_file};
+use shop_host::{Host, Readable, note, read_file};
+use shop_inputs::ImageFault;
+use shop_outputs::{Unwritten, target_of};
 use shop_replies::most_bytes;
 use shown_text::escaped;
 use std::alloc::{AllocError, Global};
 use std::fmt;
-use std::io::{self, Write};
-
-/// Why the file of an image is not opened.
-#[derive(Clone, Copy)]
-pub enum ImageFault {
-    /// The system does not open it.
-    Unopened,
-    /// Another program works on it: it holds the lock.
-    Held,
-    /// Another file has taken its place since it was opened.
-    Replaced,
-}
 
 /// Why a machine does not start from a disk with the system of another.
 #[derive(Clone, Copy)]
@@ -184,34 +174,34 @@ fn wanted_length(order: Option<Order>) -> &'static str {
 }
 
 // Tells which image it is, and how many bytes were read of it.
-fn tell_image<H: Host>(host: &mut H, found: &Found) -> io::Result<()> {
+fn tell_image(notes: &mut String, alloc: Global, found: &Found) -> Result<(), AllocError> {
     if found.path.is_none() {
         return Ok(());
     }
-    let name = shown(host.alloc(), &found.path)?;
+    let name = shown(alloc, &found.path)?;
     let most = found.most.unwrap_or(most_bytes(Order::Prodos));
     match found.bytes {
         Some(bytes) if bytes > most => {
             let most = Grouped(most);
-            writeln!(Notes { host }, "{name}: more than {most} bytes.")
+            writeln!(notes, "{name}: more than {most} bytes.")
         }
         Some(bytes) => {
             let bytes = Grouped(bytes);
-            writeln!(Notes { host }, "{name}: {bytes} bytes were read.")
+            writeln!(notes, "{name}: {bytes} bytes were read.")
         }
-        None => writeln!(Notes { host }, "{name}: not read."),
+        None => writeln!(notes, "{name}: not read."),
     }
 }
 
 // Tells of which file the first fault with these words is, if it is of one.
-fn tell_file<H: Host>(host: &mut H, found: &Found, front: &str) -> io::Result<()> {
+fn tell_file(notes: &mut String, found: &Found, front: &str) -> Result<(), AllocError> {
     let Some(lines) = &found.fault_files else {
         return Ok(());
     };
     for line in lines.as_str().lines() {
         if line.starts_with(front) {
             writeln!(
-                Notes { host },
+                notes,
                 "The first of them, and behind its place the path of its file: {line}"
             )?;
         }
@@ -228,24 +218,32 @@ fn is_of_other(front: &str, told: &[u8]) -> bool {
 }
 
 // Which other kind of file stands at a path, if it is one that is known and can be read again.
-fn foreign_at<H: Host>(host: &mut H, path: &Option<String>) -> Option<Foreign> {
+fn foreign_at<H: Host>(host: &mut H, path: &Option<String>) -> Option<Foreign>
+    ensures looked { IsTrue (H.state host.old).honest → IsLooking (H.state host.old) (H.state host.new) }
+{
     let path = path.as_ref()?.as_str();
     let bytes = read_file(host, path, Readable::File, MOST_BYTES as u32).ok()?;
     foreign_of(bytes.as_slice())
 }
 
 // Tells which other kind of file the second of two images is, if it is one.
-fn tell_other_kind<H: Host>(host: &mut H, found: &Found) -> io::Result<()> {
+fn tell_other_kind<H: Host>(
+    notes: &mut String,
+    host: &mut H,
+    found: &Found,
+) -> Result<(), AllocError>
+    ensures looked { IsTrue (H.state host.old).honest → IsLooking (H.state host.old) (H.state host.new) }
+{
     let Some(foreign) = foreign_at(host, &found.given) else {
         return Ok(());
     };
     let name = shown(host.alloc(), &found.given)?;
     let text = foreign.text();
-    writeln!(Notes { host }, "{name}: {text}")
+    writeln!(notes, "{name}: {text}")
 }
 
 // Tells which other kind of file the image is, if it is one. A container that was opened is none.
-fn tell_kind<H: Host>(host: &mut H, found: &Found, told: &[u8]) -> io::Result<()> {
+fn tell_kind(notes: &mut String, found: &Found, told: &[u8]) -> Result<(), AllocError> {
     let Some(foreign) = found.foreign else {
         return Ok(());
     };
@@ -253,11 +251,19 @@ fn tell_kind<H: Host>(host: &mut H, found: &Found, told: &[u8]) -> io::Result<()
         return Ok(());
     }
     let text = foreign.text();
-    writeln!(Notes { host }, "{text}")
+    writeln!(notes, "{text}")
 }
 
 // Tells of an image that is refused by these words how many bytes were wanted, and which other kind of file it is.
-fn tell_unusable<H: Host>(host: &mut H, found: &Found, front: &str, told: &[u8]) -> io::Result<()> {
+fn tell_unusable<H: Host>(
+    notes: &mut String,
+    host: &mut H,
+    found: &Found,
+    front: &str,
+    told: &[u8],
+) -> Result<(), AllocError>
+    ensures looked { IsTrue (H.state host.old).honest → IsLooking (H.state host.old) (H.state host.new) }
+{
     if !UNUSABLE.iter().any(|words| *words == front) {
         return Ok(());
     }
@@ -265,22 +271,30 @@ fn tell_unusable<H: Host>(host: &mut H, found: &Found, front: &str, told: &[u8])
     if front == LENGTH {
         let order = if is_other { None } else { found.order };
         let wanted = wanted_length(order);
-        writeln!(Notes { host }, "{wanted}")?;
+        writeln!(notes, "{wanted}")?;
     }
     if is_other {
-        tell_other_kind(host, found)
+        tell_other_kind(notes, host, found)
     } else {
-        tell_kind(host, found, told)
+        tell_kind(notes, found, told)
     }
 }
 
 // Tells which character of a text can't be taken, where these words refuse one.
-fn tell_text<H: Host>(host: &mut H, found: &Found, front: &str, told: &[u8]) -> io::Result<()> {
+fn tell_text<H: Host>(
+    notes: &mut String,
+    host: &mut H,
+    found: &Found,
+    front: &str,
+    told: &[u8],
+) -> Result<(), AllocError>
+    ensures looked { IsTrue (H.state host.old).honest → IsLooking (H.state host.old) (H.state host.new) }
+{
     if front != TEXT {
         return Ok(());
     }
     match text_fault(host, &found.given, told)? {
-        Some(fault) => writeln!(Notes { host }, "{fault}"),
+        Some(fault) => writeln!(notes, "{fault}"),
         None => Ok(()),
     }
 }
@@ -294,23 +308,45 @@ fn meaning_of(row: &Explanation, is_broken: bool) -> (&'static str, &'static str
     }
 }
 
+// Tells what the words of a row mean.
+fn tell_meaning(notes: &mut String, row: &Explanation, is_broken: bool) -> Result<(), AllocError> {
+    let front = row.front;
+    let (meaning, advice) = meaning_of(row, is_broken);
+    let colon = if front.ends_with(':') { "" } else { ":" };
+    let space = if advice.is_empty() { "" } else { " " };
+    writeln!(notes, "{front}{colon} {meaning}{space}{advice}")
+}
+
+// Tells what the words of a row mean, and of which files they are.
+fn tell_row<H: Host>(
+    notes: &mut String,
+    host: &mut H,
+    found: &Found,
+    row: &Explanation,
+    told: &[u8],
+    is_broken: bool,
+) -> Result<(), AllocError>
+    ensures looked { IsTrue (H.state host.old).honest → IsLooking (H.state host.old) (H.state host.new) }
+{
+    tell_unusable(notes, host, found, row.front, told)?;
+    tell_text(notes, host, found, row.front, told)?;
+    tell_meaning(notes, row, is_broken)?;
+    tell_file(notes, found, row.front)
+}
+
 // Tells what each of the words of a table means that begin a line of what was told.
 fn tell_rows<H: Host>(
+    notes: &mut String,
     host: &mut H,
     found: &Found,
     table: &[Explanation],
     told: &[u8],
     is_broken: bool,
-) -> io::Result<()> {
+) -> Result<(), AllocError>
+    ensures looked { IsTrue (H.state host.old).honest → IsLooking (H.state host.old) (H.state host.new) }
+{
     for row in explained(host.alloc(), table, told)? {
-        let front = row.front;
-        tell_unusable(host, found, front, told)?;
-        tell_text(host, found, front, told)?;
-        let (meaning, advice) = meaning_of(row, is_broken);
-        let colon = if front.ends_with(':') { "" } else { ":" };
-        let space = if advice.is_empty() { "" } else { " " };
-        writeln!(Notes { host }, "{front}{colon} {meaning}{space}{advice}")?;
-        tell_file(host, found, front)?;
+        tell_row(notes, host, found, row, told, is_broken)?;
     }
     Ok(())
 }
@@ -325,26 +361,34 @@ fn told_ways<'a>(found: &'a Found, told: &'a [u8]) -> &'a str {
 
 // Tells of a volume whose directory is damaged what that means, and which command tells where.
 fn tell_broken<H: Host>(
+    notes: &mut String,
     host: &mut H,
     found: &Found,
     told: &[u8],
     way: BrokenWay<'_>,
-) -> io::Result<()> {
+) -> Result<(), AllocError>
+    ensures looked { IsTrue (H.state host.old).honest → IsLooking (H.state host.old) (H.state host.new) }
+{
+    tell_rows(notes, host, found, &FINDINGS, b"BROKEN\n", false)?;
+    tell_where(notes, told_ways(found, told), way)
+}
+
+// Tells which command tells where the fault of a damaged volume is.
+fn tell_where(notes: &mut String, ways: &str, way: BrokenWay<'_>) -> Result<(), AllocError> {
     let BrokenWay { file_system, order } = way;
-    tell_rows(host, found, &FINDINGS, b"BROKEN\n", false)?;
-    let (image, order) = match header_order(told_ways(found, told)) {
+    let (image, order) = match header_order(ways) {
         None => ("IMAGE", order),
         Some(header) if header == order => ("IMAGE", "2img"),
         Some(_) => {
             writeln!(
-                Notes { host },
+                notes,
                 "`a2shop unwrap IMAGE --out FILE` first takes the image out of its container."
             )?;
             ("FILE", order)
         }
     };
     writeln!(
-        Notes { host },
+        notes,
         "`a2shop check {image} --fs {file_system} --order {order}` tells where the fault is."
     )
 }
@@ -427,7 +471,9 @@ const WRITE_PROTECTED: &str =
     "It is write-protected: no one may write it. `chmod u+w` lets it be replaced.";
 
 // What may be in the way of an output file at a path.
-fn in_the_way<H: Host>(host: &mut H, path: &Option<String>) -> &'static str {
+fn in_the_way<H: Host>(host: &mut H, path: &Option<String>) -> &'static str
+    ensures looked { IsTrue (H.state host.old).honest → IsLooking (H.state host.old) (H.state host.new) }
+{
     let Some(path) = path else {
         return IN_THE_WAY;
     };
@@ -449,24 +495,30 @@ fn shown(alloc: Global, path: &Option<String>) -> Result<String, AllocError> {
 }
 
 // Tells why the image was not opened, if it was not.
-fn tell_fault<H: Host>(host: &mut H, found: &Found) -> io::Result<()> {
+fn tell_fault(notes: &mut String, alloc: Global, found: &Found) -> Result<(), AllocError> {
     let Some(fault) = found.fault else {
         return Ok(());
     };
-    let name = shown(host.alloc(), &found.path)?;
+    let name = shown(alloc, &found.path)?;
     let text = fault_text(fault);
-    writeln!(Notes { host }, "{name}: {text}")
+    writeln!(notes, "{name}: {text}")
 }
 
 // Tells what could not be written, and what stands then.
-fn tell_unwritten<H: Host>(host: &mut H, found: &Found) -> io::Result<()> {
+fn tell_unwritten<H: Host>(
+    notes: &mut String,
+    host: &mut H,
+    found: &Found,
+) -> Result<(), AllocError>
+    ensures looked { IsTrue (H.state host.old).honest → IsLooking (H.state host.old) (H.state host.new) }
+{
     let Some(unwritten) = found.unwritten else {
         return Ok(());
     };
     let text = unwritten_text(unwritten);
     let path = match unwritten {
         Unwritten::Text | Unwritten::TextAfterImage => {
-            return writeln!(Notes { host }, "standard output: {text}");
+            return writeln!(notes, "standard output: {text}");
         }
         Unwritten::Image | Unwritten::ImageAfterText | Unwritten::ImageAfterCertificate => {
             &found.out
@@ -476,72 +528,99 @@ fn tell_unwritten<H: Host>(host: &mut H, found: &Found) -> io::Result<()> {
         | Unwritten::CertificateAfterImage => &found.certificate,
         Unwritten::Folder | Unwritten::FolderAfterText => {
             let name = shown(host.alloc(), &found.folder)?;
-            return writeln!(Notes { host }, "{name}: {text} {IN_THE_WAY_OF_A_FOLDER}");
+            return writeln!(notes, "{name}: {text} {IN_THE_WAY_OF_A_FOLDER}");
         }
     };
     let name = shown(host.alloc(), path)?;
     let advice = in_the_way(host, path);
-    writeln!(Notes { host }, "{name}: {text} {advice}")
+    writeln!(notes, "{name}: {text} {advice}")
 }
 
 // Tells that the header of a container names another order than the best way to read its image, if it does.
-fn tell_orders<H: Host>(host: &mut H, found: &Found, told: &[u8]) -> io::Result<()> {
+fn tell_orders(
+    notes: &mut String,
+    alloc: Global,
+    found: &Found,
+    told: &[u8],
+) -> Result<(), AllocError> {
     let Some((header, best)) = orders_apart(told) else {
         return Ok(());
     };
-    let name = shown(host.alloc(), &found.path)?;
+    let name = shown(alloc, &found.path)?;
     writeln!(
-        Notes { host },
+        notes,
         "{name}: the header says that the image is in {header} order, and it is best read in {best} order: the header \
         is wrong."
     )
 }
 
 // Tells why a machine does not start from a new disk, if it does not.
-fn tell_boot<H: Host>(host: &mut H, found: &Found) -> io::Result<()> {
+fn tell_boot(notes: &mut String, alloc: Global, found: &Found) -> Result<(), AllocError> {
     let Some(fault) = found.boot else {
         return Ok(());
     };
-    let name = shown(host.alloc(), &found.path)?;
+    let name = shown(alloc, &found.path)?;
     let text = boot_text(fault);
-    writeln!(Notes { host }, "{name}: {text}")
+    writeln!(notes, "{name}: {text}")
 }
 
-// Tells on standard error which image was read, and what each of the words means that begin a line of what was told.
-fn tell<H: Host>(host: &mut H, found: &Found, told: &[u8]) -> io::Result<()> {
+// Tells which image was read, and what each of the words means that begin a line of what was told.
+fn tell<H: Host>(
+    notes: &mut String,
+    host: &mut H,
+    found: &Found,
+    told: &[u8],
+) -> Result<(), AllocError>
+    ensures looked { IsTrue (H.state host.old).honest → IsLooking (H.state host.old) (H.state host.new) }
+{
     let broken = broken_way(told_ways(found, told));
-    tell_image(host, found)?;
-    tell_fault(host, found)?;
-    tell_unwritten(host, found)?;
-    tell_boot(host, found)?;
-    tell_orders(host, found, told)?;
-    tell_rows(host, found, &REFUSALS, told, broken.is_some())?;
-    tell_rows(host, found, &FINDINGS, told, broken.is_some())?;
+    let alloc = host.alloc();
+    tell_image(notes, alloc, found)?;
+    tell_fault(notes, alloc, found)?;
+    tell_unwritten(notes, host, found)?;
+    tell_boot(notes, alloc, found)?;
+    tell_orders(notes, alloc, found, told)?;
+    tell_rows(notes, host, found, &REFUSALS, told, broken.is_some())?;
+    tell_rows(notes, host, found, &FINDINGS, told, broken.is_some())?;
     match broken {
-        Some(way) => tell_broken(host, found, told, way),
+        Some(way) => tell_broken(notes, host, found, told, way),
         None => Ok(()),
     }
 }
 
 /// Explains on standard error what was told. Where that can't be written, nothing else changes.
-pub fn explain<H: Host>(host: &mut H, found: &Found, told: &[u8]) {
-    let _ = tell(host, found, told);
+pub fn explain<H: Host>(host: &mut H, found: &Found, told: &[u8])
+    ensures looked { IsTrue (H.state host.old).honest → IsLooking (H.state host.old) (H.state host.new) }
+{
+    let mut notes = String::new(host.alloc());
+    // Want of memory ends the text, and what there is of it is written.
+    let _ = tell(&mut notes, host, found, told);
+    note(host, notes.as_str().as_bytes());
 }
 
 /// Tells on standard error of which other kind a file is that a survey found to be no image, and where it is.
-pub fn tell_foreign<H: Host>(host: &mut H, path: &str, foreign: Foreign) {
-    let Ok(name) = escaped(host.alloc(), path) else {
+pub fn tell_foreign<H: Host>(host: &mut H, path: &str, foreign: Foreign)
+    ensures looked { IsTrue (H.state host.old).honest → IsLooking (H.state host.old) (H.state host.new) }
+{
+    let alloc = host.alloc();
+    let Ok(name) = escaped(alloc, path) else {
         return;
     };
     let text = foreign.text();
-    let _ = writeln!(Notes { host }, "{name}: {text}");
+    if let Ok(line) = format!(in alloc; "{name}: {text}\n") {
+        note(host, line.as_str().as_bytes());
+    }
 }
 
 /// Warns on standard error that `identify` names another way to read the image than the words of a job do.
-pub fn warn_of_order<H: Host>(host: &mut H, file_system: &str, order: &str) {
-    let _ = writeln!(
-        Notes { host },
+pub fn warn_of_order<H: Host>(host: &mut H, file_system: &str, order: &str)
+    ensures looked { IsTrue (H.state host.old).honest → IsLooking (H.state host.old) (H.state host.new) }
+{
+    let warning = format!(in host.alloc();
         "warning: `a2shop identify` names another way to read this image: `--fs {file_system} --order {order}`. In a \
-        wrong order a change destroys files; look at `a2shop catalog` in both, and keep the original."
+        wrong order a change destroys files; look at `a2shop catalog` in both, and keep the original.\n"
     );
+    if let Ok(warning) = warning {
+        note(host, warning.as_str().as_bytes());
+    }
 }

@@ -1,4 +1,8 @@
 // Which character of a text can't be taken, by the file that gave it.
+ghost use Rattle.std.specs.Prelude.{IsTrue};
+ghost use Rattle.shop_host.specs.Runs.{IsLooking};
+ghost use Rattle.shop_host.specs.State.{HostState};
+
 use apple_text::first_character;
 use disk_container::MOST_BYTES;
 use shop_host::{Host, Readable, read_file};
@@ -50,12 +54,16 @@ fn refused_line(told: &[u8]) -> Option<(usize, Option<&str>)> {
 }
 
 // The bytes of a text, where it is in a file that can be read again.
-fn text_at<H: Host>(host: &mut H, path: &str) -> Option<Vec<u8>> {
+fn text_at<H: Host>(host: &mut H, path: &str) -> Option<Vec<u8>>
+    ensures looked { IsTrue (H.state host.old).honest → IsLooking (H.state host.old) (H.state host.new) }
+{
     read_file(host, path, Readable::File, MOST_BYTES as u32).ok()
 }
 
 // The bytes of the text that was refused.
-fn refused_text<H: Host>(host: &mut H, given: &str, entry: Option<&str>) -> Option<Vec<u8>> {
+fn refused_text<H: Host>(host: &mut H, given: &str, entry: Option<&str>) -> Option<Vec<u8>>
+    ensures looked { IsTrue (H.state host.old).honest → IsLooking (H.state host.old) (H.state host.new) }
+{
     let Some(entry) = entry else {
         return text_at(host, given);
     };
@@ -137,7 +145,9 @@ fn culprit_of<H: Host>(
     host: &mut H,
     given: &Option<String>,
     told: &[u8],
-) -> Option<(usize, Culprit)> {
+) -> Option<(usize, Culprit)>
+    ensures looked { IsTrue (H.state host.old).honest → IsLooking (H.state host.old) (H.state host.new) }
+{
     let (number, entry) = refused_line(told)?;
     let text = refused_text(host, given.as_ref()?.as_str(), entry)?;
     let culprit = culprit_in(line_of(text.as_slice(), number)?)?;
@@ -153,7 +163,9 @@ pub fn text_fault<H: Host>(
     host: &mut H,
     given: &Option<String>,
     told: &[u8],
-) -> Result<Option<String>, AllocError> {
+) -> Result<Option<String>, AllocError>
+    ensures looked { IsTrue (H.state host.old).honest → IsLooking (H.state host.old) (H.state host.new) }
+{
     match culprit_of(host, given, told) {
         Some((number, culprit)) => Ok(Some(sentence(host.alloc(), number, culprit)?)),
         None => Ok(None),

@@ -27,8 +27,8 @@ mod walking;
 pub use found::{Found, FoundKind, Node};
 pub use host::{Access, Host, Lock};
 pub use reading::{
-    OpenFault, Readable, failure_of, front_of, open_readable, open_shared, read_file,
+    OpenFault, Readable, failure_of, is_held, open_readable, open_shared, read_file,
 };
-pub use streams::{Input, Notes, Reader, Writer};
+pub use streams::{front_of, front_of_input, note};
 pub use system::SystemHost;
 pub use walking::{Finder, Kind, Root};

@@ -1,12 +1,15 @@
 // The bytes of files.
-ghost use Rattle.std.specs.Prelude.{◌≡◌, ◌↔◌, ◌+◌, IfErr, IfOk, IfSome, take};
+ghost use Rattle.std.specs.Prelude.{◌≡◌, ◌↔◌, IfErr, IfOk, IsTrue, OnErr};
 ghost use Rattle.std.specs.IoError.{error_kind};
-ghost use Rattle.shop_host.specs.Reading.{IsOpenFault};
+ghost use Rattle.shop_host.specs.Calls.{IsRefused};
+ghost use Rattle.shop_host.specs.Reading.{HasLock, IsFrontOf, IsOpenFault, IsOpened, IsUnopened};
+ghost use Rattle.shop_host.specs.State.{locking};
+ghost use Rattle.shop_host.specs.Runs.{IsLooking};
 ghost use Rattle.shop_replies.specs.Reading.{IsReadFailure};
 
 use crate::host::{Access, Host, Lock};
-use crate::streams::Reader;
-use shop_replies::{Failure, read_front};
+use crate::streams::front_of;
+use shop_replies::Failure;
 use std::io::{self, ErrorKind};
 
 /// Why a file is not open to be read.
@@ -41,39 +44,46 @@ pub fn failure_of(error: &io::Error) -> Failure
     }
 }
 
+/// Takes the lock of an open file, if its file system knows locks, and answers whether another holds it.
+pub fn is_held<H: Host>(host: &mut H, file: &H::File, lock: Lock) -> bool
+    ensures looked { IsTrue (H.state host.old).honest → IsLooking (H.state host.old) (H.state host.new) }
+    ensures locked { IsTrue (H.state host.old).honest
+        → HasLock (H.place file.now) lock (H.state host.new) }
+    ensures held { IsTrue (H.state host.old).honest → IsTrue result
+        → IsRefused (locking (H.place file.now)) (H.state host.new) }
+{
+    match host.lock(file, lock) {
+        Ok(()) => false,
+        Err(error) => error.kind() == ErrorKind::WouldBlock,
+    }
+}
+
 /// Opens the file to which a path leads, to be read. Its lock, if the file system knows locks, is shared with others
 /// that read it, and is held until the file is let go.
 ///
 /// # Errors
 /// `Unopened` where the system does not open it, `Held` where another holds its lock.
 pub fn open_shared<H: Host>(host: &mut H, path: &str) -> Result<H::File, OpenFault>
-    ensures { IfErr result IsOpenFault }
+    ensures fault { IfErr result IsOpenFault }
+    ensures looked { IsTrue (H.state host.old).honest → IsLooking (H.state host.old) (H.state host.new) }
+    ensures opened { IsTrue (H.state host.old).honest → IfOk result (λ file.
+        IsOpened (H.place file) (H.unread file) path.now Lock.Shared (H.state host.old) (H.state host.new)) }
+    ensures refused { IsTrue (H.state host.old).honest → OnErr result (IsUnopened path.now (H.state host.new)) }
 {
     let file = match host.open(path, Access::Read) {
         Ok(file) => file,
         Err(error) => return Err(OpenFault::Unopened(failure_of(&error))),
     };
-    match host.lock(&file, Lock::Shared) {
-        Err(error) if error.kind() == ErrorKind::WouldBlock => Err(OpenFault::Held),
-        _ => Ok(file),
+    if is_held(host, &file, Lock::Shared) {
+        return Err(OpenFault::Held);
     }
-}
-
-/// The bytes of an open file from where it stands, up to one past so many.
-///
-/// # Errors
-/// `Input` where it can't be read, `Memory` where there is no room for it.
-pub fn front_of<H: Host>(host: &mut H, file: &mut H::File, most: u32) -> Result<Vec<u8>, Failure>
-    ensures read { IfSome (H.unread file.old) (λ bytes. IfOk result (λ read. read.items ≡ take (most + 1) bytes)) }
-    ensures failed { IfErr result IsReadFailure }
-{
-    let alloc = host.alloc();
-    read_front(alloc, &mut Reader { host, file }, most)
+    Ok(file)
 }
 
 // Looks whether what is wanted stands at a path.
 fn look_for<H: Host>(host: &mut H, path: &str, readable: Readable) -> Result<(), Failure>
-    ensures { IfErr result IsReadFailure }
+    ensures failed { IfErr result IsReadFailure }
+    ensures looked { IsTrue (H.state host.old).honest → IsLooking (H.state host.old) (H.state host.new) }
 {
     let looked = match readable {
         Readable::Any => return Ok(()),
@@ -96,7 +106,10 @@ pub fn open_readable<H: Host>(
     path: &str,
     readable: Readable,
 ) -> Result<H::File, Failure>
-    ensures { IfErr result IsReadFailure }
+    ensures failed { IfErr result IsReadFailure }
+    ensures looked { IsTrue (H.state host.old).honest → IsLooking (H.state host.old) (H.state host.new) }
+    ensures opened { IsTrue (H.state host.old).honest → IfOk result (λ file.
+        IsOpened (H.place file) (H.unread file) path.now Lock.Shared (H.state host.old) (H.state host.new)) }
 {
     look_for(host, path, readable)?;
     match open_shared(host, path) {
@@ -116,7 +129,10 @@ pub fn read_file<H: Host>(
     readable: Readable,
     most: u32,
 ) -> Result<Vec<u8>, Failure>
-    ensures { IfErr result IsReadFailure }
+    ensures failed { IfErr result IsReadFailure }
+    ensures looked { IsTrue (H.state host.old).honest → IsLooking (H.state host.old) (H.state host.new) }
+    ensures read { IsTrue (H.state host.old).honest
+        → IfOk result (λ read. IsFrontOf path.now most read.items (H.state host.old) (H.state host.new)) }
 {
     let mut file = open_readable(host, path, readable)?;
     front_of(host, &mut file, most)

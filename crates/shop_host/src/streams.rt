@@ -1,69 +1,216 @@
-// Files and streams of a host as readers and writers.
+// Bytes that are read up to a number, and what is noted beside the answer.
+ghost use Rattle.std.specs.Prelude.{
+  ◌≡◌,
+  ◌≤◌,
+  ◌<◌,
+  ◌+◌,
+  ◌++◌,
+  ◌⊎◌,
+  false,
+  IfErr,
+  IfOk,
+  IfSome,
+  IsTrue,
+  List,
+  ℕ,
+  length,
+  take,
+};
+ghost use Rattle.std.specs.Io.KnownBytes.{Consumes, IsAtEnd};
+ghost use Rattle.shop_host.specs.State.{HostState, IsQuiet};
+ghost use Rattle.shop_host.specs.Runs.{IsLooking, IsReadingInput};
+ghost use Rattle.shop_replies.specs.Reading.{IsReadFailure};
+
 use crate::host::Host;
-use std::io::{self, Read, Write};
+use crate::reading::failure_of;
+use shop_replies::Failure;
+use std::alloc::{AllocError, Global};
+use std::io::{self, ErrorKind};
 
-/// Standard input of a host.
+/// How many bytes are asked for at once.
+const CHUNK: usize = 65_536;
+
+/// Bytes of a host that are read one after the other.
+trait Stream<H: Host> {
+    ghost use Rattle.std.specs.Prelude.{◌≡◌, IsTrue, List, Option, ℕ};
+    ghost use Rattle.std.specs.Io.{ReadsAtMost};
+    ghost use Rattle.std.specs.Io.KnownBytes.{ReadConsumes};
+    ghost use Rattle.shop_host.specs.State.{HostState};
+
+    /// What is still to come, where that is known.
+    ghost rest: { H → Self → Option (List ℕ) };
+
+    /// What reading changes of a host.
+    ghost looks: { HostState → HostState → Type 0 };
+
+    ghost here: { (host : HostState) → looks host host };
+
+    ghost then: { (old between now : HostState) → looks old between → looks between now → looks old now };
+
+    ghost honest: { (old now : HostState) → IsTrue old.honest → looks old now → IsTrue now.honest };
+
+    fn read(&mut self, host: &mut H, bytes: &mut [u8]) -> io::Result<usize>
+        ensures bound { ReadsAtMost result bytes.new }
+        ensures bytes { ReadConsumes (rest host.old self.old) (rest host.new self.new) result bytes.new }
+        ensures looked { IsTrue (H.state host.old).honest → looks (H.state host.old) (H.state host.new) };
+}
+
+/// An open file.
 #[derive(Drop)]
-pub struct Input<'a, H: Host> {
-    pub host: &'a mut H,
+struct FileStream<'a, H: Host> {
+    file: &'a mut H::File,
 }
 
-/// What an open file has behind what was read of it.
+/// Standard input.
 #[derive(Drop)]
-pub struct Reader<'a, H: Host> {
-    pub host: &'a mut H,
-    pub file: &'a mut H::File,
-}
+struct InputStream;
 
-/// An open file that is written behind what was written to it.
-#[derive(Drop)]
-pub struct Writer<'a, H: Host> {
-    pub host: &'a mut H,
-    pub file: &'a mut H::File,
-}
+impl<H: Host> Stream<H> for FileStream<'_, H> {
+    ghost use Rattle.shop_host.specs.Runs.{IsLooking};
+    ghost use Rattle.shop_host.specs.lemmas.Runs.{look_here, look_then, honest_look};
 
-/// What is noted beside the answer: standard error of a host.
-#[derive(Drop)]
-pub struct Notes<'a, H: Host> {
-    pub host: &'a mut H,
-}
+    ghost rest = { λ host stream. H.unread stream.file.now };
 
-impl<H: Host> Read for Input<'_, H> {
-    ghost remaining = { λ input. H.input input.host.now };
+    ghost looks = { IsLooking };
 
-    fn read(&mut self, buf: &mut [u8]) -> io::Result<usize> {
-        self.host.read_input(buf)
+    ghost here = { look_here };
+
+    ghost then = { look_then };
+
+    ghost honest = { honest_look };
+
+    fn read(&mut self, host: &mut H, bytes: &mut [u8]) -> io::Result<usize> {
+        host.read(self.file, bytes)
     }
 }
 
-impl<H: Host> Read for Reader<'_, H> {
-    ghost remaining = { λ reader. H.unread reader.file.now };
+impl<H: Host> Stream<H> for InputStream {
+    ghost use Rattle.shop_host.specs.Runs.{IsReadingInput};
+    ghost use Rattle.shop_host.specs.lemmas.Runs.{input_here, input_then, honest_input};
 
-    fn read(&mut self, buf: &mut [u8]) -> io::Result<usize> {
-        self.host.read(self.file, buf)
+    ghost rest = { λ host stream. (H.state host).input };
+
+    ghost looks = { IsReadingInput };
+
+    ghost here = { input_here };
+
+    ghost then = { input_then };
+
+    ghost honest = { honest_input };
+
+    fn read(&mut self, host: &mut H, bytes: &mut [u8]) -> io::Result<usize> {
+        host.read_input(bytes)
     }
 }
 
-impl<H: Host> Write for Writer<'_, H> {
-    ghost contents = { λ writer. H.written writer.file.now };
+// How many bytes are asked for next, of so many at most and where so many were read.
+fn wanted(read: usize, most: usize) -> usize
+    requires { read ≤ most }
+    ensures { (result + read ≤ most) × (result ≤ CHUNK) × (result ≡ 0 → read ≡ most) }
+{
+    let left = most - read;
+    if left < CHUNK { left } else { CHUNK }
+}
 
-    fn write(&mut self, buf: &[u8]) -> io::Result<usize> {
-        self.host.write(self.file, buf)
+// Room for as many bytes as are asked for at once.
+fn room(alloc: Global) -> Result<Vec<u8>, AllocError>
+    ensures { IfOk result (λ room. length room.items ≡ CHUNK) }
+{
+    let mut room = Vec::new(alloc);
+    room.resize(CHUNK, 0)?;
+    Ok(room)
+}
+
+// Reads some more bytes behind these, at most so many in all, and tells whether there may be others.
+fn read_more<H: Host, S: Stream<H>>(
+    host: &mut H,
+    stream: &mut S,
+    chunk: &mut [u8],
+    bytes: &mut Vec<u8>,
+    most: usize,
+) -> Result<bool, Failure>
+    requires chunk { length chunk.old ≡ CHUNK }
+    requires few { length bytes.old.items ≤ most }
+    ensures few { length bytes.new.items ≤ most }
+    ensures read { IfOk result (λ more. (got : List ℕ) × (bytes.new.items ≡ bytes.old.items ++ got)
+        × Consumes (S.rest host.old stream.old) (S.rest host.new stream.new) got
+        × (more ≡ false → (length bytes.new.items ≡ most) ⊎ IsAtEnd (S.rest host.new stream.new))) }
+    ensures failed { IfErr result IsReadFailure }
+    ensures looked { IsTrue (H.state host.old).honest → S.looks (H.state host.old) (H.state host.new) }
+{
+    let wanted = wanted(bytes.len(), most);
+    if wanted == 0 {
+        return Ok(false);
     }
-
-    fn flush(&mut self) -> io::Result<()> {
-        Ok(())
+    match stream.read(host, &mut chunk[..wanted]) {
+        Ok(0) => Ok(false),
+        Ok(count) => {
+            bytes.extend_from_slice(&chunk[..count])?;
+            Ok(true)
+        }
+        Err(error) if error.kind() == ErrorKind::Interrupted => Ok(true),
+        Err(error) => Err(failure_of(&error)),
     }
 }
 
-impl<H: Host> Write for Notes<'_, H> {
-    ghost contents = { λ notes. H.noted notes.host.now };
-
-    fn write(&mut self, buf: &[u8]) -> io::Result<usize> {
-        self.host.note(buf)
+// Reads up to one byte past so many.
+fn front<H: Host, S: Stream<H>>(host: &mut H, stream: &mut S, most: u32) -> Result<Vec<u8>, Failure>
+    ensures read { IfSome (S.rest host.old stream.old) (λ bytes.
+        IfOk result (λ read. read.items ≡ take (most + 1) bytes)) }
+    ensures failed { IfErr result IsReadFailure }
+    ensures looked { IsTrue (H.state host.old).honest → S.looks (H.state host.old) (H.state host.new) }
+{
+    let alloc = host.alloc();
+    let mut room = room(alloc)?;
+    let chunk = room.as_mut_slice();
+    let mut bytes = Vec::new(alloc);
+    let most = most as usize + 1;
+    for _ in 0..u64::MAX {
+        if !read_more(host, stream, chunk, &mut bytes, most)? {
+            return Ok(bytes);
+        }
     }
+    Err(Failure::Input)
+}
 
-    fn flush(&mut self) -> io::Result<()> {
-        Ok(())
+/// The bytes of an open file from where it stands, up to one past so many.
+///
+/// # Errors
+/// `Input` where it can't be read, `Memory` where there is no room for it.
+pub fn front_of<H: Host>(host: &mut H, file: &mut H::File, most: u32) -> Result<Vec<u8>, Failure>
+    ensures read { IfSome (H.unread file.old) (λ bytes. IfOk result (λ read. read.items ≡ take (most + 1) bytes)) }
+    ensures failed { IfErr result IsReadFailure }
+    ensures looked { IsTrue (H.state host.old).honest → IsLooking (H.state host.old) (H.state host.new) }
+{
+    front(host, &mut FileStream::<H> { file }, most)
+}
+
+/// The bytes of standard input that were not read yet, up to one past so many.
+///
+/// # Errors
+/// `Input` where it can't be read, `Memory` where there is no room for it.
+pub fn front_of_input<H: Host>(host: &mut H, most: u32) -> Result<Vec<u8>, Failure>
+    ensures read { IfSome (H.state host.old).input (λ bytes. IfOk result (λ read. read.items ≡ take (most + 1) bytes)) }
+    ensures failed { IfErr result IsReadFailure }
+    ensures looked { IsTrue (H.state host.old).honest → IsReadingInput (H.state host.old) (H.state host.new) }
+{
+    front(host, &mut InputStream, most)
+}
+
+/// Writes these bytes to standard error. What can't be written there is left out, with all behind it.
+pub fn note<H: Host>(host: &mut H, bytes: &[u8])
+    ensures { IsTrue (H.state host.old).honest → IsLooking (H.state host.old) (H.state host.new) }
+{
+    let mut rest = bytes;
+    for _ in 0..u64::MAX {
+        if rest.is_empty() {
+            return;
+        }
+        rest = match host.note(rest) {
+            Ok(0) => return,
+            Ok(count) => &rest[count..],
+            Err(error) if error.kind() == ErrorKind::Interrupted => rest,
+            Err(_) => return,
+        };
     }
 }

@@ -37,13 +37,16 @@ impl Host for SystemHost<'_> {
 
     type Names = ReadDir<HostRuntime, Global>;
 
-    ghost use Rattle.std.specs.Prelude.{None};
+    ghost use Rattle.std.specs.Prelude.{[], None};
+    ghost use Rattle.shop_host.specs.System.{system_host};
 
-    ghost written = { λ _. None };
+    ghost state = { λ _. system_host };
+
+    ghost place = { λ _. [] };
 
     ghost unread = { λ _. None };
 
-    ghost input = { λ _. None };
+    ghost units_place = { λ _. [] };
 
     ghost noted = { λ _. None };
 

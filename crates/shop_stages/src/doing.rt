@@ -11,9 +11,10 @@ use shop_changes::Outcome;
 use shop_commands::{
     read_job_on_device, reply_to, reply_to_payload, run_job_in_place, unread_reply,
 };
-use shop_files::{ImageDevice, Output, Unwritten, extra_bytes};
 use shop_host::Host;
+use shop_inputs::{ImageDevice, extra_bytes};
 use shop_jobs::{Change, ImageReading, Job, Look};
+use shop_outputs::{Output, Unwritten};
 use shop_replies::{Failure, Refusal, Reply, Side};
 
 // What became of the work once the file is on the disk: what can't be put there has failed.

@@ -1,10 +1,9 @@
 // The files of a job, ended, and its answer told.
 use shop_changes::Outcome;
-use shop_files::{
-    Ending, Found, JobFiles, Output, Unwritten, end_by, explain, tell_output, tells_of_output,
-};
+use shop_files::{Found, JobFiles, explain};
 use shop_host::Host;
 use shop_jobs::Job;
+use shop_outputs::{Ending, Output, Unwritten, end_by, tell_output, tells_of_output};
 use shop_replies::Reply;
 use std::io::Write;
 

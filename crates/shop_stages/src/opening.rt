@@ -3,8 +3,9 @@ use crate::noting::note_paths;
 use crate::stop::Stop;
 use a2_media::Extent;
 use image_settling::OpenContainer;
-use shop_files::{Found, JobFiles, OpenImage, extra_bytes, is_in_its_file};
+use shop_files::{Found, JobFiles};
 use shop_host::Host;
+use shop_inputs::{OpenImage, extra_bytes, is_in_its_file};
 use shop_jobs::{Beside, ImageReading, Job, Source};
 use shop_replies::{Failure, Refusal, Side, most_of_image};
 

@@ -1,8 +1,9 @@
 // What ends the line of stages early.
 use a2_media::FileError;
 use image_settling::Unsettled;
-use shop_files::{Clash, Ending, Unwritten};
+use shop_files::Clash;
 use shop_jobs::Beside;
+use shop_outputs::{Ending, Unwritten};
 use shop_replies::{Failure, Refusal, Reply, Side, written};
 use std::io::Write;
 

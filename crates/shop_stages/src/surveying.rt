@@ -2,12 +2,15 @@
 use crate::stop::Stop;
 use disk_container::MOST_BYTES;
 use image_survey::{FileId, ImageVerdict, Survey, SurveyError, Surveyed, survey_image};
-use shop_files::{Ending, Foreign, Unwritten, foreign_of, tell_foreign};
-use shop_host::{Finder, Host, Input, Kind, Readable, Root, failure_of, front_of, open_readable};
+use shop_files::{Foreign, foreign_of, tell_foreign};
+use shop_host::{
+    Finder, Host, Kind, Readable, Root, failure_of, front_of, front_of_input, open_readable,
+};
 use shop_jobs::{Source, SurveyForm};
+use shop_outputs::{Ending, Unwritten};
 use shop_replies::Failure;
 use std::alloc::Global;
-use std::io::{Read, Write};
+use std::io::Write;
 
 /// A file that is told of, by its path; or a folder with a name in it that can't be read.
 #[derive(PartialEq, Eq, PartialOrd, Ord, Drop)]
@@ -216,14 +219,13 @@ fn items_of<'a, H: Host>(host: &mut H, root: Root<'a>) -> Result<Items<'a>, Fail
     Ok(items)
 }
 
-// What standard input has.
+// What standard input has. A list that is longer than any memory is not taken for a shorter one.
 fn input_of<H: Host>(host: &mut H) -> Result<Vec<u8>, Failure> {
-    let mut list = Vec::new(host.alloc());
-    let mut input = Input { host };
-    match input.read_to_end(&mut list) {
-        Ok(_) => Ok(list),
-        Err(error) => Err(failure_of(&error)),
+    let list = front_of_input(host, u32::MAX)?;
+    if list.len() > u32::MAX as usize {
+        return Err(Failure::Memory);
     }
+    Ok(list)
 }
 
 /// Tells of the files that a survey looks at, those of a path or those that standard input names, then which images are

@@ -3,8 +3,8 @@
 use host_folders::{
     FailingFolder, Folder, FolderFailure, MadeItem, MemoryFolder, folder_name, is_safe_path,
 };
-use shop_files::{NewFolder, StartError};
 use shop_host::{Host, SystemHost};
+use shop_outputs::{NewFolder, StartError};
 use std::alloc::Allocator;
 use std::fs::{self, Permissions};
 use std::io;

@@ -1,8 +1,9 @@
 //! How files are read on a host, and a folder is gone through.
 
 use memory_host::{Kind, MemoryHost};
-use shop_host::{Finder, Kind as Leads, Readable, Root, read_file};
+use shop_host::{Finder, Kind as Leads, Readable, Root, front_of_input, read_file};
 use shop_replies::Failure;
+use std::alloc::{AllocError, Global};
 use std::test::Fail;
 
 /// Something of each kind, and a folder in a folder.
@@ -60,6 +61,61 @@ fn each_call_of_a_read_failing(rt: HostRuntime) -> Result<(), Fail> {
             reads(&mut host, "image", Readable::File, answer),
             "call {failing}"
         );
+    }
+    Ok(())
+}
+
+/// How many bytes are asked for at once.
+const CHUNK: usize = 65_536;
+
+/// So many bytes, whose pattern does not meet the end of a chunk.
+fn long_text(alloc: Global, count: usize) -> Result<Vec<u8>, AllocError> {
+    let mut bytes = Vec::new(alloc);
+    for at in 0..count {
+        bytes.push((at % 251) as u8)?;
+    }
+    Ok(bytes)
+}
+
+/// Whether these bytes were read of so many, up to one past the most.
+fn is_front(read: &Result<Vec<u8>, Failure>, bytes: &[u8], most: u32) -> bool {
+    let front = bytes.get(..most as usize + 1).unwrap_or(bytes);
+    matches!(read, Ok(read) if read.as_slice() == front)
+}
+
+/// How many bytes there are, and how many are read at most: as many as a chunk has, one less and one more.
+static LONG: [(usize, u32); 5] = [
+    (CHUNK, 65_535),
+    (CHUNK, 65_536),
+    (CHUNK + 1, 65_535),
+    (CHUNK + 1, 65_536),
+    (CHUNK + 7, 100_000),
+];
+
+#[test]
+fn a_file_of_more_than_a_chunk_is_read(rt: HostRuntime) -> Result<(), Fail> {
+    for (count, most) in &LONG {
+        let bytes = long_text(rt.alloc(), *count)?;
+        let mut host = MemoryHost::holding(rt.alloc(), &[], None)?;
+        host.put("long", Kind::File, bytes.as_slice())?;
+        let read = read_file(&mut host, "long", Readable::File, *most);
+        assert!(rt; is_front(&read, bytes.as_slice(), *most), "{count} {most}");
+    }
+    Ok(())
+}
+
+/// What is behind the front is still to come.
+#[test]
+fn more_than_a_chunk_of_standard_input_is_read(rt: HostRuntime) -> Result<(), Fail> {
+    for (count, most) in &LONG {
+        let bytes = long_text(rt.alloc(), *count)?;
+        let mut host = MemoryHost::holding(rt.alloc(), &[], None)?;
+        host.give_input(bytes.as_slice())?;
+        let read = front_of_input(&mut host, *most);
+        assert!(rt; is_front(&read, bytes.as_slice(), *most), "{count} {most}");
+        let rest = bytes.get(*most as usize + 1..).unwrap_or(&[]);
+        let read = front_of_input(&mut host, *most);
+        assert!(rt; is_front(&read, rest, *most), "{count} {most}");
     }
     Ok(())
 }

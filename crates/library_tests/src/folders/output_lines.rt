@@ -1,5 +1,5 @@
 //! The line of an output that can't be written.
-use shop_files::{Ending, Unwritten, tell_output};
+use shop_outputs::{Ending, Unwritten, tell_output};
 use std::alloc::{AllocError, Global};
 use std::test::Fail;
 

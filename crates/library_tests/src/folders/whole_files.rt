@@ -1,8 +1,8 @@
 //! A file that is replaced as a whole, on a host in memory.
 
 use memory_host::{Kind, MemoryHost};
-use shop_files::{AsideFile, Place, Placing, Standing, Target, target_of};
 use shop_host::{Host, Node};
+use shop_outputs::{AsideFile, Place, Placing, Standing, Target, target_of};
 use std::alloc::{AllocError, Global};
 use std::fs::Permissions;
 use std::io::{self, ErrorKind};
@@ -13,7 +13,7 @@ use std::test::Fail;
 const MODE_BITS: u32 = 0o7777;
 
 /// A file and a link to it.
-static FILE_AND_LINK: [(&str, Kind, &str); 2] = [
+pub static FILE_AND_LINK: [(&str, Kind, &str); 2] = [
     ("image", Kind::File, "old"),
     ("link", Kind::Link, "image"),
 ];
@@ -24,10 +24,15 @@ fn write_aside<H: Host>(host: &mut H, out: &mut AsideFile<'_, H>) -> io::Result<
     out.flush_to_disk(host)
 }
 
-/// Gives a file the place that a path leads to, if it may take it.
-fn place<H: Host>(host: &mut H, path: &str, placing: Placing) -> io::Result<()> {
+/// Gives a file the place that a path leads to, if it may take it, and no file aside the path of another file.
+pub fn place<H: Host>(
+    host: &mut H,
+    path: &str,
+    apart: Option<&str>,
+    placing: Placing,
+) -> io::Result<()> {
     let target = target_of(host, path)?;
-    let mut out = AsideFile::new(&target, placing);
+    let mut out = AsideFile::new(&target, apart, placing);
     match write_aside(host, &mut out) {
         Ok(()) => out.take_place(host),
         Err(error) => {
@@ -39,7 +44,7 @@ fn place<H: Host>(host: &mut H, path: &str, placing: Placing) -> io::Result<()> 
 
 /// Why the file that a path leads to is not replaced.
 fn error_of(host: &mut MemoryHost, path: &str) -> Option<ErrorKind> {
-    match place(host, path, Placing::Over) {
+    match place(host, path, None, Placing::Over) {
         Ok(()) => None,
         Err(error) => Some(error.kind()),
     }
@@ -47,7 +52,7 @@ fn error_of(host: &mut MemoryHost, path: &str) -> Option<ErrorKind> {
 
 /// Why no new file takes the place that a path leads to.
 fn new_error_of(host: &mut MemoryHost, path: &str) -> Option<ErrorKind> {
-    match place(host, path, Placing::Free) {
+    match place(host, path, None, Placing::Free) {
         Ok(()) => None,
         Err(error) => Some(error.kind()),
     }
@@ -150,14 +155,14 @@ fn a_hundred_names_that_are_taken(rt: HostRuntime) -> Result<(), Fail> {
 /// The place of a file.
 fn place_of_image(alloc: Global) -> Result<Target, AllocError> {
     Ok(Target::Place(Place {
-        path: "image".to_string(alloc)?,
+        path: "/image".to_string(alloc)?,
         standing: None,
     }))
 }
 
 /// Whether a file aside is written and not empty. It does not take its place.
 fn is_written(host: &mut MemoryHost, target: &Target) -> bool {
-    let mut out = AsideFile::new(target, Placing::Over);
+    let mut out = AsideFile::new(target, None, Placing::Over);
     write_aside(host, &mut out).is_ok() && !out.is_empty()
 }
 
@@ -172,7 +177,7 @@ fn what_stood_there_stands_until_the_end(rt: HostRuntime) -> Result<(), Fail> {
 
 /// Whether a file aside to which nothing is written is empty to its end, and its end is good.
 fn ends_empty(host: &mut MemoryHost, target: &Target) -> bool {
-    let mut out = AsideFile::new(target, Placing::Over);
+    let mut out = AsideFile::new(target, None, Placing::Over);
     out.flush_to_disk(host).is_ok() && out.is_empty() && out.take_place(host).is_ok()
 }
 
@@ -186,7 +191,7 @@ fn nothing_is_made_where_nothing_is_written(rt: HostRuntime) -> Result<(), Fail>
 
 /// Whether a file aside of which a write failed is not empty, cannot be put onto the disk, and does not take the place.
 fn remembers_a_failure(host: &mut MemoryHost, target: &Target) -> bool {
-    let mut out = AsideFile::new(target, Placing::Over);
+    let mut out = AsideFile::new(target, None, Placing::Over);
     write_aside(host, &mut out).is_err()
         && !out.is_empty()
         && out.flush_to_disk(host).is_err()
@@ -208,7 +213,7 @@ fn a_failed_write_is_not_forgotten(rt: HostRuntime) -> Result<(), Fail> {
 /// The place of a file that stands there with an access mode.
 fn place_of_mode(alloc: Global, mode: u32) -> Result<Target, AllocError> {
     Ok(Target::Place(Place {
-        path: "image".to_string(alloc)?,
+        path: "/image".to_string(alloc)?,
         standing: Some(Standing {
             node: Node {
                 device: 0,
@@ -223,7 +228,7 @@ fn place_of_mode(alloc: Global, mode: u32) -> Result<Target, AllocError> {
 
 /// Whether no file aside is made for a target, neither at first nor by the first bytes, and none takes its place.
 fn is_refused(host: &mut MemoryHost, target: &Target) -> bool {
-    let mut out = AsideFile::new(target, Placing::Over);
+    let mut out = AsideFile::new(target, None, Placing::Over);
     out.open(host).is_err()
         && out.failure() == Some(ErrorKind::PermissionDenied)
         && write_aside(host, &mut out).is_err()
@@ -313,13 +318,13 @@ fn leads_by_calls(alloc: Global, calls: u32, path: &str, lead: Lead) -> io::Resu
 
 #[test]
 fn where_a_path_leads(rt: HostRuntime) -> Result<(), Fail> {
-    let image = Lead::Place("image", Some(0o644));
+    let image = Lead::Place("/image", Some(0o644));
     assert!(rt; leads_by_calls(rt.alloc(), 2, "image", image)?);
     assert!(rt; leads_by_calls(rt.alloc(), 2, "link", image)?);
     assert!(rt; leads_by_calls(rt.alloc(), 1, "inner", Lead::Nowhere)?);
     // A link that leads to nothing: the new file is to stand where it leads.
-    assert!(rt; leads_by_calls(rt.alloc(), 5, "lost", Lead::Place("./nowhere", None))?);
-    assert!(rt; leads_by_calls(rt.alloc(), 3, "other", Lead::Place("./other", None))?);
+    assert!(rt; leads_by_calls(rt.alloc(), 5, "lost", Lead::Place("/nowhere", None))?);
+    assert!(rt; leads_by_calls(rt.alloc(), 3, "other", Lead::Place("/other", None))?);
     Ok(())
 }
 
@@ -354,14 +359,32 @@ fn new_failing(alloc: Global, failing: u32) -> io::Result<(Option<ErrorKind>, bo
     Ok((error, host.holds(&OLD)))
 }
 
-/// The calls: asked three times where the path leads; made, written twice, put onto the disk; its place made, and
-/// taken.
+/// Which call asks which file was made at the place, so that no other one is taken back: where it fails, the new file
+/// takes the place all the same.
+const MADE_ASKED: u32 = 8;
+
+/// The calls: asked three times where the path leads; made, written twice, put onto the disk; its place made, asked
+/// which file that is, and taken.
 #[test]
 fn each_call_of_a_new_file_failing(rt: HostRuntime) -> Result<(), Fail> {
-    for failing in 0..9u32 {
+    for failing in 0..10u32 {
         let (error, is_old) = new_failing(rt.alloc(), failing)?;
-        assert!(rt; error.is_some() && is_old, "call {failing}");
+        assert!(rt;
+            failing == MADE_ASKED || error.is_some() && is_old,
+            "call {failing}"
+        );
     }
-    assert!(rt; new_failing(rt.alloc(), 9)? == (None, false));
+    for failing in [MADE_ASKED, 10] {
+        let mut host = MemoryHost::holding(rt.alloc(), &FILE_AND_LINK, Some(failing))?;
+        assert!(rt;
+            new_error_of(&mut host, "other").is_none(),
+            "call {failing}"
+        );
+        let [image, link] = OLD;
+        assert!(rt;
+            host.holds(&[image, link, ("other", 0o600, "newer")]),
+            "call {failing}"
+        );
+    }
     Ok(())
 }
