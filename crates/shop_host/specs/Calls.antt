@@ -58,24 +58,28 @@ pub record FollowsLink (path : Path) (result : Result (String Global) Error) (ol
       → old.leads path ≡ old.leads (behind folder (string_bytes to)))
 
 -- A file was opened: the one to which the path leads, and of a regular one all bytes are still to be read.
-pub record Opens {F : Type 0} (at : F → Path) (rest : F → Option (List ℕ)) (path : Path) (result : Result F Error) (old new : HostState) : Type 0 where
+pub record Opens {F : Type 0} (at : F → Path) (rest : F → Option (List ℕ)) (path : Path) (result : Result F Error)
+    (old new : HostState) : Type 0 where
   pub asks : Asks (opening path) result old new
   pub place : IfOk result (λ file. at file ≡ old.leads path)
   pub unread : IfOk result (λ file. IfSome (old.files (old.leads path)) (λ content. rest file ≡ Some content.bytes))
 
 -- a lock was taken, and is noted, or it was not
-pub record Locks {T : Type 0} (place : Path) (lock : Lock) (result : Result T Error) (old new : HostState) : Type 0 where
+pub record Locks {T : Type 0} (place : Path) (lock : Lock) (result : Result T Error)
+    (old new : HostState) : Type 0 where
   pub done : IfOk result (λ _. IsQuiet (record old { locks = (place, lock) ∷ old.locks }) new)
   pub refused : OnErr result (IsQuiet old new × IsRefused (locking place) new)
 
 -- a new empty file was made, at a path at which nothing stood
-pub record Makes {F : Type 0} (place : F → Path) (path : Path) (result : Result F Error) (old new : HostState) : Type 0 where
+pub record Makes {F : Type 0} (place : F → Path) (path : Path) (result : Result F Error)
+    (old new : HostState) : Type 0 where
   pub done : IfOk result (λ file. IsNoted old new × (place file ≡ path) × (old.files path ≡ None)
       × (new.files path ≡ unflushed []) × IsSameBut path old.files new.files)
   pub refused : OnErr result (IsQuiet old new × IsRefused (making path) new)
 
 -- A file was opened and nothing is left in it, or it is none and stays.
-pub record OpensEmpty {F : Type 0} (at : F → Path) (path : Path) (result : Result F Error) (old new : HostState) : Type 0 where
+pub record OpensEmpty {F : Type 0} (at : F → Path) (path : Path) (result : Result F Error)
+    (old new : HostState) : Type 0 where
   pub noted : IsNoted old new
   pub same : IsSameBut (old.leads path) old.files new.files
   pub place : IfOk result (λ file. at file ≡ old.leads path)
@@ -100,7 +104,8 @@ pub record Flushes {T : Type 0} (place : Path) (result : Result T Error) (old ne
   pub refused : OnErr result (IsRefused (flushing place) new)
 
 -- These bytes were put onto the disk as those of a file. Where that is refused, nothing is known of it.
-pub record Keeps {T : Type 0} (place : Path) (bytes : List ℕ) (result : Result T Error) (old new : HostState) : Type 0 where
+pub record Keeps {T : Type 0} (place : Path) (bytes : List ℕ) (result : Result T Error)
+    (old new : HostState) : Type 0 where
   pub noted : IsNoted old new
   pub same : IsSameBut place old.files new.files
   pub done : IfOk result (λ _. new.files place ≡ whole bytes)
@@ -117,7 +122,8 @@ pub record Renames {T : Type 0} (from to : Path) (result : Result T Error) (old 
 -- A file got a second path, at which nothing stood; or nothing was changed.
 pub record Links {T : Type 0} (from to : Path) (result : Result T Error) (old new : HostState) : Type 0 where
   pub noted : IsNoted old new
-  pub done : IfOk result (λ _. (old.files to ≡ None) × (new.files to ≡ old.files from) × IsSameBut to old.files new.files)
+  pub done : IfOk result (λ _. (old.files to ≡ None) × (new.files to ≡ old.files from)
+      × IsSameBut to old.files new.files)
   pub refused : OnErr result ((new.files ≡ old.files) × IsRefused (linking from to) new)
 
 -- a path was taken away, or it was not
@@ -135,12 +141,14 @@ pub record MakesFolder {T : Type 0} (path : Path) (result : Result T Error) (old
 -- What is in a folder was removed, or some of it.
 pub record RemovesFolder {T : Type 0} (path : Path) (result : Result T Error) (old new : HostState) : Type 0 where
   pub noted : IsNoted old new
-  pub same : (other : Path) → other ≢ path → (¬ ((below : Path) × (other ≡ in_folder path below))) → new.files other ≡ old.files other
+  pub same : (other : Path) → other ≢ path → (¬ ((below : Path) × (other ≡ in_folder path below)))
+      → new.files other ≡ old.files other
   pub refused : OnErr result (IsRefused (removing path) new)
 
--- The bytes of an open file were handed out to be changed where they stand: those of a regular file, whole, by a file that
--- is honest too.
-pub record LendsUnits {U : Type 0} (units_place : U → Path) (state : U → FileState) (at : Path) (result : Result U Error) (old new : HostState) : Type 0 where
+-- The bytes of an open file were handed out to be changed where they stand: those of a regular file, whole, by a file
+-- that is honest too.
+pub record LendsUnits {U : Type 0} (units_place : U → Path) (state : U → FileState) (at : Path)
+    (result : Result U Error) (old new : HostState) : Type 0 where
   pub asks : Asks (opening at) result old new
   pub place : IfOk result (λ units. units_place units ≡ at)
   pub bytes : IfOk result (λ units. IfSome (old.files at) (λ content. IsTrue (state units).honest

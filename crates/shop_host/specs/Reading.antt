@@ -20,7 +20,8 @@ HasLock at lock host = Contains host.locks (at, lock) ⊎ IsRefused (locking at)
 
 -- A file was opened: the one to which the path leads, and of a regular one all bytes are still to be read. Its lock was
 -- taken, or the file system refused one.
-pub record IsOpened (at : Path) (rest : Option (List ℕ)) (path : Path) (lock : Lock) (old new : HostState) : Type 0 where
+pub record IsOpened (at : Path) (rest : Option (List ℕ)) (path : Path) (lock : Lock)
+    (old new : HostState) : Type 0 where
   pub place : at ≡ old.leads path
   pub unread : IfSome (old.files (old.leads path)) (λ content. rest ≡ Some content.bytes)
   pub locked : HasLock (old.leads path) lock new

@@ -12,8 +12,8 @@ May = Path → Option Content → Type 0
 abbrev pub IsKeptBut : May → Files → Files → Type 0
 IsKeptBut may old files = (path : Path) → (files path ≡ old path) ⊎ may path (files path)
 
--- Calls were made on an honest host: after each of them, and now, there stands at each path what stood there, or what may
--- come to stand there. No path leads elsewhere than before.
+-- Calls were made on an honest host: after each of them, and now, there stands at each path what stood there, or what
+-- may come to stand there. No path leads elsewhere than before.
 pub record IsRun (may : May) (old now : HostState) : Type 0 where
   pub honest : IsTrue now.honest
   pub leads : now.leads ≡ old.leads
@@ -23,8 +23,8 @@ pub record IsRun (may : May) (old now : HostState) : Type 0 where
   pub files : IsKeptBut may old.files now.files
   pub refused : AreRefusedStill old now
 
--- Calls were made that only look, read and lock: nothing that stands has changed, nor what standard input has, and no lock
--- was let go.
+-- Calls were made that only look, read and lock: nothing that stands has changed, nor what standard input has, and no
+-- lock was let go.
 pub record IsLooking (old now : HostState) : Type 0 where
   pub same : now ≡ record old { refused = now.refused; locks = now.locks }
   pub refused : AreRefusedStill old now

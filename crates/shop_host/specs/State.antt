@@ -41,10 +41,10 @@ pub data Request : Type 0 where
   listing : (path : Path) → Request
   reading_input : Request
 
--- A host: whether it is honest; what stands at each path, and of which kind that is; where a path leads, links followed,
--- whether something stands there or not; what standard input still has, where that is known; the locks that were taken,
--- the newest first; what stood after each call that changed a file, the newest first; and the requests of which one was
--- refused.
+-- A host: whether it is honest; what stands at each path, and of which kind that is; where a path leads, links
+-- followed, whether something stands there or not; what standard input still has, where that is known; the locks
+-- that were taken, the newest first; what stood after each call that changed a file, the newest first; and the
+-- requests of which one was refused.
 pub record HostState : Type 0 where
   pub honest : Bool
   pub files : Files

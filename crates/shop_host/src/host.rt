@@ -171,7 +171,8 @@ pub trait Host {
     /// Puts what was written to the bytes of an open file onto the disk.
     fn flush_units(&mut self, units: &Self::Units) -> io::Result<()>
         ensures { IsTrue (state self.old).honest
-            → Keeps (units_place units.now) (Self.Units.state units.now).bytes result (state self.old) (state self.new) };
+            → Keeps (units_place units.now) (Self.Units.state units.now).bytes result
+            (state self.old) (state self.new) };
 
     // ---- names
 

@@ -1,3 +1,5 @@
 pub mod Steps
 pub mod Taking
 pub mod Putting
+pub mod Apart
+pub mod Replying

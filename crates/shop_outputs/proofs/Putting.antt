@@ -1,5 +1,5 @@
 -- What an output has, by what the file aside has that it is.
-use Rattle.std.proofs.Common.{◌≡◌, ◌≢◌, ◌∙◌, ◌⊎◌, ◌++◌, ℕ, List, [], Option, Some, None, IsTrue, length, sym, ap, subst, inl, inr, ⊎_elim, refl, arith}
+use Rattle.std.proofs.Common.{◌≡◌, ◌≢◌, ◌∙◌, ◌⊎◌, ◌++◌, ℕ, List, Option, Some, None, length, sym, ap, subst, inl, inr, ⊎_elim, refl, arith}
 use Rattle.std.specs.Prelude.{Result, Ok, Err, IfErr, IfSome, OnOk, OnErr, codes, decimal, option_map, string_bytes}
 use Rattle.std.specs.Bool.{⊤}
 use Rattle.std.proofs.lemmas.List.{length-append}
@@ -9,12 +9,12 @@ use Rattle.std.specs.declared.io.ErrorKind.{ErrorKind}
 use Rattle.std.specs.declared.string.String.{String}
 use Rattle.std.specs.declared.alloc.Global.{Global}
 use Rattle.shop_host.specs.State.{Content, Files, HostState, Path, unflushed, whole}
-use Rattle.shop_host.specs.Runs.{IsRun, May}
-use Rattle.shop_host.specs.lemmas.Runs.{run_then, run_wider}
+use Rattle.shop_host.specs.Runs.{IsRun}
+use Rattle.shop_host.specs.lemmas.Runs.{run_wider}
 use Rattle.shop_outputs.specs.Asides.{Destination, IsAside, IsMadeAside, IsOnDisk, IsTaken, Stands, Stays, content_of, destination, destination_of, may_aside, may_at, may_give, may_take, nowhere, over_target, straight_to, to_place, TakesPlace}
 use Rattle.shop_outputs.specs.Folders.{IsBeside}
 use Rattle.shop_outputs.specs.Puts.{IsHeld, IsPlaced, IsPut, IsReady, may_place, may_prepare}
-use Rattle.shop_outputs.specs.Written.{IsUntouched, failure_of}
+use Rattle.shop_outputs.specs.Written.{failure_of}
 use Rattle.shop_outputs.specs.declared.aside.AsideFile.{AsideFile}
 use Rattle.shop_outputs.specs.declared.target.Place.{Place}
 use Rattle.shop_outputs.specs.declared.target.Target.{Target}
@@ -158,7 +158,7 @@ place_run leads output bytes old new run = run_wider (may_prepare leads (destina
     (may_place leads (destination output) bytes) old new (λ path content is. inl is) run
 
 -- what was only prepared has not taken its place
-prepared_stays : (leads : Path → Path) (to : Destination) (old new : HostState) → IsRun (may_prepare leads to) old new
+pub prepared_stays : (leads : Path → Path) (to : Destination) (old new : HostState) → IsRun (may_prepare leads to) old new
     → Stays to old.files new.files
 prepared_stays leads nowhere old new run = tt
 prepared_stays leads (to_place place apart placing) old new run =

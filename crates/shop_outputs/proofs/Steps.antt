@@ -1,10 +1,10 @@
 -- What a run comes to by one more call.
-use Rattle.std.proofs.Common.{◌≡◌, ◌≢◌, ◌∙◌, ◌⊎◌, ℕ, Bool, true, false, List, [], ◌∷◌, ◌++◌, Option, Some, None, IsTrue, ◌↔◌, sym, ap, subst, inl, inr, ⊎_elim, refl, append_assoc, take, drop, take-append-drop}
-use Rattle.std.specs.Prelude.{Result, Ok, Err, OnOk, OnErr}
+use Rattle.std.proofs.Common.{◌≡◌, ◌≢◌, ◌∙◌, ℕ, Bool, true, false, List, ◌++◌, Option, Some, None, IsTrue, ◌↔◌, sym, ap, subst, inl, inr, refl, append_assoc, take, drop, take-append-drop}
+use Rattle.std.specs.Prelude.{Result, Ok, Err}
 use Rattle.std.specs.declared.io.Error.{Error}
-use Rattle.shop_host.specs.State.{Content, Files, HostState, IsNoted, IsQuiet, IsSameBut, Path, unflushed, whole}
-use Rattle.shop_host.specs.Calls.{Flushes, Keeps, Links, Makes, OpensEmpty, Removes, Renames, Writes}
-use Rattle.shop_host.specs.Runs.{IsKeptBut, IsLooking, IsRun, May}
+use Rattle.shop_host.specs.State.{Content, Files, HostState, IsSameBut, Path}
+use Rattle.shop_host.specs.Calls.{Flushes, Makes, OpensEmpty, Removes, Writes}
+use Rattle.shop_host.specs.Runs.{IsLooking, IsRun, May}
 use Rattle.shop_host.specs.lemmas.Runs.{kept_but, kept_same, run_look, run_noted, run_quiet, run_then, run_wider}
 use Rattle.std.specs.Prelude.{IfSome, string_bytes}
 use Rattle.std.specs.declared.string.String.{String}

@@ -1,16 +1,16 @@
 -- How a file aside takes its place.
-use Rattle.std.proofs.Common.{◌≡◌, ◌≢◌, ◌∙◌, ◌⊎◌, ℕ, Bool, true, false, List, [], ◌∷◌, Option, Some, None, IsTrue, bytes_eq, sym, ap, subst, inl, inr, ⊎_elim, refl}
+use Rattle.std.proofs.Common.{◌≡◌, ◌≢◌, ◌∙◌, ◌⊎◌, ℕ, Bool, true, false, List, [], ◌∷◌, Option, None, IsTrue, bytes_eq, sym, ap, subst, inl, inr, ⊎_elim, refl}
 use Rattle.std.specs.Prelude.{Result, Ok, Err, OnOk, OnErr}
 use Rattle.std.specs.declared.io.Error.{Error}
 use Rattle.std.specs.List.{AllByRecursion}
 use Rattle.std.proofs.lemmas.Slice.Eq.{bytes_eq-Decides}
 use Rattle.shop_host.specs.State.{Content, Files, HostState, IsNoted, IsQuiet, IsSameBut, Path, unflushed, whole}
-use Rattle.shop_host.specs.Calls.{Asks, Links, Makes, Removes, Renames}
+use Rattle.shop_host.specs.Calls.{Links, Makes, Removes, Renames}
 use Rattle.shop_host.specs.Runs.{IsKeptBut, IsRun, May}
 use Rattle.shop_host.specs.lemmas.Runs.{kept_but, kept_same, run_noted, run_quiet, run_then, run_wider}
 use Rattle.shop_outputs.specs.declared.aside.Placing.{Placing}
 use Rattle.shop_outputs.specs.declared.aside.Placing.TheVariants.{Free, Over}
-use Rattle.shop_outputs.specs.Asides.{IsTakenBack, MayTake, StandsAt, StaysAt, TakesPlace, may_at, may_empty, may_give}
+use Rattle.shop_outputs.specs.Asides.{IsTakenBack, TakesPlace, may_at, may_empty, may_give}
 
 -- what stands at this path, where two may have changed
 split_two : (may : May) (one other path : Path) (old files : Files) (is_one is_other : Bool) → bytes_eq path one ≡ is_one

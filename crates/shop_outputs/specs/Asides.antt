@@ -128,13 +128,15 @@ pub record IsTakenBack (place : Path) (old new : HostState) : Type 0 where
   pub stands : (new.files place ≡ None) ⊎ (new.files place ≡ unflushed [])
 
 -- A file aside with these bytes took a place, or what stood there stands.
-pub record TakesPlace {T : Type 0} (placing : Placing) (aside place : Path) (bytes : List ℕ) (result : Result T Error) (old new : HostState) : Type 0 where
+pub record TakesPlace {T : Type 0} (placing : Placing) (aside place : Path) (bytes : List ℕ) (result : Result T Error)
+    (old new : HostState) : Type 0 where
   pub run : IsRun (may_give placing aside place bytes) old new
   pub done : OnOk result (StandsAt placing place bytes old.files new.files)
   pub stays : OnErr result (StaysAt placing place old.files new.files)
 
 -- A file took its place with these bytes, if it was made and no call of it had failed; or what stood there stands.
-pub record IsTaken {T H File Units Names : Type 0} (file : AsideFile H File Units Names) (bytes : List ℕ) (result : Result T Error) (old new : HostState) : Type 0 where
+pub record IsTaken {T H File Units Names : Type 0} (file : AsideFile H File Units Names) (bytes : List ℕ)
+    (result : Result T Error) (old new : HostState) : Type 0 where
   pub run : IsRun (may_take (destination_of file) bytes) old new
   pub done : OnOk result (IfSome file.made (λ _. Stands (destination_of file) bytes old.files new.files))
   pub stays : OnErr result (Stays (destination_of file) old.files new.files)

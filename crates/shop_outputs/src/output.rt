@@ -23,7 +23,7 @@ ghost use Rattle.std.specs.IoError.{error_kind};
 ghost use Rattle.shop_host.specs.Runs.{IsRun};
 ghost use Rattle.shop_outputs.specs.Asides.{IsDestinationOf, destination, may_at};
 ghost use Rattle.shop_outputs.specs.Protected.{IsKept};
-ghost use Rattle.shop_outputs.specs.Puts.{IsHeld, IsPlaced, IsPut, IsReady, may_prepare};
+ghost use Rattle.shop_outputs.specs.Puts.{IsHeld, IsPlaced, IsPut, IsReady, IsTouched, may_prepare};
 ghost use Rattle.shop_outputs.specs.Written.{
   GoesTo,
   HasPut,
@@ -155,7 +155,8 @@ impl<'a, H: Host> Output<'a, H> {
         ensures straight { IsStraight self.old → self.new ≡ self.old }
         ensures destination { destination self.new ≡ destination self.old }
         ensures run { IsTrue (H.state host.old).honest
-            → IsRun (may_prepare (H.state host.old).leads (destination self.old)) (H.state host.old) (H.state host.new) }
+            → IsRun (may_prepare (H.state host.old).leads (destination self.old))
+            (H.state host.old) (H.state host.new) }
         ensures held { IsTrue (H.state host.old).honest → (held : List ℕ)
             → IsPut H.place self.old held (H.state host.old).files
             → IsPut H.place self.new held (H.state host.new).files }
@@ -192,12 +193,14 @@ impl<'a, H: Host> Output<'a, H> {
     pub fn put(&mut self, host: &mut H, bytes: &[u8])
         ensures whole { failure_of self.new ≡ None → HasPut bytes.now self.old self.new }
         ensures kept { IfSome (failure_of self.old) (λ kind. failure_of self.new ≡ Some kind) }
+        ensures touched { IsTouched self.new }
         ensures straight { IsStraight self.old → IsStraight self.new }
         ensures destination { destination self.new ≡ destination self.old }
         ensures held { IsTrue (H.state host.old).honest → (held : List ℕ)
             → IsPut H.place self.old held (H.state host.old).files
             → IsPut H.place self.new (held ++ bytes.now) (H.state host.new).files
-            × IsRun (may_prepare (H.state host.old).leads (destination self.old)) (H.state host.old) (H.state host.new) }
+            × IsRun (may_prepare (H.state host.old).leads (destination self.old))
+            (H.state host.old) (H.state host.new) }
     {
         let None = self.failure() else {
             return;
@@ -263,7 +266,8 @@ impl<'a, H: Host> Output<'a, H> {
     /// Removes what was written aside.
     pub fn discard(self, host: &mut H)
         ensures { IsTrue (H.state host.old).honest → IsHeld H.place self.entry
-            → IsRun (may_prepare (H.state host.old).leads (destination self.entry)) (H.state host.old) (H.state host.new) }
+            → IsRun (may_prepare (H.state host.old).leads (destination self.entry))
+            (H.state host.old) (H.state host.new) }
     {
         if let Output::Aside(file) = self {
             file.discard(host);

@@ -1,6 +1,20 @@
 // How a job with output files ends.
-ghost use Rattle.std.specs.Prelude.{◌≡◌, ◌≢◌, ◌⊎◌, IfErr, IfSome, IsErrAnd, IsSome, None, OnOk};
+ghost use Rattle.std.specs.Prelude.{
+  ◌≡◌,
+  ◌≢◌,
+  ◌⊎◌,
+  ℕ,
+  List,
+  IfErr,
+  IfSome,
+  IsErrAnd,
+  IsSome,
+  IsTrue,
+  None,
+  OnOk,
+};
 ghost use Rattle.std.specs.Io.KnownBytes.{Keeps};
+ghost use Rattle.shop_replies.specs.Reply.{certificate_in};
 ghost use Rattle.shop_outputs.specs.Endings.{
   IsCertificateUntold,
   IsEnding,
@@ -13,7 +27,24 @@ ghost use Rattle.shop_outputs.specs.Endings.{
   IsToldEnding,
   IsUnflushed,
 };
+ghost use Rattle.shop_host.specs.Runs.{IsRun};
+ghost use Rattle.shop_outputs.specs.Asides.{destination};
 ghost use Rattle.shop_outputs.specs.Protected.{IsKept};
+ghost use Rattle.shop_outputs.specs.Puts.{
+  AreApart,
+  AreBothPlaced,
+  ArePrepared,
+  IsHeld,
+  IsPut,
+  IsCertificateHanded,
+  IsImageHanded,
+  IsReady,
+  IsReplySettled,
+  IsSettled,
+  image_bytes,
+  may_end,
+  may_prepare_both,
+};
 ghost use Rattle.shop_outputs.specs.Written.{IsFlushed, IsStraight, IsUntouched, failure_of};
 
 use crate::ending::{Ending, Unwritten};
@@ -29,7 +60,7 @@ pub fn end_by<H: Host, T: Write>(
     host: &mut H,
     reply: Reply,
     mut out: Output<'_, H>,
-    mut certificate: Output<'_, H>,
+    certificate: Output<'_, H>,
     text: &mut T,
 ) -> Ending
     ensures ending { IsReplyEnding reply result (T.contents text.old) (T.contents text.new) }
@@ -40,14 +71,16 @@ pub fn end_by<H: Host, T: Write>(
     ensures straight { IsStraight out.entry → IsImageUntold result (T.contents text.old) (T.contents text.new) }
     ensures straight_certificate { IsStraight certificate.entry
         → IsCertificateUntold result (T.contents text.old) (T.contents text.new) }
+    ensures files { IsTrue (H.state host.old).honest → IsUntouched out.entry → IsUntouched certificate.entry
+        → AreApart (H.state host.old).leads (destination out.entry) (destination certificate.entry)
+        → IsReplySettled reply (destination out.entry) (destination certificate.entry) result
+        (H.state host.old) (H.state host.new) }
 {
-    if matches!(out, Output::Nothing) {
+    if let Output::Nothing = out {
         discard_both(host, out, certificate);
         return Ending::written(reply.tell(text));
     }
-    if let Some(bytes) = reply.certificate() {
-        certificate.put(host, bytes);
-    }
+    let certificate = hand_certificate(host, &reply, certificate);
     let Reply {
         status,
         told,
@@ -55,11 +88,7 @@ pub fn end_by<H: Host, T: Write>(
     } = reply;
     match told.text(host.alloc()) {
         Ok(told) => {
-            if let Some(image) = image {
-                // An empty file is made too; where it can't be, the settling tells why.
-                let _ = out.open(host);
-                out.put(host, image.as_slice());
-            }
+            hand_image(host, image, &mut out);
             settle(
                 host,
                 out,
@@ -74,6 +103,47 @@ pub fn end_by<H: Host, T: Write>(
             Ending::written(Reply::failed(Failure::Memory).tell(text))
         }
     }
+}
+
+// Puts the certificate of a reply into its output. Where the reply has none, no file takes a place.
+fn hand_certificate<'a, H: Host>(
+    host: &mut H,
+    reply: &Reply,
+    mut certificate: Output<'a, H>,
+) -> Output<'a, H>
+    ensures straight { IsStraight certificate.entry → IsStraight result }
+    ensures handed { IsTrue (H.state host.old).honest → IsUntouched certificate.entry
+        → IsCertificateHanded H.place (certificate_in reply.now.told) certificate.entry result
+        (H.state host.old) (H.state host.new) }
+{
+    if let Some(bytes) = reply.certificate() {
+        certificate.put(host, bytes);
+        return certificate;
+    }
+    match certificate {
+        Output::Aside(file) => {
+            file.discard(host);
+            Output::Nothing
+        }
+        Output::Held(file) => Output::Held(file),
+        Output::Nothing => Output::Nothing,
+    }
+}
+
+// Hands the image of a reply to its output, if there is one. An empty file is made too; where it can't be, the settling
+// tells why.
+fn hand_image<H: Host>(host: &mut H, image: Option<Vec<u8>>, out: &mut Output<'_, H>)
+    ensures protected { IsKept out.old → IsSome image → failure_of out.new ≡ Some ErrorKind.PermissionDenied }
+    ensures straight { IsStraight out.old → IsStraight out.new }
+    ensures handed { IsTrue (H.state host.old).honest → IsUntouched out.old
+        → IsImageHanded H.place (image_bytes image) out.old out.new
+        (H.state host.old) (H.state host.new) }
+{
+    let Some(image) = image else {
+        return;
+    };
+    let _ = out.open(host);
+    out.put(host, image.as_slice());
 }
 
 /// Ends a job whose image was handed to a file and its certificate to another or none: both are put onto the disk, or
@@ -100,6 +170,18 @@ pub fn settle<H: Host, T: Write>(
     ensures straight { IsStraight out.entry → IsImageUntold result (T.contents text.old) (T.contents text.new) }
     ensures straight_certificate { IsStraight certificate.entry
         → IsCertificateUntold result (T.contents text.old) (T.contents text.new) }
+    ensures files { IsTrue (H.state host.old).honest → (image said : List ℕ)
+        → IsPut H.place out.entry image (H.state host.old).files
+        → IsPut H.place certificate.entry said (H.state host.old).files
+        → AreApart (H.state host.old).leads (destination out.entry) (destination certificate.entry)
+        → IsRun (may_end (H.state host.old).leads (destination out.entry) image (destination certificate.entry) said)
+        (H.state host.old) (H.state host.new)
+        × IsSettled out.entry image certificate.entry said status result
+        (H.state host.old).files (H.state host.new).files }
+    ensures no_file { IsTrue (H.state host.old).honest → IsUntouched out.entry
+        → IsHeld H.place out.entry → IsHeld H.place certificate.entry
+        → IsRun (may_prepare_both (H.state host.old).leads (destination out.entry) (destination certificate.entry))
+        (H.state host.old) (H.state host.new) }
 {
     if out.is_empty() {
         discard_both(host, out, certificate);
@@ -129,6 +211,14 @@ fn flush_both<H: Host>(
     ensures failed { IfSome (failure_of out.old) (λ kind.
         IsErrAnd result (λ why. (why.0 ≡ kind) × (why.1 ≡ Unwritten.Image))) }
     ensures done { OnOk result (IsFlushed out.old out.new × IsFlushed certificate.old certificate.new) }
+    ensures destinations { (destination out.new ≡ destination out.old)
+        × (destination certificate.new ≡ destination certificate.old) }
+    ensures held { IsTrue (H.state host.old).honest → (image said : List ℕ)
+        → IsPut H.place out.old image (H.state host.old).files
+        → IsPut H.place certificate.old said (H.state host.old).files
+        → AreApart (H.state host.old).leads (destination out.old) (destination certificate.old)
+        → ArePrepared H.place out.old out.new image certificate.old certificate.new said result
+        (H.state host.old) (H.state host.new) }
 {
     if let Some(kind) = out.failure() {
         return Err((kind, Unwritten::Image));
@@ -163,6 +253,11 @@ fn take_both_places<H: Host>(
     ensures image { IsUntouched out.entry → IfErr result (λ unwritten. unwritten ≡ Unwritten.Certificate) }
     ensures certificate { IsUntouched certificate.entry → IfErr result (λ unwritten.
         unwritten ≢ Unwritten.Certificate) }
+    ensures placed { IsTrue (H.state host.old).honest → (image said : List ℕ)
+        → IsReady H.place out.entry image (H.state host.old).files
+        → IsReady H.place certificate.entry said (H.state host.old).files
+        → AreApart (H.state host.old).leads (destination out.entry) (destination certificate.entry)
+        → AreBothPlaced out.entry image certificate.entry said result (H.state host.old) (H.state host.new) }
 {
     let is_alone = certificate.is_empty();
     if certificate.take_place(host).is_err() {
@@ -176,7 +271,12 @@ fn take_both_places<H: Host>(
     }
 }
 
-fn discard_both<H: Host>(host: &mut H, out: Output<'_, H>, certificate: Output<'_, H>) {
+// Removes what was written aside of both files.
+fn discard_both<H: Host>(host: &mut H, out: Output<'_, H>, certificate: Output<'_, H>)
+    ensures { IsTrue (H.state host.old).honest → IsHeld H.place out.entry → IsHeld H.place certificate.entry
+        → IsRun (may_prepare_both (H.state host.old).leads (destination out.entry) (destination certificate.entry))
+        (H.state host.old) (H.state host.new) }
+{
     out.discard(host);
     certificate.discard(host);
 }

@@ -156,8 +156,8 @@ abbrev pub line_words : FormView → List Text → List Use → List Text
 line_words f positionals uses = f.name ∷ (positionals ++ all_use_words uses)
 
 -- the list is a plain one, of a form in the table
-pub record IsLine (list : List Text) (f : FormView) (positionals : List Text) (uses : List Use)
-    : Type 0 where
+pub record IsLine (list : List Text) (f : FormView) (positionals : List Text)
+    (uses : List Use) : Type 0 where
   pub form : Contains forms f
   pub plain : IsPlainLine f positionals uses
   pub printed : list ≡ line_words f positionals uses

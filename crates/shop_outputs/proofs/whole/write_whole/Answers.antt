@@ -1,4 +1,4 @@
-use Rattle.std.proofs.Common.{◌≡◌, ℕ, List, [], ◌++◌, rules, take, sym, ap, ◌∙◌, append_assoc, append-nil, drop_of_length-le}
+use Rattle.std.proofs.Common.{◌≡◌, [], ◌++◌, rules, take, sym, ap, ◌∙◌, append_assoc, append-nil, drop_of_length-le}
 use Rattle.shop_host.specs.State.{HostState, unflushed}
 use Rattle.shop_host.specs.lemmas.Runs.{run_here}
 use Rattle.shop_outputs.proofs.Steps.{moves_front, run_then_at}

@@ -1,4 +1,3 @@
-use Rattle.std.proofs.Common.{sym}
 use Rattle.shop_host.specs.lemmas.Runs.{run_then}
 use Rattle.shop_outputs.specs.Asides.{destination_of}
 use Rattle.shop_outputs.proofs.Steps.{made_aside, run_aside, run_as}

@@ -1,4 +1,3 @@
-use Rattle.shop_host.specs.lemmas.Runs.{run_then}
 use Rattle.shop_outputs.proofs.Steps.{run_empty, run_then_at}
 use Rattle.shop_outputs.proofs.output.HeldFile.write_out.Goals as goal
 
